@@ -1,0 +1,12 @@
+pub mod Tests
+pub mod Words
+pub mod BitLists
+pub mod MaskTests
+pub mod Openings
+pub mod Lookups
+pub mod Roles
+pub mod FirstHolding
+pub mod ExamplesHold
+pub mod Passes
+pub mod WellFormed
+pub mod Sizes

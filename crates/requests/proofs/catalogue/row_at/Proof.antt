@@ -1,0 +1,44 @@
+-- `catalogue::row_at` meets its contract: the arrays of the code are the listed events row for row, which antt computes over each whole array.
+-- Assumes nothing.
+use mathlib.Core.Path.{refl}
+use native.Mathlib.Omega.{arith}
+use borrow.Author.Needs.{needs}
+use Rattle.requests.specs.Catalogue.{eventsOf}
+use Rattle.requests.specs.Lookup.{lowest, highest, rowOf, rowsOf}
+use Rattle.requests.proofs.catalogue.row_at.Statement.{statement}
+use Rattle.requests.proofs.catalogue.row_at.Tie as tie
+
+array-copy-out-result : tie.Need-array-copy-out-result
+unfolding rowsOf eventsOf
+array-copy-out-result c = rw (c .enum-told .given .1) at (c .before .before .pre)
+
+array-copy-out-result-2 : tie.Need-array-copy-out-result-2
+unfolding rowsOf eventsOf
+array-copy-out-result-2 c = rw (c .enum-told2 .given .1) at (c .before .before .pre)
+
+mul-result : tie.Need-mul-result
+mul-result c = record { fits = omega (arith, array-copy-out-result c) }
+
+mul-result-2 : tie.Need-mul-result-2
+mul-result-2 c = record { fits = omega (arith, array-copy-out-result-2 c) }
+
+returns : tie.Need-returns
+unfolding rowsOf rowOf eventsOf lowest highest
+returns c = rw (c .before .enum-told .given .1) refl
+
+returns-2 : tie.Need-returns-2
+unfolding rowsOf rowOf eventsOf lowest highest
+returns-2 c = rw (c .before .enum-told2 .given .1) refl
+
+pub row-at-spec : {M : Type 1} → statement M
+row-at-spec =
+    tie.close
+    (tie.spec
+    (λ c. search needs)
+    mul-result
+    array-copy-out-result
+    (λ c. search needs)
+    mul-result-2
+    array-copy-out-result-2
+    returns
+    returns-2)

@@ -1,0 +1,18 @@
+-- `catalogue::row_count` meets its contract: the arrays are as long as the listed events, which antt computes.
+-- Assumes nothing.
+use borrow.Author.Needs.{needs}
+use Rattle.requests.specs.Catalogue.{eventsOf}
+use Rattle.requests.specs.Lookup.{rowsOf}
+use Rattle.requests.proofs.catalogue.row_count.Statement.{statement}
+use Rattle.requests.proofs.catalogue.row_count.Tie as tie
+
+returns : tie.Need-returns
+unfolding rowsOf eventsOf
+returns c = rw (c .enum-told .given .1)
+
+returns-2 : tie.Need-returns-2
+unfolding rowsOf eventsOf
+returns-2 c = rw (c .enum-told2 .given .1)
+
+pub row-count-spec : {M : Type 1} → statement M
+row-count-spec = tie.close (tie.spec (λ c. search needs) (λ c. search needs) returns returns-2)

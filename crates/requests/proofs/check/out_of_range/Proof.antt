@@ -1,0 +1,36 @@
+-- `check::out_of_range` meets its contract: by the function of each kind.
+-- Assumes nothing.
+use Rattle.requests.specs.Checks.{outOfRange}
+use borrow.Author.Needs.{needs}
+use Rattle.requests.proofs.check.out_of_range.Statement.{statement}
+use Rattle.requests.proofs.check.out_of_range.Tie as tie
+
+returns : tie.Need-returns
+returns c = rw (c .before .before .request .given .1) (c .event-out-of-range .ensures)
+
+returns-2 : tie.Need-returns-2
+unfolding outOfRange
+returns-2 c = rw (c .before .before .request2 .given .1) (c .too-wide .ensures)
+
+returns-3 : tie.Need-returns-3
+returns-3 c = rw (c .before .before .request3 .given .1) (c .offcore-out-of-range .ensures)
+
+returns-4 : tie.Need-returns-4
+returns-4 c = rw (c .before .before .request4 .given .1) (c .latency-out-of-range .ensures)
+
+pub out-of-range-spec : {M : Type 1} → statement M
+out-of-range-spec =
+    tie.close
+    (tie.spec
+    (λ c. search needs)
+    (λ c κs. search needs)
+    (λ c. search needs)
+    (λ c κs. search needs)
+    (λ c. search needs)
+    (λ c κs. search needs)
+    (λ c. search needs)
+    (λ c κs. search needs)
+    returns
+    returns-2
+    returns-3
+    returns-4)

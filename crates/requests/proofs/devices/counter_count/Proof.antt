@@ -1,0 +1,17 @@
+-- `devices::counter_count` meets its contract, by the definition at each device.
+-- Assumes nothing.
+use borrow.Author.Needs.{needs}
+use Rattle.requests.specs.Devices.{counterCount}
+use Rattle.requests.proofs.devices.counter_count.Statement.{statement}
+use Rattle.requests.proofs.devices.counter_count.Tie as tie
+
+returns : tie.Need-returns
+unfolding counterCount
+returns c = rw (c .enum-told .given .1)
+
+returns-2 : tie.Need-returns-2
+unfolding counterCount
+returns-2 c = rw (c .enum-told2 .given .1)
+
+pub counter-count-spec : {M : Type 1} → statement M
+counter-count-spec = tie.close (tie.spec (λ c. search needs) (λ c. search needs) returns returns-2)

@@ -1,0 +1,23 @@
+-- `devices::opened_on` meets its contract, by its two tests.
+-- Assumes nothing.
+use borrow.Author.Needs.{needs}
+use borrow.Author.Tests.{lt-ltb, le-ltb, le-leb, lt-leb}
+use Rattle.requests.specs.Choice.{both}
+use Rattle.requests.specs.Devices.{usableSet}
+use Rattle.requests.proofs.devices.opened_on.Statement.{statement}
+use Rattle.requests.proofs.devices.opened_on.Tie as tie
+
+returns : tie.Need-returns
+unfolding usableSet both
+returns c = simp (lt-ltb _ _ (c .before .before .if1 .taken), ← c .before .all-counters .ensures, le-leb _ _ (c .if2 .taken))
+
+returns-2 : tie.Need-returns-2
+unfolding usableSet both
+returns-2 c = simp (lt-ltb _ _ (c .before .before .if1 .taken), ← c .before .all-counters .ensures, lt-leb _ _ (c .if2 .left))
+
+returns-3 : tie.Need-returns-3
+unfolding usableSet both
+returns-3 c = simp (le-ltb _ _ (c .if1 .left))
+
+pub opened-on-spec : {M : Type 1} → statement M
+opened-on-spec = tie.close (tie.spec (λ c κs. search needs) returns returns-2 returns-3)

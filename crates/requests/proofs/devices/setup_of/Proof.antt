@@ -1,0 +1,42 @@
+-- `devices::setup_of` meets its contract: the letter's device opens what `opened_on` says, by the laws of openings.
+-- Assumes nothing.
+use mathlib.Core.Path.{sym, _∙_}
+use borrow.Author.Needs.{needs}
+use Rattle.requests.proofs.Openings.{letter-g, letter-s, no-letter, opened-on, opened-nothing}
+use Rattle.requests.proofs.devices.setup_of.Statement.{statement}
+use Rattle.requests.proofs.devices.setup_of.Tie as tie
+use Rattle.requests.specs.declared.Device.the-variants.{G, S}
+
+returns : tie.Need-returns
+returns c =
+    c .opened-on .ensures
+    ∙ sym
+    (opened-on (c .before .before .before .before .args .o) G
+    (letter-g _ (c .before .if1 .taken ∙ c .before .before .letter-of .ensures)))
+
+returns-2 : tie.Need-returns-2
+returns-2 c =
+    c .opened-on2 .ensures
+    ∙ sym
+    (opened-on (c .before .before .before .before .before .before .args .o) S
+    (letter-s _ (λ e. c .before .before .before .if1 .left (e ∙ sym (c .before .before .before .before .letter-of .ensures)))
+    (c .before .if2 .taken ∙ c .before .before .letter-of2 .ensures)))
+
+returns-3 : tie.Need-returns-3
+returns-3 c =
+    sym
+    (opened-nothing (c .before .before .before .before .before .args .o)
+    (no-letter _ (λ e. c .before .before .if1 .left (e ∙ sym (c .before .before .before .letter-of .ensures)))
+    (λ e. c .if2 .left (e ∙ sym (c .before .letter-of2 .ensures)))))
+
+pub setup-of-spec : {M : Type 1} → statement M
+setup-of-spec =
+    tie.close
+    (tie.spec
+    (λ c κs. search needs)
+    (λ c κs. search needs)
+    returns
+    (λ c κs. search needs)
+    (λ c κs. search needs)
+    returns-2
+    returns-3)

@@ -1,0 +1,62 @@
+-- Document 01, 'Requests and legal plans', **event**: the listed events, in its order, with the manual's names.
+use mathlib.Core.List.{List, [], _∷_}
+use mathlib.Core.Bool.{Bool, false, not}
+use Prim.Native.Nat.{ℕ}
+use lib.Dec.{leb, eqb}
+use Rattle.requests.specs.Choice.{both, either}
+use Rattle.requests.specs.declared.Device.{Device}
+use Rattle.requests.specs.declared.Device.the-variants.{G, S}
+
+-- the unit masks listed for a code: one alone, or a range
+pub data MaskRule : Type 0 where
+  alone : ℕ → MaskRule
+  range : ℕ → ℕ → MaskRule
+
+-- whether the rule lists the mask
+unfoldable pub allows : MaskRule → ℕ → Bool
+allows (alone n) m = eqb m n
+allows (range low high) m = both (leb low m) (leb m high)
+
+-- a row of a catalogue: a code, and the unit masks listed for it
+pub record ListedEvent : Type 0 where
+  pub code : ℕ
+  pub masks : MaskRule
+
+-- a code with its masks
+abbrev pub listed : ℕ → MaskRule → ListedEvent
+listed c r = record { code = c; masks = r }
+
+-- the listed events of a device
+unfoldable pub eventsOf : Device → List ListedEvent
+eventsOf G =
+    listed 0x3C (alone 0x00)  -- UnHalted Core Cycles
+    ∷ listed 0xC0 (alone 0x00)  -- Instruction Retired
+    ∷ listed 0x3C (alone 0x01)  -- UnHalted Reference Cycles
+    ∷ listed 0x2E (alone 0x4F)  -- LLC Reference
+    ∷ listed 0x2E (alone 0x41)  -- LLC Misses
+    ∷ listed 0xC4 (alone 0x00)  -- Branch Instruction Retired
+    ∷ listed 0xC5 (alone 0x00)  -- Branch Misses Retired
+    ∷ []
+eventsOf S =
+    listed 0x51 (range 1 3)  -- RBOX_SNP_BYPASS
+    ∷ listed 0x31 (range 1 3)  -- REQ_TBL_OCCUPANCY
+    ∷ listed 0x52 (alone 0)  -- S2B_HOM_BYPASS
+    ∷ listed 0x2B (alone 0)  -- TO_RING_B2S_MSGQ_CYCLES_FULL
+    ∷ listed 0x2D (alone 0)  -- TO_RING_B2S_MSGQ_CYCLES_NE
+    ∷ listed 0x2F (alone 0)  -- TO_RING_B2S_MSGQ_OCCUPANCY
+    ∷ []
+
+-- whether a row has the code
+unfoldable pub codeIn : List ListedEvent → ℕ → Bool
+codeIn [] c = false
+codeIn (e ∷ es) c = either (eqb c (e .code)) (codeIn es c)
+
+-- whether a row has the code and lists the mask
+unfoldable pub pairIn : List ListedEvent → ℕ → ℕ → Bool
+pairIn [] c m = false
+pairIn (e ∷ es) c m = either (both (eqb c (e .code)) (allows (e .masks) m)) (pairIn es c m)
+
+-- whether the code is listed, but not with the mask: judged on S alone, since on G the pair is one
+unfoldable pub maskNotListed : Device → ℕ → ℕ → Bool
+maskNotListed G c m = false
+maskNotListed S c m = both (codeIn (eventsOf S) c) (not (pairIn (eventsOf S) c m))

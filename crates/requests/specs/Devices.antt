@@ -1,0 +1,66 @@
+-- Document 01, 'What is on the bench' and 'open': devices, their counters, and what open takes.
+use mathlib.Core.Bool.{Bool, true, false}
+use mathlib.Core.Option.{Option, none, some}
+use Prim.Native.Nat.{ℕ, zero, suc, _+_, _-_, _^_}
+use lib.Dec.{ltb, leb, eqb}
+use Rattle.requests.specs.Choice.{both, pick}
+use Rattle.requests.specs.Bits.{bit}
+use Rattle.requests.specs.declared.CounterSet.{CounterSet}
+use Rattle.requests.specs.declared.Device.{Device}
+use Rattle.requests.specs.declared.Device.the-variants.{G, S}
+use Rattle.requests.specs.declared.Opening.{Opening}
+use Rattle.requests.specs.declared.Setup.{Setup}
+use Rattle.requests.specs.declared.Opened.{Opened}
+use Rattle.requests.specs.declared.Opened.the-variants.{With, Nothing}
+
+-- "Sets are numbers: counter k is 2^k": whether counter k is in the set
+unfoldable pub has : CounterSet → ℕ → Bool
+has s k = bit k (s .0)
+
+-- how many counters below n the set has
+unfoldable pub size : ℕ → CounterSet → ℕ
+size zero s = 0
+size (suc k) s = size k s + pick (has s k) 1 0
+
+-- the number of counters that arrays have room for
+unfoldable pub capacity : ℕ
+capacity = 8
+
+-- counters 0 to 3 on either device
+unfoldable pub counterCount : Device → ℕ
+counterCount G = 4
+counterCount S = 4
+
+-- the set of all counters of the device
+unfoldable pub allCounters : Device → ℕ
+allCounters d = 2 ^ counterCount d - 1
+
+-- the code of the device's letter
+unfoldable pub letterOf : Device → ℕ
+letterOf G = 71
+letterOf S = 83
+
+-- the device of a letter's code
+unfoldable pub deviceOf : ℕ → Option Device
+deviceOf letter = elim (eqb letter (letterOf G)) [ true ↦ some G | false ↦ elim (eqb letter (letterOf S)) [ true ↦ some S | false ↦ none ] ]
+
+-- whether a usable set is neither 0 nor above 15 (all counters)
+unfoldable pub usableSet : Device → CounterSet → Bool
+usableSet d u = both (ltb 0 (u .0)) (leb (u .0) (allCounters d))
+
+-- what open takes; none is refusal 3, "device unknown, or usable set 0 or above 15"
+unfoldable pub setupOf : Opening → Option Setup
+setupOf o =
+    elim (deviceOf (o .device)) [
+      | none ↦ none
+      | some d ↦ elim (usableSet d (o .usable)) [ true ↦ some (record { device = d; usable = o .usable }) | false ↦ none ]
+    ]
+
+-- what an accepted open was given, as it was given
+unfoldable pub openingOf : Setup → Opening
+openingOf s = record { device = letterOf (s .device); usable = s .usable }
+
+-- what an opening opens, as it is answered
+unfoldable pub openedAs : Option Setup → Opened
+openedAs none = Nothing
+openedAs (some s) = With s

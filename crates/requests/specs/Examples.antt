@@ -1,0 +1,62 @@
+-- Document 01, tries H and I, and the cases beside them: requests, and the numbers that refuse them.
+use mathlib.Core.Path.{_≡_}
+use mathlib.Core.List.{List, [], _∷_, map}
+use mathlib.Core.Option.{Option, none, some}
+use Prim.Native.Nat.{ℕ}
+use Rattle.requests.specs.Refusals.{answerFor, answerNumber}
+use Rattle.requests.specs.Checks.{requestRefusal}
+use Rattle.requests.specs.declared.CounterSet.{CounterSet}
+use Rattle.requests.specs.declared.Device.{Device}
+use Rattle.requests.specs.declared.Device.the-variants.{G, S}
+use Rattle.requests.specs.declared.Request.{Request}
+use Rattle.requests.specs.declared.Request.the-variants.{Event, Packet, Offcore, Latency}
+
+-- a request on a device, and the number that refuses it, or none
+pub record Example : Type 0 where
+  pub device : Device
+  pub request : Request
+  pub number : Option ℕ
+
+-- counters 0 to 3
+abbrev all : CounterSet
+all = record { 0 = 15 }
+
+abbrev example : Device → Request → Option ℕ → Example
+example d r n = record { device = d; request = r; number = n }
+
+unfoldable pub examples : List Example
+examples =
+    -- H. "Word 10040: 10; 1: 9; 200010001: 11"
+    example G (Offcore 0x10040 all) (some 10)
+    ∷ example G (Offcore 0x1 all) (some 9)
+    ∷ example G (Offcore 0x200010001 all) (some 11)
+    -- I. "S 51/0: 9; 51/3: 400351; 51/4: 10"
+    ∷ example S (Event 0x51 0 all) (some 9)
+    ∷ example S (Event 0x51 3 all) none
+    ∷ example S (Event 0x51 4 all) (some 10)
+    -- "004 says of mask 0 in the first two that nothing will be counted"
+    ∷ example S (Event 0x31 0 all) (some 9)
+    -- S2B_HOM_BYPASS has the mask 0 alone
+    ∷ example S (Event 0x52 1 all) (some 10)
+    -- "the pair must be one of the SDM's architectural events": the offcore event is none
+    ∷ example G (Event 0xB7 0x01 all) (some 8)
+    -- "Document 000's table lists bit 31 as usable, 002 lists it as reserved: 002 decides"
+    ∷ example G (Offcore 0x80010001 all) (some 10)
+    ∷ example G (Offcore 0x10001 all) none
+    -- bit 6 is no request type
+    ∷ example G (Latency 0x0040 all all) (some 10)
+    ∷ example G (Latency 0x0001 all all) none
+    -- "S only"
+    ∷ example G (Packet 0 0 all) (some 7)
+    ∷ example S (Packet 0 0 all) none
+    -- "allowed set above 15"
+    ∷ example S (Packet 0 0 (record { 0 = 16 })) (some 10)
+    ∷ []
+
+-- the number that refuses the request of an example
+unfoldable pub numberFor : Example → Option ℕ
+numberFor e = answerNumber (answerFor (requestRefusal (record { device = e .device; usable = all }) (e .request)))
+
+-- each request is answered by its number
+abbrev pub Examples : Type 0
+Examples = map numberFor examples ≡ map (λ e. e .number) examples

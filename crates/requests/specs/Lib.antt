@@ -1,0 +1,10 @@
+pub mod Choice
+pub mod Refusals
+pub mod Bits
+pub mod Masks
+pub mod Devices
+pub mod Catalogue
+pub mod Lookup
+pub mod Checks
+pub mod Examples
+pub mod WellFormedRequests

@@ -1,0 +1,36 @@
+-- Masks: a word that stands for the list of its bits.
+use mathlib.Core.Path.{_≡_, refl}
+use mathlib.Core.List.{List, [], _∷_, _++_}
+use Prim.Native.Nat.{ℕ, zero, suc}
+use Rattle.requests.specs.Choice.{pick}
+use Rattle.requests.specs.Bits.{bit, typeBits, anyResponse, answerBits, outstanding, rsp0Bits, rsp1Bits}
+
+-- the bits below n that the word has, rising
+unfoldable pub bitsBelow : ℕ → ℕ → List ℕ
+bitsBelow zero w = []
+bitsBelow (suc k) w = bitsBelow k w ++ pick (bit k w) (k ∷ []) []
+
+-- the bits of a 64-bit word
+unfoldable pub bitsOf : ℕ → List ℕ
+bitsOf w = bitsBelow 64 w
+
+-- the masks of an offcore word by their roles
+pub typeMask : bitsOf 0x0000_0000_0000_FFBF ≡ typeBits
+unfolding bitsOf bitsBelow bit typeBits
+typeMask = refl
+
+pub anyResponseMask : bitsOf 0x0000_0000_0001_0000 ≡ anyResponse ∷ []
+unfolding bitsOf bitsBelow bit anyResponse
+anyResponseMask = refl
+
+pub answerMask : bitsOf 0x0000_0036_0000_0000 ≡ answerBits
+unfolding bitsOf bitsBelow bit answerBits
+answerMask = refl
+
+pub outstandingMask : bitsOf 0x0000_0040_0000_0000 ≡ outstanding ∷ []
+unfolding bitsOf bitsBelow bit outstanding
+outstandingMask = refl
+
+pub permittedMask : bitsOf 0x0000_0076_0001_FFBF ≡ rsp0Bits
+unfolding bitsOf bitsBelow bit rsp0Bits rsp1Bits typeBits anyResponse answerBits outstanding
+permittedMask = refl

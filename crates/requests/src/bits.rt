@@ -1,0 +1,43 @@
+// Bits of words, tested by masks: the bits of an offcore word by their roles (documents 001, 002).
+ghost use mathlib.Core.Path.{_≡_};
+ghost use Rattle.requests.specs.Bits.{anyBit, latencyWord, onlyBits};
+ghost use Rattle.requests.specs.Masks.{bitsOf};
+
+// Request types: DEMAND_DATA_RD 0 to PF_L2_RFO 5, PARTIAL_READS 7 to ANY_REQUEST 15.
+pub const TYPES: u64 = 0x0000_0000_0000_FFBF;
+
+// ANY_RESPONSE: 16.
+pub const ANY_RESPONSE: u64 = 0x0000_0000_0001_0000;
+
+// Snoop answers: L2_MISS.SNOOP_MISS_OR_NO_SNOOP_NEEDED 33, HIT_OTHER_CORE_NO_FWD 34, HITM_OTHER_CORE 36, NON_DRAM 37.
+pub const ANSWERS: u64 = 0x0000_0036_0000_0000;
+
+// OUTSTANDING: 38.
+pub const OUTSTANDING: u64 = 0x0000_0040_0000_0000;
+
+// All permitted bits.
+pub const PERMITTED: u64 = 0x0000_0076_0001_FFBF;
+
+// Whether the word has a bit of the mask.
+pub fn any_bit(mask: u64, word: u64) -> bool
+    ensures { λ r. ⌜ r ≡ anyBit (bitsOf mask) word ⌝ }
+{
+    word & mask != 0
+}
+
+// Whether the word has no bit outside the mask.
+pub fn only_bits(mask: u64, word: u64) -> bool
+    ensures { λ r. ⌜ r ≡ onlyBits (bitsOf mask) word ⌝ }
+{
+    word & mask == word
+}
+
+// The word of a latency request in an RSP register.
+pub fn latency_word(register: u64, types: u16) -> u64
+    ensures { λ r. ⌜ r ≡ latencyWord register types ⌝ }
+{
+    if register == 0 {
+        return types as u64 + OUTSTANDING;
+    }
+    types as u64 + ANY_RESPONSE
+}

@@ -1,0 +1,225 @@
+// The checks of a request on a device: refusals 7 to 11.
+use crate::Answer;
+use crate::CounterSet;
+use crate::Device;
+use crate::Refusal;
+use crate::Request;
+use crate::Setup;
+use crate::bits::ANSWERS;
+use crate::bits::ANY_RESPONSE;
+use crate::bits::OUTSTANDING;
+use crate::bits::PERMITTED;
+use crate::bits::TYPES;
+use crate::bits::any_bit;
+use crate::bits::only_bits;
+use crate::catalogue::look_up;
+use crate::devices::all_counters;
+ghost use mathlib.Core.Path.{_≡_};
+ghost use mathlib.Core.Bool.{not};
+ghost use mathlib.Core.List.{_∷_, []};
+ghost use Rattle.requests.specs.Choice.{both, either};
+ghost use Rattle.requests.specs.Bits.{anyBit, anyResponse, answerBits, outstanding};
+ghost use Rattle.requests.specs.Catalogue.{maskNotListed};
+ghost use Rattle.requests.specs.Checks.{kindNotOn, notListed, tooWide, outOfRange, incomplete, conflicting, requestRefusal};
+ghost use Rattle.requests.specs.Refusals.{answerFor};
+
+// 7: whether the device has no requests of this kind.
+pub fn kind_not_on(device: Device, request: Request) -> bool
+    ensures { λ r. ⌜ r ≡ kindNotOn device request ⌝ }
+{
+    match request {
+        Request::Event { .. } => false,
+        Request::Packet { .. } => match device {
+            Device::G => true,
+            Device::S => false,
+        },
+        Request::Offcore { .. } => match device {
+            Device::G => false,
+            Device::S => true,
+        },
+        Request::Latency { .. } => match device {
+            Device::G => false,
+            Device::S => true,
+        },
+    }
+}
+
+// 8: whether an event is not listed: the pair on G, the code on S.
+pub fn not_listed(device: Device, request: Request) -> bool
+    ensures { λ r. ⌜ r ≡ notListed device request ⌝ }
+{
+    match request {
+        Request::Event { code, mask, .. } => {
+            let listing = look_up(device, code, mask);
+            match device {
+                Device::G => !listing.pair,
+                Device::S => !listing.code,
+            }
+        }
+        Request::Packet { .. } => false,
+        Request::Offcore { .. } => false,
+        Request::Latency { .. } => false,
+    }
+}
+
+// Whether the mask is not listed for its code on S.
+fn mask_not_listed(device: Device, code: u8, mask: u8) -> bool
+    ensures { λ r. ⌜ r ≡ maskNotListed device code mask ⌝ }
+{
+    match device {
+        Device::G => false,
+        Device::S => {
+            let listing = look_up(device, code, mask);
+            if listing.code {
+                return !listing.pair;
+            }
+            false
+        }
+    }
+}
+
+// Whether an allowed set has a counter that the device has not.
+fn too_wide(device: Device, allowed: CounterSet) -> bool
+    ensures { λ r. ⌜ r ≡ tooWide device allowed ⌝ }
+{
+    all_counters(device) < allowed.0
+}
+
+// A mask above the listed range, or an allowed set above all counters.
+fn event_out_of_range(device: Device, code: u8, mask: u8, allowed: CounterSet) -> bool
+    ensures { λ r. ⌜ r ≡ outOfRange device (Request.Event code mask allowed) ⌝ }
+{
+    if mask == 0 {
+        return too_wide(device, allowed);
+    }
+    if mask_not_listed(device, code, mask) {
+        return true;
+    }
+    too_wide(device, allowed)
+}
+
+// A reserved bit, or an allowed set above all counters.
+fn offcore_out_of_range(device: Device, word: u64, allowed: CounterSet) -> bool
+    ensures { λ r. ⌜ r ≡ outOfRange device (Request.Offcore word allowed) ⌝ }
+{
+    if only_bits(PERMITTED, word) {
+        return too_wide(device, allowed);
+    }
+    true
+}
+
+// A reserved type bit, or an allowed set above all counters.
+fn latency_out_of_range(device: Device, types: u16, first: CounterSet, second: CounterSet) -> bool
+    ensures { λ r. ⌜ r ≡ outOfRange device (Request.Latency types first second) ⌝ }
+{
+    if only_bits(TYPES, types as u64) {
+        if too_wide(device, first) {
+            return true;
+        }
+        return too_wide(device, second);
+    }
+    true
+}
+
+// 10: whether a mask, a bit or an allowed set is out of range.
+pub fn out_of_range(device: Device, request: Request) -> bool
+    ensures { λ r. ⌜ r ≡ outOfRange device request ⌝ }
+{
+    match request {
+        Request::Event {
+            code,
+            mask,
+            allowed,
+        } => event_out_of_range(device, code, mask, allowed),
+        Request::Packet { allowed, .. } => too_wide(device, allowed),
+        Request::Offcore { word, allowed } => offcore_out_of_range(device, word, allowed),
+        Request::Latency {
+            types,
+            first,
+            second,
+        } => latency_out_of_range(device, types, first, second),
+    }
+}
+
+// Whether the word has neither a response bit nor bit 38.
+fn no_response(word: u64) -> bool
+    ensures { λ r. ⌜ r ≡ not (anyBit (anyResponse ∷ outstanding ∷ answerBits) word) ⌝ }
+{
+    if any_bit(ANY_RESPONSE, word) {
+        return false;
+    }
+    if any_bit(OUTSTANDING, word) {
+        return false;
+    }
+    !any_bit(ANSWERS, word)
+}
+
+// 9: whether a mask, a request type or a response is missing.
+pub fn incomplete(device: Device, request: Request) -> bool
+    ensures { λ r. ⌜ r ≡ incomplete device request ⌝ }
+{
+    match request {
+        Request::Event { code, mask, .. } => {
+            if mask == 0 {
+                return mask_not_listed(device, code, mask);
+            }
+            false
+        }
+        Request::Packet { .. } => false,
+        Request::Offcore { word, .. } => {
+            if any_bit(TYPES, word) {
+                return no_response(word);
+            }
+            true
+        }
+        Request::Latency { types, .. } => !any_bit(TYPES, types as u64),
+    }
+}
+
+// Whether the word has bit 38, or bit 16 with a snoop answer.
+fn offcore_conflicting(word: u64) -> bool
+    ensures { λ r. ⌜ r ≡ either (anyBit (outstanding ∷ []) word) (both (anyBit (anyResponse ∷ []) word) (anyBit answerBits word)) ⌝ }
+{
+    if any_bit(OUTSTANDING, word) {
+        return true;
+    }
+    if any_bit(ANY_RESPONSE, word) {
+        return any_bit(ANSWERS, word);
+    }
+    false
+}
+
+// 11: whether an offcore word asks for what does not go together.
+pub fn conflicting(device: Device, request: Request) -> bool
+    ensures { λ r. ⌜ r ≡ conflicting device request ⌝ }
+{
+    match request {
+        Request::Event { .. } => false,
+        Request::Packet { .. } => false,
+        Request::Offcore { word, .. } => offcore_conflicting(word),
+        Request::Latency { .. } => false,
+    }
+}
+
+// The first of the rows 7, 8, 10, 9, 11 that applies.
+pub fn request_refusal(setup: Setup, request: Request) -> Answer
+    ensures { λ r. ⌜ r ≡ answerFor (requestRefusal setup request) ⌝ }
+{
+    let device = setup.device;
+    if kind_not_on(device, request) {
+        return Answer::Refused(Refusal::KindNotOnDevice);
+    }
+    if not_listed(device, request) {
+        return Answer::Refused(Refusal::NotListed);
+    }
+    if out_of_range(device, request) {
+        return Answer::Refused(Refusal::OutOfRange);
+    }
+    if incomplete(device, request) {
+        return Answer::Refused(Refusal::Incomplete);
+    }
+    if conflicting(device, request) {
+        return Answer::Refused(Refusal::Conflicting);
+    }
+    Answer::Accepted
+}

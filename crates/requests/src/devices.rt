@@ -1,0 +1,65 @@
+// The devices, and what a session may be opened with.
+use crate::CounterSet;
+use crate::Device;
+use crate::Opened;
+use crate::Opening;
+use crate::Setup;
+ghost use mathlib.Core.Path.{_≡_};
+ghost use Rattle.requests.specs.Choice.{pick};
+ghost use Rattle.requests.specs.Devices.{counterCount, allCounters, letterOf, usableSet, setupOf, openedAs};
+
+// How many counters the device has.
+pub fn counter_count(d: Device) -> u64
+    ensures { λ r. ⌜ r ≡ counterCount d ⌝ }
+{
+    match d {
+        Device::G => 4,
+        Device::S => 4,
+    }
+}
+
+// The set of all counters of the device.
+pub fn all_counters(d: Device) -> u64
+    ensures { λ r. ⌜ r ≡ allCounters d ⌝ }
+{
+    let count = counter_count(d);
+    (1 << count) - 1
+}
+
+// The code of the device's letter.
+pub fn letter_of(d: Device) -> u64
+    ensures { λ r. ⌜ r ≡ letterOf d ⌝ }
+{
+    match d {
+        Device::G => b'G' as u64,
+        Device::S => b'S' as u64,
+    }
+}
+
+// The setup of a device with a usable set, where that has a counter and none past the device's.
+fn opened_on(device: Device, usable: CounterSet) -> Opened
+    ensures { λ r. ⌜ r ≡ pick (usableSet device usable) (Opened.With (record { device = device; usable = usable })) Opened.Nothing ⌝ }
+{
+    let counters = usable.0;
+    if 0 < counters {
+        if counters <= all_counters(device) {
+            return Opened::With(Setup { device, usable });
+        }
+    }
+    Opened::Nothing
+}
+
+// What the opening opens: refusal 3 stands where it is nothing.
+pub fn setup_of(o: Opening) -> Opened
+    ensures { λ r. ⌜ r ≡ openedAs (setupOf o) ⌝ }
+{
+    let usable = o.usable;
+    let letter = o.device;
+    if letter == letter_of(Device::G) {
+        return opened_on(Device::G, usable);
+    }
+    if letter == letter_of(Device::S) {
+        return opened_on(Device::S, usable);
+    }
+    Opened::Nothing
+}

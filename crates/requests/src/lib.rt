@@ -1,0 +1,97 @@
+// What a request is, what a session is opened with, and how a call is answered.
+pub mod bits;
+pub mod catalogue;
+pub mod check;
+pub mod devices;
+pub mod refusals;
+pub mod set;
+
+// A set of counters: counter k is 2^k.
+pub struct CounterSet(pub u64);
+
+// G: one Goldmont core. S: S-Box 0 of the Xeon 7500.
+pub enum Device {
+    G,
+    S,
+}
+
+// What open is given: the letter of a device, as a number, and the usable counters.
+pub struct Opening {
+    pub device: u64,
+    pub usable: CounterSet,
+}
+
+// What an accepted open was given.
+pub struct Setup {
+    pub device: Device,
+    pub usable: CounterSet,
+}
+
+// What an opening opens: a session with a setup, or nothing.
+pub enum Opened {
+    With(Setup),
+    Nothing,
+}
+
+// The four kinds of request.
+pub enum Request {
+    Event {
+        code: u8,
+        mask: u8,
+        allowed: CounterSet,
+    },
+    Packet {
+        match_word: u64,
+        mask_word: u64,
+        allowed: CounterSet,
+    },
+    Offcore {
+        word: u64,
+        allowed: CounterSet,
+    },
+    Latency {
+        types: u16,
+        first: CounterSet,
+        second: CounterSet,
+    },
+}
+
+// A row of an event catalogue: the code, the lowest and the highest unit mask listed for it.
+pub struct EventRow(pub u8, pub u8, pub u8);
+
+// What a catalogue lists of a code and a unit mask: the code, and the two as a pair.
+pub struct Listing {
+    pub code: bool,
+    pub pair: bool,
+}
+
+// An entry of the queue.
+pub struct Entry {
+    pub id: u64,
+    pub request: Request,
+}
+
+// Why a call is refused, in the order of the numbers 1 to 15.
+pub enum Refusal {
+    NotInGrammar,
+    CallOrder,
+    BadOpening,
+    BadId,
+    IdWaiting,
+    IdNotWaiting,
+    KindNotOnDevice,
+    NotListed,
+    Incomplete,
+    OutOfRange,
+    Conflicting,
+    NoPlanAlone,
+    QueueFull,
+    SliceTooShort,
+    NotLeftByPlan,
+}
+
+// The answer of a call.
+pub enum Answer {
+    Accepted,
+    Refused(Refusal),
+}
