@@ -1,0 +1,153 @@
+-- What a request takes where it is placed, in the room by rows. Assumes nothing.
+use mathlib.Core.Path.{_≡_, refl, sym, _∙_}
+use mathlib.Core.Bool.{Bool, true, false}
+use mathlib.Core.List.{List}
+use Prim.Native.Nat.{ℕ, zero, suc, _+_, _-_, _*_, _%_}
+use native.Mathlib.Numerals.{add-one}
+use native.Mathlib.Omega.{arith}
+use lib.Dec.{eqb, leb}
+use lib.ListN.{getD}
+use borrow.Author.Tests.{eqb-true, eqb-false, le-leb, lt-leb}
+use Rattle.requests.specs.declared.CounterSet.{CounterSet}
+use Rattle.requests.specs.declared.Request.{Request}
+use Rattle.requests.specs.declared.Request.the-variants.{Event, Packet, Offcore, Latency}
+use Rattle.requests.specs.Choice.{pick}
+use Rattle.requests.specs.Bits.{latencyWord}
+use Rattle.plans.specs.declared.Register.{Register}
+use Rattle.plans.specs.declared.Register.the-variants.{Word}
+use Rattle.plans.specs.declared.Room.{Room}
+use Rattle.plans.specs.declared.Admission.{Admission}
+use Rattle.plans.specs.declared.Admission.the-variants.{Admitted, NoRoom}
+use Rattle.plans.specs.Search.{holds, holdsPacket, takeCounter, takeWord, takePacket, andThen, admit}
+use Rattle.plans.specs.Rows.{setOf, requestOf, requestAt}
+use Rattle.plans.specs.Counters.{available, without}
+use Rattle.plans.specs.Filters.{wordAt, askedPacket, rspOf, filterOf, roomOf}
+
+-- ---- the user of a register
+
+pub word-of-user : (rows : List ℕ) (i user w v : ℕ) → (user ≡ 0 → ⊥) → v ≡ wordAt rows i (user - 1) → eqb v w ≡ holds (rspOf rows i user) w
+word-of-user rows i zero w v z e = absurd (z refl)
+word-of-user rows i (suc k) w v z e = let s : suc k - 1 ≡ k = omega arith in rw (e, s)
+
+pub packet-of-user : (rows : List ℕ) (user x y : ℕ) (r : Request) (b : Bool) → (user ≡ 0 → ⊥) → r ≡ requestAt rows (user - 1)
+    → b ≡ holdsPacket (askedPacket r) x y → b ≡ holdsPacket (filterOf rows user) x y
+packet-of-user rows zero x y r b z e g = absurd (z refl)
+packet-of-user rows (suc k) x y r b z e g = let s : suc k - 1 ≡ k = omega arith in rw (g, e, s)
+
+-- a test of a register for a word that was made first
+pub word-told : (r : Register) (made w : ℕ) (test told : Bool) → made ≡ w → test ≡ holds r made → test ≡ told → holds r w ≡ told
+word-told r made w test told e f g = rw e at (sym f ∙ g)
+
+packet-used : (rows : List ℕ) (at : ℕ) (r : Request) → r ≡ requestAt rows at → filterOf rows (at + 1) ≡ askedPacket r
+packet-used rows at r e = rw (add-one at, e)
+
+module _ (rows : List ℕ) (at : ℕ) where
+  abbrev kind : ℕ
+  kind = getD rows (at * 4) 0
+
+  abbrev cell : ℕ → ℕ
+  cell j = getD rows (at * 4 + j) 0
+
+  word-offcore : (i w : ℕ) (a : CounterSet) → Offcore w a ≡ requestAt rows at → wordAt rows i at ≡ w
+  unfolding wordAt requestAt requestOf
+  word-offcore i w a e = go (eqb kind 0) (eqb kind 1) (eqb kind 2) refl e
+    where
+      go : (p q r : Bool) → eqb kind 2 ≡ r
+          → Offcore w a ≡ pick p (Event (cell 1 % 256) (cell 2 % 256) (setOf (cell 3))) (pick q (Packet (cell 1) (cell 2) (setOf (cell 3)))
+          (pick r (Offcore (cell 1) (setOf (cell 3))) (Latency (cell 1 % 65536) (setOf (cell 2)) (setOf (cell 3)))))
+          → pick (leb kind 2) (cell 1) (latencyWord i (cell 1 % 65536)) ≡ w
+      go true q r k h = let z : _≡_ {A = ℕ} 0 1 = cc in absurd (omega arith)
+      go false true r k h = let z : _≡_ {A = ℕ} 0 1 = cc in absurd (omega arith)
+      go false false true k h =
+          let two : kind ≡ 2 = eqb-true _ _ k in
+          let same : cell 1 ≡ w = cc in
+          rw (le-leb kind 2 (omega arith), same)
+      go false false false k h = let z : _≡_ {A = ℕ} 0 1 = cc in absurd (omega arith)
+
+  word-latency : (i t : ℕ) (a b : CounterSet) → Latency t a b ≡ requestAt rows at → wordAt rows i at ≡ latencyWord i t
+  unfolding wordAt requestAt requestOf
+  word-latency i t a b e = go (eqb kind 0) (eqb kind 1) (eqb kind 2) refl refl refl e
+    where
+      go : (p q r : Bool) → eqb kind 0 ≡ p → eqb kind 1 ≡ q → eqb kind 2 ≡ r
+          → Latency t a b ≡ pick p (Event (cell 1 % 256) (cell 2 % 256) (setOf (cell 3))) (pick q (Packet (cell 1) (cell 2) (setOf (cell 3)))
+          (pick r (Offcore (cell 1) (setOf (cell 3))) (Latency (cell 1 % 65536) (setOf (cell 2)) (setOf (cell 3)))))
+          → pick (leb kind 2) (cell 1) (latencyWord i (cell 1 % 65536)) ≡ latencyWord i t
+      go true q r f g k h = let z : _≡_ {A = ℕ} 0 1 = cc in absurd (omega arith)
+      go false true r f g k h = let z : _≡_ {A = ℕ} 0 1 = cc in absurd (omega arith)
+      go false false true f g k h = let z : _≡_ {A = ℕ} 0 1 = cc in absurd (omega arith)
+      go false false false f g k h =
+          let not0 : (kind ≡ 0 → ⊥) = eqb-false _ _ f in
+          let not1 : (kind ≡ 1 → ⊥) = eqb-false _ _ g in
+          let not2 : (kind ≡ 2 → ⊥) = eqb-false _ _ k in
+          let same : cell 1 % 65536 ≡ t = cc in
+          rw (lt-leb kind 2 (omega arith), same)
+
+  offcore-used : (i w : ℕ) (a : CounterSet) → Offcore w a ≡ requestAt rows at → rspOf rows i (at + 1) ≡ Word w
+  offcore-used i w a e = rw (add-one at, word-offcore i w a e)
+
+  latency-used : (i t : ℕ) (a b : CounterSet) → Latency t a b ≡ requestAt rows at → rspOf rows i (at + 1) ≡ Word (latencyWord i t)
+  latency-used i t a b e = rw (add-one at, word-latency i t a b e)
+
+-- ---- a counter
+
+pub counter-taken : (a : CounterSet) (k : ℕ) (m : Room) (left : CounterSet) → available a (m .free) k ≡ true → left ≡ without (m .free) k
+    → takeCounter a k m ≡ Admitted (record { free = left; rsp0 = m .rsp0; rsp1 = m .rsp1; packet = m .packet })
+unfolding available takeCounter
+counter-taken a k m left h e = rw (h, e)
+
+pub counter-missing : (a : CounterSet) (k : ℕ) (m : Room) → available a (m .free) k ≡ false → takeCounter a k m ≡ NoRoom
+unfolding available takeCounter
+counter-missing a k m h = rw h
+
+pick-then : (b : Bool) (m : Room) (f : Room → Admission) → andThen (pick b (Admitted m) NoRoom) f ≡ pick b (f m) NoRoom
+pick-then true m f = refl
+pick-then false m f = refl
+
+-- ---- the registers of a request in row `at`
+
+module _ (rows : List ℕ) (at : ℕ) (free : CounterSet) (rsp0 rsp1 packet : ℕ) where
+  abbrev room : Room
+  room = roomOf rows free rsp0 rsp1 packet
+
+  module _ (x y : ℕ) (a : CounterSet) (k j : ℕ) where
+    pub packet-held : Packet x y a ≡ requestAt rows at → holdsPacket (room .packet) x y ≡ true
+        → admit (Packet x y a) k j room ≡ takeCounter a k (roomOf rows free rsp0 rsp1 (at + 1))
+    unfolding admit takePacket
+    packet-held r h = rw (h, packet-used rows at (Packet x y a) r)
+
+    pub packet-differs : holdsPacket (room .packet) x y ≡ false → admit (Packet x y a) k j room ≡ NoRoom
+    unfolding admit takePacket
+    packet-differs h = rw h
+
+  module _ (w : ℕ) (a : CounterSet) (k : ℕ) (held : Bool) where
+    pub rsp0-asked : Offcore w a ≡ requestAt rows at → held ≡ holds (room .rsp0) w
+        → admit (Offcore w a) k 0 room ≡ pick held (takeCounter a k (roomOf rows free (at + 1) rsp1 packet)) NoRoom
+    unfolding admit takeWord
+    rsp0-asked r h = rw (← h, offcore-used rows at 0 w a r) (pick-then held _ (takeCounter a k))
+
+    pub rsp1-asked : Offcore w a ≡ requestAt rows at → held ≡ holds (room .rsp1) w
+        → admit (Offcore w a) k 1 room ≡ pick held (takeCounter a k (roomOf rows free rsp0 (at + 1) packet)) NoRoom
+    unfolding admit takeWord
+    rsp1-asked r h = rw (← h, offcore-used rows at 1 w a r) (pick-then held _ (takeCounter a k))
+
+  pub words-differ : (w : ℕ) (a : CounterSet) → holds (room .rsp0) w ≡ false → holds (room .rsp1) w ≡ false → (k j : ℕ) → admit (Offcore w a) k j room ≡ NoRoom
+  unfolding admit takeWord
+  words-differ w a f g k j = rw (f, g) (go (eqb j 0))
+    where
+      go : (b : Bool) → andThen (pick b NoRoom NoRoom) (takeCounter a k) ≡ NoRoom
+      go true = refl
+      go false = refl
+
+  module _ (t : ℕ) (a b : CounterSet) (j k : ℕ) where
+    pub latency-held : Latency t a b ≡ requestAt rows at → holds (room .rsp0) (latencyWord 0 t) ≡ true → holds (room .rsp1) (latencyWord 1 t) ≡ true
+        → admit (Latency t a b) j k room ≡ andThen (takeCounter a j (roomOf rows free (at + 1) (at + 1) packet)) (takeCounter b k)
+    unfolding admit takeWord
+    latency-held r f g = rw (f, g, latency-used rows at 0 t a b r, latency-used rows at 1 t a b r)
+
+    pub rsp0-differs : holds (room .rsp0) (latencyWord 0 t) ≡ false → admit (Latency t a b) j k room ≡ NoRoom
+    unfolding admit takeWord
+    rsp0-differs f = rw f
+
+    pub rsp1-differs : holds (room .rsp0) (latencyWord 0 t) ≡ true → holds (room .rsp1) (latencyWord 1 t) ≡ false → admit (Latency t a b) j k room ≡ NoRoom
+    unfolding admit takeWord
+    rsp1-differs f g = rw (f, g)

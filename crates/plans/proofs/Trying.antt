@@ -1,0 +1,196 @@
+-- The places of a request tried in order give the plan of the requests that remain. Assumes nothing.
+use mathlib.Core.Path.{_≡_, refl, sym, _∙_}
+use mathlib.Core.Bool.{true}
+use mathlib.Core.List.{List, [], _∷_}
+use mathlib.Core.Option.{Option, none, some}
+use Prim.Native.Nat.{ℕ, zero, suc, _+_, _-_, _*_, _/_, _%_, _<_, _≤_}
+use native.Mathlib.Nat.{mul-le-mul, sub-zero, suc-mul, mul-one}
+use native.Mathlib.Numerals.{add-one}
+use native.Mathlib.Omega.{arith}
+use lib.Arith.{digits-lt, digits-div, digits-mod}
+use Rattle.requests.specs.declared.CounterSet.{CounterSet}
+use Rattle.requests.specs.declared.Device.{Device}
+use Rattle.requests.specs.declared.Setup.{Setup}
+use Rattle.requests.specs.declared.Request.{Request}
+use Rattle.requests.specs.declared.Request.the-variants.{Event, Packet, Offcore, Latency}
+use Rattle.requests.specs.Devices.{counterCount}
+use Rattle.plans.specs.declared.Place.{Place}
+use Rattle.plans.specs.declared.Place.the-variants.{Counter}
+use Rattle.plans.specs.declared.Room.{Room}
+use Rattle.plans.specs.declared.Admission.{Admission}
+use Rattle.plans.specs.declared.Admission.the-variants.{Admitted, NoRoom}
+use Rattle.plans.specs.Places.{first, second}
+use Rattle.plans.specs.Search.{emptyRoom, holdsPacket, takeCounter, placeOf, admit, width, firstFrom, putFirst, thenRest, tryNumber, planIn, firstPlan}
+use Rattle.plans.specs.Rows.{requestAt, rowsFrom}
+use Rattle.plans.specs.Filters.{filterOf, roomOf}
+use Rattle.plans.specs.Remaining.{on, planFrom, planAfter, counterFirst, planCounter}
+use Rattle.plans.specs.Packed.{codeOf, packed}
+use Rattle.plans.proofs.RequestRows.{rows-next}
+use Rattle.plans.proofs.Admitting.{packet-held}
+use Rattle.plans.proofs.Unpacking.{none-packed, place-first, place-second}
+
+-- ---- numbered tries: number p gives the place before the rest, whose packed plan is x
+
+module _ (try : ℕ → Option (List Place)) (p total : ℕ) (place : Place) (rest : Option (List Place)) (x : ℕ) (l : p < total)
+    (tried : try p ≡ putFirst place rest) (e : x ≡ packed rest) where
+  try-hit : (x ≡ 0 → ⊥) → x * 64 + first place * 8 + second place ≡ packed (firstFrom try p (total - p))
+  unfolding firstFrom packed codeOf putFirst
+  try-hit plan =
+      let s : total - p ≡ suc (total - (p + 1)) = omega arith in
+      rw s (go rest tried e)
+    where
+      go : (o : Option (List Place)) → try p ≡ putFirst place o → x ≡ packed o → x * 64 + first place * 8 + second place ≡ packed (firstFrom try p (suc (total - (p + 1))))
+      go none t h = absurd (plan h)
+      go (some ps) t h = rw (t, firstFrom, h)
+
+  try-next : x ≡ 0 → firstFrom try p (total - p) ≡ firstFrom try (p + 1) (total - (p + 1))
+  unfolding firstFrom putFirst
+  try-next z =
+      let s : total - p ≡ suc (total - (p + 1)) = omega arith in
+      let nothing : try p ≡ none = tried ∙ rw (none-packed rest (sym e ∙ z)) in
+      rw (s, nothing, firstFrom) (rw (← add-one p))
+
+try-done : (try : ℕ → Option (List Place)) (p total : ℕ) → total ≤ p → firstFrom try p (total - p) ≡ none
+unfolding firstFrom
+try-done try p total l = let z : total - p ≡ 0 = omega arith in rw z
+
+none-tried : (try : ℕ → Option (List Place)) → ((p : ℕ) → try p ≡ none) → (p left : ℕ) → firstFrom try p left ≡ none
+unfolding firstFrom
+none-tried try h p zero = refl
+none-tried try h p (suc left) = rw (h p, firstFrom) (none-tried try h (suc p) left)
+
+-- ---- the request in row `at`
+
+module _ (d : Device) (rows : List ℕ) (at count : ℕ) (m : Room) where
+  pub none-remain : at ≡ count → 1 ≡ packed (planFrom d rows at count m)
+  unfolding planIn rowsFrom packed codeOf
+  none-remain e = let z : count - at ≡ 0 = omega arith in rw z
+
+  -- the rest is planned in the room that is left
+  rest-planned : (p : Place) (a : Admission) → thenRest (planIn (on d) (rowsFrom rows at (count - at))) p a ≡ putFirst p (planAfter d rows at count a)
+  unfolding thenRest putFirst
+  rest-planned p (Admitted room) = refl
+  rest-planned p NoRoom = refl
+
+-- the try of place number p
+abbrev pub tries : Device → List ℕ → ℕ → ℕ → Request → Room → ℕ → Option (List Place)
+tries d rows at count r m = tryNumber (planIn (on d) (rowsFrom rows (at + 1) (count - (at + 1)))) (on d) r m
+
+-- the first result from the place (k, j) on
+abbrev pub triesFrom : ℕ → ℕ → (ℕ → Option (List Place)) → ℕ → ℕ → Option (List Place)
+triesFrom n w try k j = firstFrom try (k * w + j) (n * w - (k * w + j))
+
+module _ (d : Device) (rows : List ℕ) (at count : ℕ) (m : Room) (r : Request) where
+  pub tries-begin : (n w : ℕ) → at < count → r ≡ requestAt rows at → n ≡ counterCount d → w ≡ width (on d) r
+      → planFrom d rows at count m ≡ triesFrom n w (tries d rows at count r m) 0 0
+  unfolding planIn
+  tries-begin n w l e f g =
+      let z : 0 * w + 0 ≡ 0 = omega arith in
+      rw (rows-next rows at count l, ← e, ← g, ← f, z) (rw (sub-zero (n * w)))
+
+  module _ (n w k j : ℕ) (e : w ≡ width (on d) r) (l : j < w) (below : k < n) (x : ℕ) (g : x ≡ packed (planAfter d rows (at + 1) count (admit r k j m))) where
+    inside : k * w + j < n * w
+    inside = digits-lt below l
+
+    tried : tries d rows at count r m (k * w + j) ≡ putFirst (placeOf r k j) (planAfter d rows (at + 1) count (admit r k j m))
+    unfolding tryNumber
+    tried = rw (← e, digits-div k l, digits-mod k l) (rest-planned d rows (at + 1) count m (placeOf r k j) (admit r k j m))
+
+    pub tries-hit : (x ≡ 0 → ⊥) → x * 64 + k * 8 + j ≡ packed (triesFrom n w (tries d rows at count r m) k j)
+    tries-hit plan =
+        rw (place-first r k j, place-second (on d) r k j (rw (← e) l)) at (try-hit (tries d rows at count r m) (k * w + j) (n * w) (placeOf r k j) _ x inside tried g plan)
+
+    pub tries-next : x ≡ 0 → triesFrom n w (tries d rows at count r m) k j ≡ triesFrom n w (tries d rows at count r m) k (j + 1)
+    tries-next z =
+        let s : k * w + (j + 1) ≡ k * w + j + 1 = omega arith in
+        rw s (try-next (tries d rows at count r m) (k * w + j) (n * w) (placeOf r k j) _ x inside tried g z)
+
+    pub tries-carry : x ≡ 0 → j + 1 ≡ w → triesFrom n w (tries d rows at count r m) k j ≡ triesFrom n w (tries d rows at count r m) (k + 1) 0
+    tries-carry z c =
+        let row : (k + 1) * w ≡ k * w + w = rw (add-one k) (suc-mul k w) in
+        let s : (k + 1) * w + 0 ≡ k * w + j + 1 = omega (arith, row) in
+        rw s (try-next (tries d rows at count r m) (k * w + j) (n * w) (placeOf r k j) _ x inside tried g z)
+
+pub tries-done : (n w k j : ℕ) (try : ℕ → Option (List Place)) → n ≤ k → triesFrom n w try k j ≡ none
+tries-done n w k j try h =
+    let row : n * w ≤ k * w = mul-le-mul h (omega arith) in
+    try-done try (k * w + j) (n * w) (omega (arith, row))
+
+-- a request that is admitted nowhere
+pub nowhere-admitted : (d : Device) (rows : List ℕ) (at count : ℕ) (m : Room) (r : Request) → at < count → r ≡ requestAt rows at → ((k j : ℕ) → admit r k j m ≡ NoRoom)
+    → 0 ≡ packed (planFrom d rows at count m)
+unfolding packed planIn tryNumber thenRest
+nowhere-admitted d rows at count m r l e h =
+    rw (rows-next rows at count l, ← e, none-tried (tries d rows at count r m) (λ p. rw (h (p / width (on d) r) (p % width (on d) r))) 0 (counterCount d * width (on d) r))
+
+-- ---- a request that takes one counter
+
+-- its place number p is counter p
+pub counter-plan : (d : Device) (rows : List ℕ) (at count : ℕ) (m room : Room) (r : Request) (a : CounterSet) → at < count → r ≡ requestAt rows at
+    → width (on d) r ≡ 1 → ((k : ℕ) → placeOf r k 0 ≡ Counter k) → ((k : ℕ) → admit r k 0 m ≡ takeCounter a k room)
+    → planFrom d rows at count m ≡ planCounter d rows (at + 1) count a room
+unfolding planIn tryNumber counterFirst
+counter-plan d rows at count m room r a l e w place same =
+    rw (rows-next rows at count l, ← e) (λ i. firstFrom (λ p. number p i) 0 (total i))
+  where
+    total : counterCount d * width (on d) r ≡ counterCount d
+    total = rw w (mul-one (counterCount d))
+
+    number : (p : ℕ) → tries d rows at count r m p ≡ counterFirst d rows (at + 1) count a room p
+    number p =
+        let whole : p / 1 ≡ p = omega arith in
+        let low : p % 1 ≡ 0 = omega arith in
+        rw (w, whole, low, place p, same p)
+
+module _ (d : Device) (rows : List ℕ) (at count : ℕ) (free : CounterSet) (rsp0 rsp1 packet : ℕ) (l : at < count) where
+  pub event-plan : (c m : ℕ) (a : CounterSet) → Event c m a ≡ requestAt rows at
+      → planFrom d rows at count (roomOf rows free rsp0 rsp1 packet) ≡ planCounter d rows (at + 1) count a (roomOf rows free rsp0 rsp1 packet)
+  unfolding width placeOf admit
+  event-plan c m a e = counter-plan d rows at count _ _ (Event c m a) a l e refl (λ k. refl) (λ k. refl)
+
+  pub packet-plan : (x y : ℕ) (a : CounterSet) → Packet x y a ≡ requestAt rows at → holdsPacket (filterOf rows packet) x y ≡ true
+      → planFrom d rows at count (roomOf rows free rsp0 rsp1 packet) ≡ planCounter d rows (at + 1) count a (roomOf rows free rsp0 rsp1 (at + 1))
+  unfolding width placeOf
+  packet-plan x y a e h = counter-plan d rows at count _ _ (Packet x y a) a l e refl (λ k. refl) (λ k. packet-held rows at free rsp0 rsp1 packet x y a k 0 e h)
+
+module _ (d : Device) (rows : List ℕ) (next count : ℕ) (a : CounterSet) (room : Room) where
+  abbrev pub counters : ℕ → Option (List Place)
+  counters = counterFirst d rows next count a room
+
+  module _ (n k x : ℕ) (l : k < n) (g : x ≡ packed (planAfter d rows next count (takeCounter a k room))) where
+    counter-tried : counters k ≡ putFirst (Counter k) (planAfter d rows next count (takeCounter a k room))
+    unfolding counterFirst
+    counter-tried = rest-planned d rows next count room (Counter k) (takeCounter a k room)
+
+    pub counter-hit : (x ≡ 0 → ⊥) → x * 64 + k * 8 ≡ packed (firstFrom counters k (n - k))
+    unfolding first second
+    counter-hit plan =
+        let h : x * 64 + k * 8 + 0 ≡ packed (firstFrom counters k (n - k)) = try-hit counters k n (Counter k) _ x l counter-tried g plan in
+        omega (arith, h)
+
+    pub counter-next : x ≡ 0 → firstFrom counters k (n - k) ≡ firstFrom counters (k + 1) (n - (k + 1))
+    counter-next z = try-next counters k n (Counter k) _ x l counter-tried g z
+
+  pub counter-done : (n k : ℕ) → n ≤ k → firstFrom counters k (n - k) ≡ none
+  counter-done n k l = try-done counters k n l
+
+-- ---- in a given room the usable set is not looked at
+
+width-on : (s : Setup) (r : Request) → width s r ≡ width (on (s .device)) r
+unfolding width
+width-on s (Event c m a) = refl
+width-on s (Packet x y a) = refl
+width-on s (Offcore w a) = refl
+width-on s (Latency t a b) = refl
+
+plan-on : (s : Setup) (rs : List Request) → planIn s rs ≡ planIn (on (s .device)) rs
+unfolding planIn tryNumber
+plan-on s [] = refl
+plan-on s (r ∷ rs) =
+    let w = width-on s r in
+    let rest = plan-on s rs in
+    λ i m. firstFrom (λ p. thenRest (rest i) (placeOf r (p / w i) (p % w i)) (admit r (p / w i) (p % w i) m)) 0 (counterCount (s .device) * w i)
+
+pub whole-plan : (s : Setup) (rows : List ℕ) (count : ℕ) → planFrom (s .device) rows 0 count (emptyRoom s) ≡ firstPlan s (rowsFrom rows 0 count)
+unfolding firstPlan
+whole-plan s rows count = rw (sub-zero count, plan-on s (rowsFrom rows 0 count))

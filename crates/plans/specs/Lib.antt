@@ -1,0 +1,16 @@
+pub mod Lists
+pub mod Places
+pub mod Legal
+pub mod Order
+pub mod Search
+pub mod Found
+pub mod FirstPlan
+pub mod Parts
+pub mod Rows
+pub mod Counters
+pub mod Filters
+pub mod Remaining
+pub mod Packed
+pub mod PlanTest
+pub mod PlanLength
+pub mod PlanTries

@@ -1,0 +1,44 @@
+// The first legal plan of a list of requests.
+ghost use mathlib.Core.Path.{_≡_};
+ghost use Prim.Native.Nat.{_≤_};
+ghost use lib.ListN.{take};
+ghost use Rattle.plans.specs.Search.{firstPlan};
+ghost use Rattle.plans.specs.Found.{foundOf};
+use crate::Found;
+use crate::packed::places_of;
+use crate::rows::put_requests;
+use crate::search::plan_rows;
+use requests::Request;
+use requests::Setup;
+
+// The first plan of at most 8 requests.
+fn plan_of(setup: Setup, requests: [Request; 8], count: usize) -> Found
+    requires { ⌜ count ≤ 8 ⌝ }
+    ensures { λ r. ⌜ r ≡ foundOf (firstPlan setup (take count requests)) ⌝ }
+{
+    let mut rows: [u64; 32] = [0; 32];
+    put_requests(&mut rows, requests, count);
+    let code = plan_rows(setup, &rows, count);
+    if code == 0 {
+        let places = places_of(0, &rows, 0);
+        return Found {
+            found: false,
+            places: places,
+        };
+    }
+    let places = places_of(code, &rows, count);
+    Found {
+        found: true,
+        places: places,
+    }
+}
+
+// The first plan of the first `count` requests.
+pub fn first_plan(setup: Setup, requests: [Request; 8], count: usize) -> Found
+    ensures { λ r. ⌜ r ≡ foundOf (firstPlan setup (take count requests)) ⌝ }
+{
+    if 8 <= count {
+        return plan_of(setup, requests, 8);
+    }
+    plan_of(setup, requests, count)
+}

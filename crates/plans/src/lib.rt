@@ -1,0 +1,55 @@
+// What a plan gives a request, and what is left while requests are placed one after another.
+use requests::CounterSet;
+
+mod counters;
+mod filters;
+pub mod first_plan;
+mod latency;
+mod offcore;
+pub mod packed;
+pub mod rows;
+pub mod search;
+
+// What a request is given: a counter, a counter and an RSP register, or two counters.
+pub enum Place {
+    Counter(u64),
+    WithRsp(u64, u64),
+    Pair(u64, u64),
+}
+
+// An RSP register: unused, or holding the word that its users asked for.
+pub enum Register {
+    Unused,
+    Word(u64),
+}
+
+// The match/mask register: off, or holding the match and the mask that its users asked for.
+pub enum Filter {
+    Off,
+    Words(u64, u64),
+}
+
+// What the requests placed so far leave.
+pub struct Room {
+    pub free: CounterSet,
+    pub rsp0: Register,
+    pub rsp1: Register,
+    pub packet: Filter,
+}
+
+// The room that is left when one more request is placed, if it has its place.
+pub enum Admission {
+    Admitted(Room),
+    NoRoom,
+}
+
+// What one request is given.
+pub struct Given {
+    pub place: Place,
+}
+
+// Whether there is a plan, and what it gives each request, in their order.
+pub struct Found {
+    pub found: bool,
+    pub places: [Given; 8],
+}

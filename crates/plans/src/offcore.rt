@@ -1,0 +1,78 @@
+// Offcore requests placed.
+ghost use mathlib.Core.Path.{_≡_};
+ghost use Prim.Native.Nat.{_<_, _≤_};
+ghost use Rattle.requests.specs.declared.Request.the-variants.{Offcore};
+ghost use Rattle.plans.specs.Rows.{requestAt};
+ghost use Rattle.plans.specs.Filters.{roomOf};
+ghost use Rattle.plans.specs.Remaining.{planFrom};
+ghost use Rattle.plans.specs.Packed.{packed};
+use crate::filters::holds_word;
+use crate::search::try_counter;
+use requests::CounterSet;
+use requests::Device;
+use requests::devices::counter_count;
+
+// The plan from row `at` on, where an offcore request stands: each counter is tried in order, with RSP0 and then with RSP1.
+pub fn place_offcore(
+    device: Device,
+    rows: &[u64; 32],
+    count: usize,
+    at: usize,
+    word: u64,
+    allowed: CounterSet,
+    free: CounterSet,
+    rsp0: usize,
+    rsp1: usize,
+    packet: usize,
+) -> u64
+    requires { ⌜ (count ≤ 8) × (at < count) × (rsp0 ≤ 8) × (rsp1 ≤ 8) × (packet ≤ 8) ⌝ }
+    requires { ⌜ Offcore word allowed ≡ requestAt (now rows) at ⌝ }
+    ensures { λ r. ⌜ r ≡ packed (planFrom device (now (rows .entry)) at count (roomOf (now (rows .entry)) free rsp0 rsp1 packet)) ⌝ }
+{
+    let held0 = holds_word(rows, 0, rsp0, word);
+    let held1 = holds_word(rows, 1, rsp1, word);
+    if !held0 {
+        if !held1 {
+            return 0;
+        }
+    }
+    let next = at + 1;
+    let n = counter_count(device);
+    let mut k: u64 = 0;
+    while k < n {
+        let rest0 = try_counter(
+            device,
+            rows,
+            count,
+            next,
+            held0,
+            allowed,
+            k,
+            free,
+            next,
+            rsp1,
+            packet,
+        );
+        if rest0 != 0 {
+            return rest0 * 64 + k * 8;
+        }
+        let rest1 = try_counter(
+            device,
+            rows,
+            count,
+            next,
+            held1,
+            allowed,
+            k,
+            free,
+            rsp0,
+            next,
+            packet,
+        );
+        if rest1 != 0 {
+            return rest1 * 64 + k * 8 + 1;
+        }
+        k += 1;
+    }
+    0
+}

@@ -1,0 +1,102 @@
+// Requests as rows of four numbers in one array: the form in which the search reads them.
+ghost use mathlib.Core.Path.{_≡_};
+ghost use Prim.Native.Nat.{_<_, _≤_};
+ghost use lib.ListN.{length, take};
+ghost use Rattle.plans.specs.Rows.{requestAt, rowsFrom, setRow, setRequest};
+use requests::CounterSet;
+use requests::Request;
+
+// The kinds of request, as a row begins with them.
+const EVENT: u64 = 0;
+
+const PACKET: u64 = 1;
+
+pub const OFFCORE: u64 = 2;
+
+const LATENCY: u64 = 3;
+
+// The request of row `at`.
+pub fn request_at(rows: &[u64; 32], at: usize) -> Request
+    requires { ⌜ at < 8 ⌝ }
+    ensures { λ r. ⌜ r ≡ requestAt (now (rows .entry)) at ⌝ }
+{
+    let kind = rows[at * 4];
+    let a = rows[at * 4 + 1];
+    let b = rows[at * 4 + 2];
+    let c = rows[at * 4 + 3];
+    if kind == EVENT {
+        return Request::Event {
+            code: (a % 256) as u8,
+            mask: (b % 256) as u8,
+            allowed: CounterSet(c),
+        };
+    }
+    if kind == PACKET {
+        return Request::Packet {
+            match_word: a,
+            mask_word: b,
+            allowed: CounterSet(c),
+        };
+    }
+    if kind == OFFCORE {
+        return Request::Offcore {
+            word: a,
+            allowed: CounterSet(c),
+        };
+    }
+    Request::Latency {
+        types: (a % 65536) as u16,
+        first: CounterSet(b),
+        second: CounterSet(c),
+    }
+}
+
+// Row `at` becomes four numbers.
+fn put_row(rows: &mut [u64; 32], at: usize, kind: u64, a: u64, b: u64, c: u64)
+    requires { ⌜ at < 8 ⌝ }
+    ensures { λ _. ⌜ now (rows .exit) ≡ setRow (now (rows .entry)) at kind a b c ⌝ }
+{
+    rows[at * 4] = kind;
+    rows[at * 4 + 1] = a;
+    rows[at * 4 + 2] = b;
+    rows[at * 4 + 3] = c;
+}
+
+// Row `at` becomes the request, and reads back as it.
+pub fn put_request(rows: &mut [u64; 32], at: usize, request: Request)
+    requires { ⌜ (at < 8) × (length (now rows) ≡ 32) ⌝ }
+    ensures { λ _. ⌜ now (rows .exit) ≡ setRequest (now (rows .entry)) at request ⌝ }
+    ensures { λ _. ⌜ requestAt (now (rows .exit)) at ≡ request ⌝ }
+{
+    match request {
+        Request::Event {
+            code,
+            mask,
+            allowed,
+        } => put_row(rows, at, EVENT, code as u64, mask as u64, allowed.0),
+        Request::Packet {
+            match_word,
+            mask_word,
+            allowed,
+        } => put_row(rows, at, PACKET, match_word, mask_word, allowed.0),
+        Request::Offcore { word, allowed } => put_row(rows, at, OFFCORE, word, 0, allowed.0),
+        Request::Latency {
+            types,
+            first,
+            second,
+        } => put_row(rows, at, LATENCY, types as u64, first.0, second.0),
+    }
+}
+
+// The rows become the first `count` requests.
+pub fn put_requests(rows: &mut [u64; 32], requests: [Request; 8], count: usize)
+    requires { ⌜ (count ≤ 8) × (length (now rows) ≡ 32) ⌝ }
+    ensures { λ _. ⌜ rowsFrom (now (rows .exit)) 0 count ≡ take count requests ⌝ }
+{
+    let mut i: usize = 0;
+    while i < count {
+        let request = requests[i];
+        put_request(rows, i, request);
+        i += 1;
+    }
+}
