@@ -1,0 +1,41 @@
+-- The values of the global control register, as the code computes them.
+use mathlib.Core.Path.{_≡_, ap, _∙_}
+use Prim.Native.Nat.{ℕ, _+_, _-_, _%_, _^_, _≤_, _<_}
+use native.Mathlib.Nat.{mod-lt}
+use native.Mathlib.Omega.{arith}
+use lib.Pow.{pow-pos}
+use Rattle.requests.specs.declared.Device.{Device}
+use Rattle.requests.specs.declared.Device.the-variants.{G, S}
+use Rattle.requests.specs.declared.Setup.{Setup}
+use Rattle.requests.specs.Devices.{counterCount, allCounters}
+use Rattle.registers.specs.Writes.{unusable}
+
+-- one more than all counters is a power of two
+all-next : (d : Device) → allCounters d + 1 ≡ 2 ^ counterCount d
+unfolding allCounters
+all-next d = omega (arith, pow-pos (counterCount d))
+
+-- a remainder by it is at most all
+pub rest-small : (x all : ℕ) → x % (all + 1) ≤ all
+rest-small x all = let l : x % (all + 1) < all + 1 = mod-lt x (omega arith) in omega arith
+
+pub all-small : (d : Device) → allCounters d ≤ 255
+unfolding allCounters counterCount
+all-small G = omega arith
+all-small S = omega arith
+
+pub unusable-small : (s : Setup) → unusable s ≤ 255
+unfolding unusable
+unusable-small s = omega (arith, all-small (s .device))
+
+-- all: the device's counters, as the code has them
+module _ (s : Setup) (all : ℕ) (is : all ≡ allCounters (s .device)) where
+  next : all + 1 ≡ 2 ^ counterCount (s .device)
+  next = ap (λ (k : ℕ). k + 1) is ∙ all-next (s .device)
+
+  pub unusable-is : all - s .usable .0 % (all + 1) ≡ unusable s
+  unfolding unusable
+  unusable-is = rw (next, is)
+
+  pub counting-is : (others used : ℕ) → others ≡ unusable s → others + used % (all + 1) ≡ unusable s + used % 2 ^ counterCount (s .device)
+  counting-is others used e = rw (next, e)

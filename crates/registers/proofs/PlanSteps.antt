@@ -1,0 +1,94 @@
+-- The register values of a plan are those of its rest with the first request added.
+use mathlib.Core.Path.{_≡_, refl, ap, _∙_}
+use mathlib.Core.List.{List, [], _∷_, _++_, flatMap, map}
+use mathlib.Core.Bool.{Bool, false}
+use Prim.Native.Nat.{ℕ, zero, suc, _+_, _-_, _<_, _≤_, min}
+use native.Mathlib.Numerals.{add-one}
+use native.Mathlib.Omega.{arith}
+use lib.ListN.{length, getD, take, drop, set, replicate, length-take, drop-of-length-le}
+use lib.Seq.{drop-cons, getD-take}
+use Rattle.requests.specs.declared.Device.{Device}
+use Rattle.requests.specs.declared.Request.{Request}
+use Rattle.requests.specs.Choice.{either}
+use Rattle.requests.specs.Bits.{inList}
+use Rattle.requests.specs.Devices.{counterCount, capacity}
+use Rattle.plans.specs.declared.Place.{Place}
+use Rattle.plans.specs.declared.Given.{Given}
+use Rattle.plans.specs.Places.{countersOf}
+use Rattle.plans.specs.Legal.{wordsOf, packetsOf, ofAll, counters}
+use Rattle.registers.specs.Layout.{tabulate}
+use Rattle.registers.specs.Settings.{usesOf, wordAt, setFrom, headOr, nonempty, settingsOf}
+use Rattle.registers.specs.Adding.{withUses, withPackets, settingsWith}
+use Rattle.registers.proofs.UsedCounters.{setOf, used-more}
+use Rattle.registers.proofs.Tabulated.{tabulate-set}
+
+head-more : {A : Type 0} (a : A) (xs ys : List A) → headOr a (xs ++ ys) ≡ headOr (headOr a ys) xs
+head-more a [] ys = refl
+head-more a (x ∷ xs) ys = refl
+
+nonempty-more : {A : Type 0} (xs ys : List A) → nonempty (xs ++ ys) ≡ either (nonempty xs) (nonempty ys)
+unfolding either
+nonempty-more [] ys = refl
+nonempty-more (x ∷ xs) ys = refl
+
+-- uses in front are stores
+words-more : (xs us : List (ℕ × ℕ)) → tabulate capacity (wordAt (xs ++ us)) ≡ withUses xs (tabulate capacity (wordAt us))
+unfolding withUses wordAt
+words-more [] us = refl
+words-more (x ∷ xs) us =
+    tabulate-set capacity (x .0) (x .1) (wordAt (xs ++ us)) ∙ ap (λ (ws : List ℕ). set ws (x .0) (x .1)) (words-more xs us)
+
+-- a plan with one request more in front
+pub settings-add : (d : Device) (r : Request) (p : Place) (rs : List Request) (ps : List Place)
+    → settingsWith d r p (settingsOf d rs ps) ≡ settingsOf d (r ∷ rs) (p ∷ ps)
+unfolding settingsOf settingsWith withPackets ofAll counters flatMap
+settings-add d r p rs ps =
+    rw (
+      used-more d (countersOf p) (counters ps),
+      words-more (usesOf d r p) (ofAll (usesOf d) rs ps),
+      head-more 0 (wordsOf 0 r p) (ofAll (wordsOf 0) rs ps),
+      head-more 0 (wordsOf 1 r p) (ofAll (wordsOf 1) rs ps),
+      nonempty-more (packetsOf r) (flatMap packetsOf rs),
+      head-more (0, 0) (packetsOf r) (flatMap packetsOf rs),
+    )
+
+-- no counter passes
+set-none : (n k : ℕ) (on : ℕ → Bool) → ((j : ℕ) → on j ≡ false) → setFrom n k on ≡ 0
+unfolding setFrom
+set-none zero k on h = refl
+set-none (suc n) k on h = rw (h k, set-none n (suc k) on h)
+
+-- the register values of no request
+pub settings-none : (d : Device)
+    → record { used = setOf 0; words = replicate 8 0; rsp0 = 0; rsp1 = 0; packets = false; «match_word» = 0; «mask_word» = 0 } ≡ settingsOf d [] []
+unfolding settingsOf ofAll counters flatMap inList wordAt tabulate capacity
+settings-none d = rw (set-none (counterCount d) 0 (inList []) (λ j. refl))
+
+-- ---- requests and places in their arrays, of which the first count are in use
+
+-- the places from number i on
+abbrev placesFrom : ℕ → ℕ → List Given → List Place
+placesFrom count i gs = map (λ (g : Given). g .place) (drop i (take count gs))
+
+window-step : {A : Type 0} (l : List A) (count i : ℕ) (a : A) → i < count → i < length l → drop i (take count l) ≡ getD l i a ∷ drop (i + 1) (take count l)
+window-step l count i a below within =
+    let inside : i < length (take count l) = rw length-take (omega arith) in
+    rw (drop-cons (take count l) i a inside, add-one, getD-take count l i a below)
+
+window-past : {A : Type 0} (l : List A) (count i : ℕ) → min count (length l) ≤ i → drop i (take count l) ≡ []
+window-past l count i past = drop-of-length-le (take count l) {i = i} (rw length-take past)
+
+module _ (d : Device) (count : ℕ) (rs : List Request) (gs : List Given) where
+  -- past the last request
+  pub settings-past : (i : ℕ) → min count (length rs) ≤ i → min count (length gs) ≤ i → settingsOf d [] [] ≡ settingsOf d (drop i (take count rs)) (placesFrom count i gs)
+  settings-past i requests places = rw (window-past rs count i requests, window-past gs count i places)
+
+  -- the request before
+  pub settings-before : (left : ℕ) (r : Request) (g : Given) → 0 < left → left ≤ count → left ≤ length rs → left ≤ length gs
+      → settingsWith d (getD rs (left - 1) r) (getD gs (left - 1) g .place) (settingsOf d (drop left (take count rs)) (placesFrom count left gs))
+      ≡ settingsOf d (drop (left - 1) (take count rs)) (placesFrom count (left - 1) gs)
+  settings-before left r g some within ofRequests ofPlaces =
+      let e : left - 1 + 1 ≡ left = omega arith in
+      let requests = rw e at (window-step rs count (left - 1) r (omega arith) (omega arith)) in
+      let places = rw e at (window-step gs count (left - 1) g (omega arith) (omega arith)) in
+      rw (requests, places) (settings-add d (getD rs (left - 1) r) (getD gs (left - 1) g .place) (drop left (take count rs)) (placesFrom count left gs))

@@ -1,0 +1,96 @@
+-- The reader's answer from its tests: the filter registers of each device, the whole of the values, and the opening.
+use mathlib.Core.Path.{_≡_, refl, sym, ap, _∙_}
+use mathlib.Core.Bool.{Bool, true, false, not}
+use mathlib.Core.Option.{Option, none, some}
+use mathlib.Core.List.{List}
+use Prim.Native.Nat.{ℕ, _+_, _%_, _^_}
+use native.Mathlib.Nat.{mod-eq-of-lt}
+use native.Mathlib.Omega.{arith}
+use lib.Dec.{eqb}
+use lib.ListN.{getD}
+use borrow.Author.Tests.{eq-eqb, ne-eqb}
+use Rattle.requests.specs.declared.CounterSet.{CounterSet}
+use Rattle.requests.specs.declared.Device.{Device}
+use Rattle.requests.specs.declared.Device.the-variants.{G, S}
+use Rattle.requests.specs.declared.Opened.the-variants.{With, Nothing}
+use Rattle.requests.specs.declared.Setup.{Setup}
+use Rattle.requests.specs.Choice.{both, every, pick}
+use Rattle.requests.specs.Devices.{counterCount, openedAs}
+use Rattle.registers.specs.Layout.{mmEnable, rspWord, packetWord}
+use Rattle.registers.specs.Settings.{setFrom}
+use Rattle.registers.specs.Writes.{unusable}
+use Rattle.registers.specs.Read.{ours, count, controlFits, rsp1Fits, rsp0Fits, filtersFit, accepts}
+use Rattle.registers.specs.declared.FilterValues.{FilterValues}
+use Rattle.registers.specs.declared.RegisterValues.{RegisterValues}
+use Rattle.registers.proofs.CounterSets.{set-below}
+
+-- ---- the filter registers
+
+-- the setup of a device
+abbrev on : Device → CounterSet → Setup
+on d u = record { device = d; usable = u }
+
+module _ (f : ℕ → ℕ) (v : FilterValues) where
+  pub filters-G : (d : Device) (u : CounterSet) (n0 n1 : ℕ) → d ≡ G → n0 ≡ count (counterCount d) f (rspWord G 0) → n1 ≡ count (counterCount d) f (rspWord G 1)
+      → both (rsp1Fits (on d u) n1 (v .rsp1)) (rsp0Fits (on d u) n0 n1 (v .rsp0) (v .rsp1)) ≡ filtersFit (on d u) f v
+  unfolding filtersFit
+  filters-G G u n0 n1 e e0 e1 = rw (e0, e1)
+  filters-G S u n0 n1 e e0 e1 = let z : _≡_ {A = ℕ} 0 1 = cc in absurd (omega arith)
+
+  pub filters-S : (d : Device) (u : CounterSet) (n : ℕ) → d ≡ S → n ≡ count (counterCount d) f (packetWord S)
+      → eqb (v .«mm_cfg») (pick (eqb n 0) 0 (2 ^ mmEnable)) ≡ filtersFit (on d u) f v
+  unfolding filtersFit
+  filters-S S u n e en = rw en
+  filters-S G u n e en = let z : _≡_ {A = ℕ} 0 1 = cc in absurd (omega arith)
+
+-- ---- the values
+
+-- used: the counters whose control words are not 0
+pub counting-set : (s : Setup) (on : ℕ → Bool) (used value : ℕ) → used ≡ setFrom (counterCount (s .device)) 0 on
+    → value ≡ unusable s + used % 2 ^ counterCount (s .device) → value ≡ unusable s + setFrom (counterCount (s .device)) 0 on
+counting-set s on used value e g = rw (e, mod-eq-of-lt (set-below (counterCount (s .device)) 0 on)) at g
+
+-- words: the control values that are looked at
+module _ (s : Setup) (v : RegisterValues) (words : List ℕ) (same : (λ k. getD words k 0) ≡ ours s v) where
+  abbrev limit : ℕ
+  limit = counterCount (s .device)
+
+  abbrev used : ℕ
+  used = setFrom limit 0 (λ k. not (eqb (getD words k 0) 0))
+
+  controls : every limit (λ k. controlFits s (getD words k 0)) ≡ every limit (λ k. controlFits s (ours s v k))
+  controls = ap (λ (f : ℕ → ℕ). every limit (λ k. controlFits s (f k))) same
+
+  counting : unusable s + used ≡ unusable s + setFrom limit 0 (λ k. not (eqb (ours s v k) 0))
+  counting = ap (λ (f : ℕ → ℕ). unusable s + setFrom limit 0 (λ k. not (eqb (f k) 0))) same
+
+  pub accepts-by-filters : every limit (λ k. controlFits s (getD words k 0)) ≡ true → v .global ≡ unusable s + used
+      → filtersFit s (λ k. getD words k 0) (v .filters) ≡ accepts s v
+  unfolding accepts both
+  accepts-by-filters fit global =
+      rw (sym controls ∙ fit, eq-eqb (v .global) (unusable s + setFrom limit 0 (λ k. not (eqb (ours s v k) 0))) (global ∙ counting))
+      (ap (λ (f : ℕ → ℕ). filtersFit s f (v .filters)) same)
+
+  pub global-refused : every limit (λ k. controlFits s (getD words k 0)) ≡ true → (v .global ≡ unusable s + used → ⊥) → false ≡ accepts s v
+  unfolding accepts both
+  global-refused fit other =
+      rw (
+        sym controls ∙ fit,
+        ne-eqb (v .global) (unusable s + setFrom limit 0 (λ k. not (eqb (ours s v k) 0))) (λ e. other (e ∙ sym counting)),
+      )
+
+  pub controls-refused : every limit (λ k. controlFits s (getD words k 0)) ≡ false → false ≡ accepts s v
+  unfolding accepts both
+  controls-refused fails = rw (sym controls ∙ fails)
+
+-- ---- the opening
+
+pub opened-with : (x : Option Setup) (s : Setup) → openedAs x ≡ With s → x ≡ some s
+unfolding openedAs
+opened-with none s e = let z : _≡_ {A = ℕ} 0 1 = cc in absurd (omega arith)
+opened-with (some t) s e = cc
+
+pub opened-nothing : (x : Option Setup) → openedAs x ≡ Nothing → x ≡ none
+unfolding openedAs
+opened-nothing none e = refl
+opened-nothing (some t) e = let z : _≡_ {A = ℕ} 0 1 = cc in absurd (omega arith)

@@ -1,0 +1,131 @@
+-- How long the write list is, and what the writer answers where it has room and where not.
+use mathlib.Core.Path.{_≡_, refl, ap, _∙_}
+use mathlib.Core.List.{List, [], _∷_, _++_}
+use mathlib.Core.Bool.{Bool, true, false}
+use Prim.Native.Nat.{ℕ, _+_, _*_, _%_, _^_, _≤_, _<_}
+use native.Mathlib.Nat.{le-refl, zero-add}
+use native.Mathlib.Omega.{arith}
+use borrow.Author.Tests.{lt-ltb, le-ltb}
+use lib.ListN.{length, drop, length-append}
+use lib.Seq.{sets-eq}
+use Rattle.requests.specs.declared.CounterSet.{CounterSet}
+use Rattle.requests.specs.declared.Device.{Device}
+use Rattle.requests.specs.declared.Device.the-variants.{G, S}
+use Rattle.requests.specs.declared.Setup.{Setup}
+use Rattle.requests.specs.Choice.{pick}
+use Rattle.requests.specs.Devices.{size, counterCount, capacity}
+use Rattle.plans.proofs.Members.{size-at-most}
+use Rattle.plans.proofs.PlanLengthHolds.{plan-length}
+use Rattle.registers.specs.Layout.{layoutOf}
+use Rattle.registers.specs.Writes.{Write, row, rows, zeros, flat, filled, unusable, packetWrites, offcoreWrites, filterWrites, writesFor}
+use Rattle.registers.specs.Slices.{Appended, Wrote, tooShort, writeAnswer, writeSlice}
+use Rattle.registers.specs.declared.Layout.{Layout}
+use Rattle.registers.specs.declared.Settings.{Settings}
+use Rattle.registers.specs.declared.WriteAnswer.the-variants.{Written, TooShort}
+use Rattle.registers.proofs.Fields.{control-small, counter-small, step-small}
+use Rattle.registers.proofs.Appending.{appended-then, length-flat, length-rows}
+
+-- a test counts at most once
+pub pick-small : (b : Bool) → pick b 1 0 ≤ 1
+pick-small true = le-refl 1
+pick-small false = omega arith
+
+-- the size of a device's counter set
+pub device-size : (d : Device) (s : CounterSet) → size (counterCount d) s ≤ 8
+unfolding capacity
+device-size d s = omega (arith, size-at-most (counterCount d) s, plan-length .device-at-most d)
+
+packets-small : (b : Bool) (x y : ℕ) → length (packetWrites b x y) ≤ 4
+unfolding packetWrites
+packets-small true x y = omega arith
+packets-small false x y = omega arith
+
+pub length-packets : (b : Bool) (x y : ℕ) → length (packetWrites b x y) ≡ 1 + 3 * pick b 1 0
+unfolding packetWrites
+length-packets true x y = refl
+length-packets false x y = refl
+
+pub filters-small : (d : Device) (t : Settings) → length (filterWrites d t) ≤ 4
+unfolding filterWrites offcoreWrites
+filters-small G t = omega arith
+filters-small S t = packets-small (t .packets) (t .«match_word») (t .«mask_word»)
+
+-- the parts of the list, with the number of counters and the layout as the code has them
+module _ (s : Setup) (t : Settings) (n : ℕ) (l : Layout) (count : n ≡ counterCount (s .device)) (layout : l ≡ layoutOf (s .device)) where
+  writes-parts :
+      ((l .global, unusable s) ∷ [])
+      ++ rows n (s .usable) (l .control) (l .step) zeros
+      ++ filterWrites (s .device) t
+      ++ rows n (t .used) (l .counter) (l .step) zeros
+      ++ rows n (t .used) (l .control) (l .step) (t .words)
+      ++ ((l .global, unusable s + t .used .0 % 2 ^ counterCount (s .device)) ∷ [])
+      ≡ writesFor s t
+  unfolding writesFor
+  writes-parts = rw (count, layout)
+
+  -- the parts one after another in a slice
+  pub list-appended : {start first second third fourth fifth end : List ℕ} {a b c d e f others value : ℕ}
+      → others ≡ unusable s
+      → value ≡ unusable s + t .used .0 % 2 ^ counterCount (s .device)
+      → Appended start 0 (row true (l .global) others) first a
+      → Appended first a (rows n (s .usable) (l .control) (l .step) zeros) second b
+      → Appended second b (filterWrites (s .device) t) third c
+      → Appended third c (rows n (t .used) (l .counter) (l .step) zeros) fourth d
+      → Appended fourth d (rows n (t .used) (l .control) (l .step) (t .words)) fifth e
+      → Appended fifth e (row true (l .global) value) end f
+      → Appended start 0 (writesFor s t) end f
+  list-appended stopping counting stopped cleared filtered zeroed selected started =
+      rw (← writes-parts)
+      (appended-then (appended-then (appended-then (appended-then (appended-then (rw stopping at stopped) cleared) filtered) zeroed) selected) (rw counting at started))
+
+  pub length-parts : length (writesFor s t) ≡ 2 + size n (s .usable) + length (filterWrites (s .device) t) + 2 * size n (t .used)
+  length-parts =
+      let parts = simp length-append at (ap length writes-parts) in
+      omega (
+        arith,
+        parts,
+        length-rows n (s .usable) (l .control) (l .step) zeros,
+        length-rows n (t .used) (l .counter) (l .step) zeros,
+        length-rows n (t .used) (l .control) (l .step) (t .words),
+      )
+
+  -- addresses and the number of counters are small
+  pub parts-small : (n ≤ capacity) × (l .control ≤ 0xFFFF) × (l .counter ≤ 0xFFFF) × (l .step ≤ 2)
+  parts-small =
+      rw (count, layout) (plan-length .device-at-most (s .device), control-small (s .device), counter-small (s .device), step-small (s .device))
+
+module _ (s : Setup) (t : Settings) where
+  pub length-writes :
+      length (writesFor s t) ≡ 2 + size (counterCount (s .device)) (s .usable) + length (filterWrites (s .device) t) + 2 * size (counterCount (s .device)) (t .used)
+  length-writes = length-parts s t (counterCount (s .device)) (layoutOf (s .device)) refl refl
+
+  -- twice the number of writes fits a number of the code
+  pub writes-small : length (writesFor s t) ≤ 30
+  writes-small =
+      omega (
+        arith,
+        length-writes,
+        device-size (s .device) (s .usable),
+        filters-small (s .device) t,
+        device-size (s .device) (t .used),
+      )
+
+-- the two answers of the writer
+pub wrote-nothing : {ws : List Write} {n : ℕ} (out : List ℕ) → n ≡ length ws → length out < 2 * n → Wrote ws out out TooShort
+unfolding writeAnswer writeSlice tooShort
+wrote-nothing {ws} {n} out e short =
+    let l = lt-ltb (length out) (2 * length ws) (omega arith) in
+    record { answer = rw l; slice = rw l }
+
+pub wrote-list : {ws : List Write} {n next : ℕ} {out after : List ℕ} → n ≡ length ws → 2 * n ≤ length out → Appended out 0 ws after next → Wrote ws out after (Written n)
+unfolding writeAnswer writeSlice tooShort filled
+wrote-list {ws} {n} {next} {out} {after} e room p =
+    let l = le-ltb (length out) (2 * length ws) (omega arith) in
+    record {
+      answer = rw l (ap Written e);
+      slice =
+          rw l
+          (p .list
+          ∙ sets-eq (flat ws) out 0 (omega (arith, length-flat ws))
+          ∙ ap (λ (k : ℕ). flat ws ++ drop k out) (zero-add (length (flat ws)) ∙ length-flat ws));
+    }

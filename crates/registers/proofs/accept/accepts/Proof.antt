@@ -1,0 +1,69 @@
+-- `accepts` tests the parts of the definition in its order, over the control values that are looked at.
+use mathlib.Core.Path.{_≡_, sym, ap, _∙_}
+use mathlib.Core.Bool.{not}
+use mathlib.Core.List.{List}
+use Prim.Native.Nat.{ℕ}
+use lib.Dec.{eqb}
+use lib.ListN.{length, getD}
+use borrow.Author.Needs.{needs}
+use Rattle.requests.specs.Devices.{capacity}
+use Rattle.registers.specs.Read.{ours}
+use Rattle.plans.proofs.PlanLengthHolds.{plan-length}
+use Rattle.registers.proofs.Accepting.{looked}
+use Rattle.registers.proofs.ReaderSteps.{counting-set, accepts-by-filters, global-refused, controls-refused}
+use Rattle.registers.proofs.accept.accepts.Statement.{statement}
+use Rattle.registers.proofs.accept.accepts.Tie as tie
+
+-- the array of the values is whole
+whole : (c : tie.Start) → length (c .args .values .control) ≡ capacity
+unfolding capacity
+whole c = search needs
+
+-- the words are the values that are looked at
+same : (c : tie.After-looked-at) → (λ k. getD (c .looked-at .result) k 0) ≡ ours (c .before .before .before .args .setup) (c .before .before .before .args .values)
+same c = ap (λ (l : List ℕ). λ (k : ℕ). getD l k 0) (c .looked-at .ensures) ∙ looked (c .before .before .before .args .setup) (c .before .before .before .args .values) (whole (c .before .before .before))
+
+controls-fit-requires : tie.Need-controls-fit-requires
+controls-fit-requires c κs = rw (c .before .counter-count .ensures) (plan-length .device-at-most (c .before .before .before .args .setup .device))
+
+used-by-requires : tie.Need-used-by-requires
+used-by-requires c κs = rw (c .before .before .before .counter-count .ensures) (plan-length .device-at-most (c .before .before .before .before .before .args .setup .device))
+
+returns : tie.Need-returns
+returns c =
+    let a = c .before .before .before .before .before .before .before .before .before .before .args in
+    let words = c .before .before .before .before .before .before .before .looked-at .result in
+    let fit = rw (c .before .before .before .before .before .before .before .before .counter-count .ensures) at (sym (c .before .before .before .before .before .before .controls-fit .ensures) ∙ c .before .before .before .before .before .if1 .taken) in
+    let used = rw (c .before .before .before .before .before .before .before .before .counter-count .ensures) at (c .before .before .before .before .used-by .ensures) in
+    let value = counting-set (a .setup) (λ k. not (eqb (getD words k 0) 0)) _ _ used (c .before .before .before .counting-value .ensures) in
+    c .filters-fit .ensures
+    ∙ accepts-by-filters (a .setup) (a .values) words (same (c .before .before .before .before .before .before .before)) fit (c .before .if2 .taken ∙ value)
+
+returns-2 : tie.Need-returns-2
+returns-2 c =
+    let a = c .before .before .before .before .before .before .before .before .before .args in
+    let words = c .before .before .before .before .before .before .looked-at .result in
+    let fit = rw (c .before .before .before .before .before .before .before .counter-count .ensures) at (sym (c .before .before .before .before .before .controls-fit .ensures) ∙ c .before .before .before .before .if1 .taken) in
+    let used = rw (c .before .before .before .before .before .before .before .counter-count .ensures) at (c .before .before .before .used-by .ensures) in
+    let value = counting-set (a .setup) (λ k. not (eqb (getD words k 0) 0)) _ _ used (c .before .before .counting-value .ensures) in
+    global-refused (a .setup) (a .values) words (same (c .before .before .before .before .before .before)) fit (λ e. c .if2 .left (e ∙ sym value))
+
+returns-3 : tie.Need-returns-3
+returns-3 c =
+    let a = c .before .before .before .before .before .args in
+    let fails = rw (c .before .before .before .counter-count .ensures) at (sym (c .before .controls-fit .ensures) ∙ c .if1 .left) in
+    controls-refused (a .setup) (a .values) (c .before .before .looked-at .result) (same (c .before .before)) fails
+
+pub accepts-spec : {M : Type 1} → statement M
+accepts-spec =
+    tie.close
+    (tie.spec
+    (λ c κs. search needs)
+    (λ c κs. search needs)
+    controls-fit-requires
+    used-by-requires
+    (λ c κs. search needs)
+    (λ c κs. search needs)
+    returns
+    returns-2
+    returns-3)

@@ -1,0 +1,20 @@
+-- `filter_count` has the length of each device's filter writes.
+use borrow.Author.Needs.{needs}
+use Rattle.registers.specs.Writes.{filterWrites, offcoreWrites, packetWrites}
+use Rattle.registers.proofs.writer.filter_count.Statement.{statement}
+use Rattle.registers.proofs.writer.filter_count.Tie as tie
+
+returns : tie.Need-returns
+unfolding filterWrites offcoreWrites
+returns c = rw (c .enum-told .given .1)
+
+returns-2 : tie.Need-returns-2
+unfolding filterWrites packetWrites
+returns-2 c = rw (c .before .enum-told2 .given .1, c .if1 .taken)
+
+returns-3 : tie.Need-returns-3
+unfolding filterWrites packetWrites
+returns-3 c = rw (c .before .enum-told2 .given .1, c .if1 .left)
+
+pub filter-count-spec : {M : Type 1} → statement M
+filter-count-spec = tie.close (tie.spec (λ c. search needs) (λ c. search needs) returns returns-2 returns-3)

@@ -1,0 +1,204 @@
+// The register values of a plan, one request after another from the last to the first.
+use crate::Settings;
+use crate::tables::event_word;
+use crate::tables::packet_word;
+use crate::tables::rsp_word;
+use plans::Given;
+use plans::Place;
+use requests::CounterSet;
+use requests::Device;
+use requests::Request;
+use requests::bits::latency_word;
+use requests::devices::counter_count;
+use requests::set::has;
+ghost use mathlib.Core.Path.{_≡_};
+ghost use mathlib.Core.List.{map};
+ghost use Prim.Native.Nat.{_<_, min};
+ghost use lib.ListN.{take, set};
+ghost use Rattle.requests.specs.Devices.{capacity};
+ghost use Rattle.plans.specs.Places.{first, second, countersOf};
+ghost use Rattle.plans.specs.Legal.{wordsOf};
+ghost use Rattle.registers.specs.Settings.{usesOf, headOr, settingsOf};
+ghost use Rattle.registers.specs.Adding.{withCounter, withCounters, withUses, withPackets, settingsWith};
+
+// The counter of a place, or the first of two.
+fn first_of(place: Place) -> u64
+    ensures { λ r. ⌜ r ≡ first place ⌝ }
+{
+    match place {
+        Place::Counter(counter) => counter,
+        Place::WithRsp(counter, _) => counter,
+        Place::Pair(counter, _) => counter,
+    }
+}
+
+// The RSP register of a place, or the second of two counters.
+fn second_of(place: Place) -> u64
+    ensures { λ r. ⌜ r ≡ second place ⌝ }
+{
+    match place {
+        Place::Counter(_) => 0,
+        Place::WithRsp(_, register) => register,
+        Place::Pair(_, counter) => counter,
+    }
+}
+
+// The set with one more counter, where the device has it.
+fn with_counter(device: Device, counter: u64, used: CounterSet) -> CounterSet
+    ensures { λ r. ⌜ r ≡ withCounter device counter used ⌝ }
+{
+    if counter < counter_count(device) {
+        if !has(used, counter) {
+            return CounterSet(used.0 + (1 << counter));
+        }
+    }
+    used
+}
+
+// The set with the counters of a place.
+fn with_counters(device: Device, place: Place, used: CounterSet) -> CounterSet
+    ensures { λ r. ⌜ r ≡ withCounters device (countersOf place) used ⌝ }
+{
+    match place {
+        Place::Counter(counter) => with_counter(device, counter, used),
+        Place::WithRsp(counter, _) => with_counter(device, counter, used),
+        Place::Pair(first, second) => with_counter(
+            device,
+            first,
+            with_counter(device, second, used),
+        ),
+    }
+}
+
+// The control words with one more. A counter past the array has none.
+fn with_word(words: [u64; 8], counter: u64, word: u64) -> [u64; 8]
+    ensures { λ r. ⌜ r ≡ set words counter word ⌝ }
+{
+    if 8 <= counter {
+        return words;
+    }
+    let mut next = words;
+    next[counter as usize] = word;
+    next
+}
+
+// The control words with those of a request at its place.
+fn with_uses(device: Device, request: Request, place: Place, words: [u64; 8]) -> [u64; 8]
+    ensures { λ r. ⌜ r ≡ withUses (usesOf device request place) words ⌝ }
+{
+    let counter = first_of(place);
+    match request {
+        Request::Event { code, mask, .. } => with_word(
+            words,
+            counter,
+            event_word(device, code, mask),
+        ),
+        Request::Packet { .. } => with_word(words, counter, packet_word(device)),
+        Request::Offcore { .. } => with_word(words, counter, rsp_word(device, second_of(place))),
+        Request::Latency { .. } => {
+            let paired = with_word(words, second_of(place), rsp_word(device, 1));
+            with_word(paired, counter, rsp_word(device, 0))
+        }
+    }
+}
+
+// The word of an RSP register with what an offcore word at its place asks of it.
+fn with_offcore(register: u64, word: u64, place: Place, held: u64) -> u64
+    ensures { λ r. ⌜ ((a : CounterSet) → r ≡ headOr held (wordsOf register (Request.Offcore word a) place)) ⌝ }
+{
+    match place {
+        Place::Counter(_) => held,
+        Place::WithRsp(_, given) => if given == register { word } else { held },
+        Place::Pair(..) => held,
+    }
+}
+
+// The word of an RSP register with what a request at its place asks of it.
+fn with_rsp(register: u64, request: Request, place: Place, held: u64) -> u64
+    ensures { λ r. ⌜ r ≡ headOr held (wordsOf register request place) ⌝ }
+{
+    match request {
+        Request::Event { .. } => held,
+        Request::Packet { .. } => held,
+        Request::Offcore { word, .. } => with_offcore(register, word, place, held),
+        Request::Latency { types, .. } => latency_word(register, types),
+    }
+}
+
+// The match/mask register with what a request asks of it.
+fn with_packets(request: Request, settings: Settings) -> Settings
+    ensures { λ r. ⌜ r ≡ withPackets request settings ⌝ }
+{
+    match request {
+        Request::Event { .. } => settings,
+        Request::Packet {
+            match_word,
+            mask_word,
+            ..
+        } => {
+            let mut next = settings;
+            next.packets = true;
+            next.match_word = match_word;
+            next.mask_word = mask_word;
+            next
+        }
+        Request::Offcore { .. } => settings,
+        Request::Latency { .. } => settings,
+    }
+}
+
+// The register values with one more request in front.
+pub fn settings_with(device: Device, request: Request, place: Place, settings: Settings) -> Settings
+    ensures { λ r. ⌜ r ≡ settingsWith device request place settings ⌝ }
+{
+    let before = settings.used;
+    let old = settings.words;
+    let used = with_counters(device, place, before);
+    let words = with_uses(device, request, place, old);
+    let filter = with_packets(request, settings);
+    Settings {
+        used: used,
+        words: words,
+        rsp0: with_rsp(0, request, place, settings.rsp0),
+        rsp1: with_rsp(1, request, place, settings.rsp1),
+        packets: filter.packets,
+        match_word: filter.match_word,
+        mask_word: filter.mask_word,
+    }
+}
+
+// How many of the places of an array are in use.
+fn bounded(count: usize) -> usize
+    ensures { λ r. ⌜ r ≡ min count capacity ⌝ }
+{
+    if count < 8 { count } else { 8 }
+}
+
+// The register values of the first requests of the array, each at the place with its number.
+pub fn settings_of(
+    device: Device,
+    requests: [Request; 8],
+    places: [Given; 8],
+    count: usize,
+) -> Settings
+    ensures { λ r. ⌜ r ≡ settingsOf device (take count requests) (map (λ (g : Given). g .place) (take count places)) ⌝ }
+{
+    let mut settings = Settings {
+        used: CounterSet(0),
+        words: [0; 8],
+        rsp0: 0,
+        rsp1: 0,
+        packets: false,
+        match_word: 0,
+        mask_word: 0,
+    };
+    let mut left = bounded(count);
+    while 0 < left {
+        left -= 1;
+        let request = requests[left];
+        let given = places[left];
+        let place = given.place;
+        settings = settings_with(device, request, place, settings);
+    }
+    settings
+}

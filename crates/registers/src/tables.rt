@@ -1,0 +1,124 @@
+// The register tables as data: addresses and field places, each with its name in the manual.
+// G: SDM volume 3 (IA32_*) and documents 001, 002 (MSR_OFFCORE_RSP*). S: document 004, section 2.5.
+use crate::Layout;
+use requests::Device;
+ghost use mathlib.Core.Path.{_≡_};
+ghost use Rattle.registers.specs.Layout.{layoutOf, enabled, eventWord, rspWord, packetWord, codeOf, maskOf};
+
+// ---- addresses, G (SDM volume 3, architectural MSRs; document 001 for the RSP registers)
+
+const PERF_GLOBAL_CTRL: u64 = 0x038F; // IA32_PERF_GLOBAL_CTRL
+
+const PERFEVTSEL0: u64 = 0x0186; // IA32_PERFEVTSEL0
+
+const PMC0: u64 = 0x00C1; // IA32_PMC0
+
+const MSR_STEP: u64 = 1; // from IA32_PERFEVTSELk and IA32_PMCk to those of k + 1
+
+pub const OFFCORE_RSP0: u64 = 0x01A6; // MSR_OFFCORE_RSP0
+
+pub const OFFCORE_RSP1: u64 = 0x01A7; // MSR_OFFCORE_RSP1
+
+// ---- addresses, S (document 004, 2.5: S-Box 0 Performance Monitoring MSRs)
+
+const PMON_GLOBAL_CTL: u64 = 0x0C40; // S_MSR_PMON_GLOBAL_CTL
+
+const PMON_CTL0: u64 = 0x0C50; // S_MSR_PMON_CTL0
+
+const PMON_CTR0: u64 = 0x0C51; // S_MSR_PMON_CTR0
+
+const PMON_STEP: u64 = 2; // from S_MSR_PMON_CTLk and S_MSR_PMON_CTRk to those of k + 1
+
+pub const MM_CFG: u64 = 0x0E48; // S_MSR_MM_CFG
+
+pub const MATCH: u64 = 0x0E49; // S_MSR_MATCH
+
+pub const MASK: u64 = 0x0E4A; // S_MSR_MASK
+
+// ---- fields
+
+const PERFEVTSEL_ENABLED: u64 = 0x0043_0000; // G, IA32_PERFEVTSELk: USR 16, OS 17, EN 22
+
+const PMON_CTL_ENABLED: u64 = 0x0040_0000; // S, table 2-30, S_MSR_PMON_CTLk: enable 22
+
+const UMASK: u64 = 0x0100; // G: event select 7:0, unit mask 15:8; S, table 2-30: ev_sel 7:0, umask 15:8
+
+const OFFCORE_RESPONSE: u8 = 0xB7; // G, document 001: the event of the RSP registers
+
+const RSP0_UMASK: u8 = 0x01; // G, document 001: its unit mask for MSR_OFFCORE_RSP0
+
+const RSP1_UMASK: u8 = 0x02; // G, document 001: its unit mask for MSR_OFFCORE_RSP1
+
+const PACKET: u8 = 0x00; // S, 2.5.2: the event of the match/mask register
+
+const PACKET_UMASK: u8 = 0x00; // S, 2.5.2: its unit mask
+
+pub const MM_CFG_ENABLE: u64 = 0x8000_0000_0000_0000; // S, table 2-32, S_MSR_MM_CFG: enable 63
+
+// Where the registers of the device's counters are.
+pub fn layout_of(device: Device) -> Layout
+    ensures { λ r. ⌜ r ≡ layoutOf device ⌝ }
+{
+    match device {
+        Device::G => Layout {
+            global: PERF_GLOBAL_CTRL,
+            control: PERFEVTSEL0,
+            counter: PMC0,
+            step: MSR_STEP,
+        },
+        Device::S => Layout {
+            global: PMON_GLOBAL_CTL,
+            control: PMON_CTL0,
+            counter: PMON_CTR0,
+            step: PMON_STEP,
+        },
+    }
+}
+
+// The bits that every event word of the device has.
+fn enabled_bits(device: Device) -> u64
+    ensures { λ r. ⌜ r ≡ enabled device ⌝ }
+{
+    match device {
+        Device::G => PERFEVTSEL_ENABLED,
+        Device::S => PMON_CTL_ENABLED,
+    }
+}
+
+// The control word of an event.
+pub fn event_word(device: Device, code: u8, mask: u8) -> u64
+    ensures { λ r. ⌜ r ≡ eventWord device code mask ⌝ }
+{
+    enabled_bits(device) + UMASK * (mask as u64) + code as u64
+}
+
+// The control word of a counter on an RSP register.
+pub fn rsp_word(device: Device, register: u64) -> u64
+    ensures { λ r. ⌜ r ≡ rspWord device register ⌝ }
+{
+    if register == 0 {
+        return event_word(device, OFFCORE_RESPONSE, RSP0_UMASK);
+    }
+    event_word(device, OFFCORE_RESPONSE, RSP1_UMASK)
+}
+
+// The control word of a counter on the match/mask register.
+pub fn packet_word(device: Device) -> u64
+    ensures { λ r. ⌜ r ≡ packetWord device ⌝ }
+{
+    event_word(device, PACKET, PACKET_UMASK)
+}
+
+// The event code in a control word.
+pub fn code_of(word: u64) -> u8
+    ensures { λ r. ⌜ r ≡ codeOf word ⌝ }
+{
+    (word % UMASK) as u8
+}
+
+// The unit mask in a control word.
+pub fn mask_of(word: u64) -> u8
+    ensures { λ r. ⌜ r ≡ maskOf word ⌝ }
+{
+    (word / UMASK % UMASK) as u8
+}
