@@ -1,0 +1,77 @@
+-- What the search answers over the rows of a turn: with one request more behind those taken, and of one request alone; and the number of
+-- usable counters, past which nothing is searched. Assumes nothing.
+use mathlib.Core.Path.{_≡_, refl, ap, sym, _∙_}
+use Prim.Native.Nat.{ℕ, _+_, _≤_}
+use mathlib.Core.Bool.{Bool, true, false, not}
+use mathlib.Core.List.{List, [], _∷_, _++_}
+use native.Mathlib.Numerals.{add-one}
+use lib.Dec.{eqb}
+use lib.ListN.{length, take}
+use lib.Seq.{take-at}
+use Rattle.requests.specs.declared.Setup.{Setup}
+use Rattle.requests.specs.declared.Request.{Request}
+use Rattle.requests.specs.Devices.{size}
+use Rattle.plans.specs.Legal.{HasPlan}
+use Rattle.plans.specs.Search.{firstPlan, hasPlan}
+use Rattle.plans.specs.Parts.{usableCount}
+use Rattle.plans.specs.Rows.{requestAt, rowsFrom, setRequest}
+use Rattle.plans.specs.Packed.{packed}
+use Rattle.plans.proofs.FirstFound.{first-plan}
+use Rattle.plans.proofs.RequestRows.{put-length, rows-length, rows-last, rows-put}
+use Rattle.plans.proofs.Unpacking.{some-packed, none-packed, plan-packed}
+use Rattle.plans.proofs.PlanLengthHolds.{plan-length}
+use Rattle.planner.specs.Selections.{Searched}
+use borrow.Author.Tests.{eqb-true}
+
+-- ---- what the search answers
+
+-- the number is 0 exactly where no plan is legal
+module _ (s : Setup) (rs : List Request) where
+  pub found-plan : (packed (firstPlan s rs) ≡ 0 → ⊥) → HasPlan s rs
+  found-plan h = let f = some-packed (firstPlan s rs) h in (f .0, first-plan .sound s rs (f .0) (f .1) .legal)
+
+  pub found-none : packed (firstPlan s rs) ≡ 0 → ¬ HasPlan s rs
+  found-none h = first-plan .complete s rs (none-packed (firstPlan s rs) h)
+
+-- the answer is 0 where as many requests are taken as counters are usable
+pub searched-none : (s : Setup) (rows : List ℕ) (count : ℕ) (r : Request) → usableCount s ≤ count → length rows ≡ 32 → Searched s rows count r rows 0
+searched-none s rows count r full size =
+    let rs = rowsFrom rows 0 count ++ (r ∷ []) in
+    let no : hasPlan s rs ≡ false = plan-length .full-tested s (rowsFrom rows 0 count) r (rw rows-length full) in
+    record {
+      answer = sym (eqb-true (packed (firstPlan s rs)) 0 (plan-packed s rs ∙ ap not no));
+      kept = refl;
+      behind = λ exists. absurd (exists refl);
+      size = size;
+    }
+
+-- the rows in front stay
+rows-front : (old new : List ℕ) (i : ℕ) (r : Request) → new ≡ setRequest old i r → requestAt new i ≡ r → rowsFrom new 0 i ≡ rowsFrom old 0 i
+rows-front old new i r put back =
+    sym (take-at (rowsFrom new 0 i) (requestAt new (0 + i) ∷ []) i (rows-length new 0 i))
+    ∙ ap (take i) (sym (rows-last new 0 i) ∙ rw (← add-one i) (rows-put old new i r put back))
+    ∙ take-at (rowsFrom old 0 i) (r ∷ []) i (rows-length old 0 i)
+
+-- otherwise it is that of the rows with the request put behind them
+pub searched-rows : (s : Setup) (rows : List ℕ) (count : ℕ) (r : Request) (next : List ℕ) → next ≡ setRequest rows count r → requestAt next count ≡ r → length rows ≡ 32
+    → (found : ℕ) → found ≡ packed (firstPlan s (rowsFrom next 0 (count + 1))) → Searched s rows count r next found
+searched-rows s rows count r next put back size found e =
+    let behind = rows-put rows next count r put back in
+    record {
+      answer = e ∙ rw behind;
+      kept = rows-front rows next count r put back;
+      behind = λ exists. behind;
+      size = rw (put, put-length) size;
+    }
+
+-- ---- one request
+
+-- whether it has a plan alone: the search over the first row
+pub plan-alone : (s : Setup) (r : Request) (rows next : List ℕ) → next ≡ setRequest rows 0 r → requestAt next 0 ≡ r
+    → (found : ℕ) → found ≡ packed (firstPlan s (rowsFrom next 0 1)) → not (eqb found 0) ≡ hasPlan s (r ∷ [])
+unfolding rowsFrom
+plan-alone s r rows next put back found e = rw (e, rows-put rows next 0 r put back, plan-packed s (r ∷ [])) (double (hasPlan s (r ∷ [])))
+  where
+    double : (b : Bool) → not (not b) ≡ b
+    double true = refl
+    double false = refl

@@ -1,0 +1,62 @@
+-- `planner::drop::drop_answer` is the answer of the refusal table: a law for each return, by the tests that led there.
+use mathlib.Core.Path.{_≡_, sym, _∙_}
+use mathlib.Core.Bool.{true, false}
+use mathlib.Core.Option.{none, some}
+use borrow.Author.Needs.{needs}
+use borrow.Author.Tests.{not-true, not-false}
+use Rattle.requests.specs.declared.Refusal.the-variants.{CallOrder, BadId, IdNotWaiting}
+use Rattle.requests.specs.Refusals.{answerFor}
+use Rattle.planner.specs.Calls.{Drop, waits}
+use Rattle.planner.specs.Table.{outsideIds}
+use Rattle.planner.specs.Sessions.{queueLimit, queued}
+use Rattle.planner.proofs.TableAnswers.{drop-closed, drop-bad-id, drop-not-waiting, drop-accepted, answer-closed, answer-opened}
+use Rattle.planner.proofs.drop.drop_answer.Statement.{statement}
+use Rattle.planner.proofs.drop.drop_answer.Tie as tie
+
+returns : tie.Need-returns
+unfolding answerFor
+returns c =
+    let a = c .before .args in
+    answer-closed (a .session) (Drop (a .id)) (some CallOrder) (not-true _ (c .if1 .taken)) (drop-closed queueLimit (a .id))
+
+outside-ids-requires : tie.Need-outside-ids-requires
+outside-ids-requires c κs = search needs
+
+returns-2 : tie.Need-returns-2
+unfolding answerFor
+returns-2 c =
+    let a = c .before .before .before .args in
+    let s = a .session in
+    let b : outsideIds (a .id) ≡ true = sym (c .before .outside-ids .ensures) ∙ c .if2 .taken in
+    answer-opened s (Drop (a .id)) (some BadId) (not-false _ (c .before .before .if1 .left)) (drop-bad-id queueLimit (s .setup) (queued s) (a .id) b)
+
+waits-requires : tie.Need-waits-requires
+waits-requires c κs = search needs
+
+-- past the first two tests
+late : (c : tie.After-waits) → let a = c .before .before .before .before .args in (a .session .opened ≡ true) × (outsideIds (a .id) ≡ false)
+late c =
+    let i = c .before in
+    (not-false _ (i .before .before .if1 .left), sym (i .before .outside-ids .ensures) ∙ i .if2 .left)
+
+returns-3 : tie.Need-returns-3
+unfolding answerFor
+returns-3 c =
+    let p = c .before in
+    let a = p .before .before .before .before .args in
+    let s = a .session in
+    let w : waits (a .id) (queued s) ≡ false = sym (p .waits .ensures) ∙ not-true _ (c .if3 .taken) in
+    answer-opened s (Drop (a .id)) (some IdNotWaiting) (late p .0) (drop-not-waiting queueLimit (s .setup) (queued s) (a .id) (late p .1) w)
+
+returns-4 : tie.Need-returns-4
+unfolding answerFor
+returns-4 c =
+    let p = c .before in
+    let a = p .before .before .before .before .args in
+    let s = a .session in
+    let w : waits (a .id) (queued s) ≡ true = sym (p .waits .ensures) ∙ not-false _ (c .if3 .left) in
+    answer-opened s (Drop (a .id)) none (late p .0) (drop-accepted queueLimit (s .setup) (queued s) (a .id) (late p .1) w)
+
+pub drop-answer-spec : {M : Type 1} → statement M
+drop-answer-spec =
+    tie.close (tie.spec returns outside-ids-requires returns-2 waits-requires returns-3 returns-4)

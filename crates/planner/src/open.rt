@@ -1,0 +1,69 @@
+// A new session, and open.
+use crate::Answered;
+use crate::Session;
+use crate::queue::vacant;
+use requests::Answer;
+use requests::CounterSet;
+use requests::Device;
+use requests::Opened;
+use requests::Opening;
+use requests::Refusal;
+use requests::Setup;
+use requests::devices::setup_of;
+ghost use mathlib.Core.Path.{_≡_};
+ghost use mathlib.Core.List.{[]};
+ghost use Rattle.planner.specs.Sessions.{newSession, sessionOf, openOf};
+
+// The session before open.
+pub fn new_session() -> Session
+    ensures { λ r. ⌜ r ≡ newSession ⌝ }
+{
+    let usable = CounterSet(0);
+    let setup = Setup {
+        device: Device::G,
+        usable: usable,
+    };
+    let places = [vacant(); 16];
+    Session {
+        opened: false,
+        setup: setup,
+        queue: places,
+        len: 0,
+    }
+}
+
+// An opened session, with nothing in its queue.
+fn opened_with(setup: Setup) -> Session
+    ensures { λ r. ⌜ r ≡ sessionOf setup [] ⌝ }
+{
+    let places = [vacant(); 16];
+    Session {
+        opened: true,
+        setup: setup,
+        queue: places,
+        len: 0,
+    }
+}
+
+// Opens a session, once.
+pub fn open(session: Session, opening: Opening) -> Answered
+    ensures { λ r. ⌜ r ≡ openOf session opening ⌝ }
+{
+    let opened = session.opened;
+    if opened {
+        return Answered {
+            answer: Answer::Refused(Refusal::CallOrder),
+            session: session,
+        };
+    }
+    match setup_of(opening) {
+        Opened::Nothing => Answered {
+            answer: Answer::Refused(Refusal::BadOpening),
+            session: session,
+        },
+        Opened::With(setup) => Answered {
+            answer: Answer::Accepted,
+            session: opened_with(setup),
+        },
+    }
+}

@@ -1,0 +1,114 @@
+// The queue in its array: entries in the first places, vacant places after them.
+use crate::Session;
+use requests::CounterSet;
+use requests::Entry;
+use requests::Request;
+ghost use mathlib.Core.Path.{_≡_};
+ghost use mathlib.Core.List.{_++_, _∷_, []};
+ghost use Prim.Native.Nat.{_<_, min};
+ghost use lib.ListN.{take};
+ghost use Rattle.planner.specs.Calls.{waits};
+ghost use Rattle.planner.specs.Plain.{removed};
+ghost use Rattle.planner.specs.Sessions.{vacant, queued, padded, sessionOf};
+
+// "The queue holds at most 16 requests"
+pub const QUEUE_LIMIT: usize = 16;
+
+// What stands in a place without a request.
+pub fn vacant() -> Entry
+    ensures { λ r. ⌜ r ≡ vacant ⌝ }
+{
+    let allowed = CounterSet(0);
+    let request = Request::Event {
+        code: 0,
+        mask: 0,
+        allowed: allowed,
+    };
+    Entry {
+        id: 0,
+        request: request,
+    }
+}
+
+// The number of places in use: `len`, and all where that is more.
+pub fn bounded(len: usize) -> usize
+    ensures { λ r. ⌜ r ≡ min len 16 ⌝ }
+{
+    if len < QUEUE_LIMIT { len } else { QUEUE_LIMIT }
+}
+
+// Whether the id is waiting in the queue.
+pub fn waits(session: Session, id: u64) -> bool
+    ensures { λ r. ⌜ r ≡ waits id (queued session) ⌝ }
+{
+    let n = bounded(session.len);
+    let mut i = 0;
+    while i < n {
+        let entry = session.queue[i];
+        if id == entry.id {
+            return true;
+        }
+        i += 1;
+    }
+    false
+}
+
+// The queue in a new array, with nothing past its end.
+pub fn padded(queue: [Entry; 16], len: usize) -> [Entry; 16]
+    ensures { λ r. ⌜ r ≡ padded (take len queue) ⌝ }
+{
+    let n = bounded(len);
+    let empty = vacant();
+    let mut out = [empty; 16];
+    let mut i = 0;
+    while i < n {
+        out[i] = queue[i];
+        i += 1;
+    }
+    out
+}
+
+// The session with one entry more, at the back.
+pub fn with_entry(session: Session, entry: Entry) -> Session
+    requires { ⌜ session .len < 16 ⌝ }
+    ensures { λ r. ⌜ r ≡ sessionOf (session .setup) (queued session ++ entry ∷ []) ⌝ }
+{
+    let queue = session.queue;
+    let n = session.len;
+    let mut next = padded(queue, n);
+    next[n] = entry;
+    let setup = session.setup;
+    let len = n + 1;
+    Session {
+        opened: true,
+        setup: setup,
+        queue: next,
+        len: len,
+    }
+}
+
+// The session without the id. The others keep their order.
+pub fn without_id(session: Session, id: u64) -> Session
+    ensures { λ r. ⌜ r ≡ sessionOf (session .setup) (removed id (queued session)) ⌝ }
+{
+    let n = bounded(session.len);
+    let empty = vacant();
+    let mut out = [empty; 16];
+    let mut k: usize = 0;
+    let mut i = 0;
+    while i < n {
+        let entry = session.queue[i];
+        i += 1;
+        if id != entry.id {
+            out[k] = entry;
+            k += 1;
+        }
+    }
+    let setup = session.setup;
+    Session {
+        opened: true,
+        setup: setup,
+        queue: out,
+        len: k,
+    }
+}
