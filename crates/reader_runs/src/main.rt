@@ -1,0 +1,58 @@
+// For each plan: what the reader tells of the registers that its writes leave, and how many of the values with one bit changed it
+// accepts. What is expected comes from the model in bench/rust.
+mod asked;
+mod changes;
+mod compare;
+mod print;
+mod run;
+mod values;
+
+use crate::asked::event;
+use crate::asked::four;
+use crate::asked::latency;
+use crate::asked::offcore;
+use crate::asked::packet;
+use crate::run::run;
+use requests::Device;
+
+fn on_g() {
+    let g = Device::G;
+    let halted = event(0x3C, 0x00);
+    let retired = event(0xC0, 0x00);
+    let events = four(
+        retired,
+        event(0x3C, 0x01),
+        event(0x2E, 0x41),
+        event(0xC5, 0x00),
+    );
+    let shared = four(offcore(0x1_0001), latency(0x0001), halted, halted);
+    let pairs = four(latency(0x8001), latency(0x8001), halted, halted);
+    let words = four(offcore(0x12_0000_0002), offcore(0x1_0002), halted, halted);
+    run(g, 15, events, 0);
+    run(g, 15, events, 4);
+    run(g, 15, shared, 2);
+    run(g, 15, pairs, 2);
+    run(g, 14, words, 3);
+}
+
+fn on_s() {
+    let s = Device::S;
+    let bypass = event(0x51, 0x03);
+    let events = four(
+        event(0x51, 0x01),
+        event(0x31, 0x02),
+        event(0x52, 0x00),
+        event(0x2F, 0x00),
+    );
+    let packets = four(packet(), packet(), bypass, bypass);
+    let one = four(packet(), bypass, bypass, bypass);
+    run(s, 9, events, 0);
+    run(s, 15, events, 4);
+    run(s, 15, packets, 3);
+    run(s, 14, one, 2);
+}
+
+fn main() {
+    on_g();
+    on_s();
+}

@@ -1,0 +1,60 @@
+// One plan: written, read, and read with one bit changed.
+use crate::changes;
+use crate::print;
+use crate::values::after;
+use plans::first_plan::first_plan;
+use registers::Reading;
+use registers::WriteAnswer;
+use registers::plan_settings::settings_of;
+use registers::writer::write_list;
+use requests::CounterSet;
+use requests::Device;
+use requests::Request;
+use requests::Setup;
+
+// The write list of the first plan, and the number of its writes.
+fn planned(setup: Setup, requests: [Request; 8], count: usize, list: &mut [u64; 36]) -> usize {
+    let device = setup.device;
+    let found = first_plan(setup, requests, count);
+    let places = found.places;
+    let settings = settings_of(device, requests, places, count);
+    match write_list(list, setup, settings) {
+        WriteAnswer::Written(writes) => writes,
+        WriteAnswer::TooShort => 0,
+    }
+}
+
+// What comes of one bit changed.
+fn one_bit_changed(setup: Setup, values: [u64; 10], told: Reading) {
+    let same = changes::count(setup, values, told, changes::SAME);
+    let another = changes::count(setup, values, told, changes::ANOTHER);
+    print::text(b"one bit changed: accepted ");
+    print::decimal(changes::count(setup, values, told, changes::ACCEPTED));
+    print::text(b", refused ");
+    print::decimal(changes::count(setup, values, told, changes::REFUSED));
+    print::text(b"; where not looked at: the same ");
+    print::decimal(same);
+    print::text(b" of ");
+    print::decimal(same + another);
+    print::text(b"\n");
+}
+
+// The first plan of the first `count` requests, written, read, and read with one bit changed.
+pub fn run(device: Device, usable: u64, requests: [Request; 8], count: usize) {
+    let setup = Setup {
+        device: device,
+        usable: CounterSet(usable),
+    };
+    let mut list: [u64; 36] = [0; 36];
+    let writes = planned(setup, requests, count, &mut list);
+    let values = after(&list, writes);
+    print::device(device);
+    print::text(b" ");
+    print::decimal(usable);
+    print::text(b" writes ");
+    print::decimal(writes as u64);
+    print::text(b"\n");
+    let told = changes::reading(setup, values);
+    print::counters(told);
+    one_bit_changed(setup, values, told);
+}

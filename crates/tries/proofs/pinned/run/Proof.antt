@@ -1,0 +1,31 @@
+-- `tries::pinned::run` ends: the id is at most 17, and the measure is what is left of 17.
+use Prim.Native.Nat.{_≤_, _-_}
+use borrow.Author.Needs.{needs}
+use Rattle.tries.proofs.pinned.run.Statement.{statement}
+use Rattle.tries.proofs.pinned.run.Tie as tie
+
+abbrev Inv-loop : tie.InvT-loop
+Inv-loop session id₀ id = id ≤ 17
+
+abbrev μ-loop : tie.MeasureT-loop
+μ-loop session id₀ id = 17 - id
+
+pub run-spec : {M : Type 1} → statement M
+run-spec =
+    tie.close
+    (tie.spec
+    Inv-loop
+    μ-loop
+    (λ c. search needs)
+    (λ c κs. search needs)
+    (λ c κs. search needs)
+    (λ c κs. search needs)
+    (λ c κs. search needs)
+    (λ c. search needs)
+    (λ c κs. search needs)
+    (λ c. search needs)
+    (λ c κs. search needs)
+    (λ c. search needs)
+    (λ c. search needs)
+    (λ c. search needs)
+    (λ c. search needs))

@@ -1,0 +1,26 @@
+-- `tries::pinned::sixteen` ends: the id is at most 17, and the measure is what is left of 17.
+use Prim.Native.Nat.{_≤_, _-_}
+use borrow.Author.Needs.{needs}
+use Rattle.tries.proofs.pinned.sixteen.Statement.{statement}
+use Rattle.tries.proofs.pinned.sixteen.Tie as tie
+
+abbrev Inv-loop : tie.InvT-loop
+Inv-loop session₀ id₀ session id = id ≤ 17
+
+abbrev μ-loop : tie.MeasureT-loop
+μ-loop session₀ id₀ session id = 17 - id
+
+pub sixteen-spec : {M : Type 1} → statement M
+sixteen-spec =
+    tie.close
+    (tie.spec
+    Inv-loop
+    μ-loop
+    (λ c κs. search needs)
+    (λ c. search needs)
+    (λ c κs. search needs)
+    (λ c κs. search needs)
+    (λ c. search needs)
+    (λ c. search needs)
+    (λ c. search needs)
+    (λ c. search needs))

@@ -1,0 +1,72 @@
+// A session made by hand, with nonsense in it: every call answers by its definition.
+use crate::calls::G;
+use crate::calls::added;
+use crate::calls::event;
+use crate::calls::opening;
+use crate::calls::turned;
+use crate::print;
+use planner::Session;
+use planner::drop::drop_request;
+use planner::open::open;
+use requests::CounterSet;
+use requests::Device;
+use requests::Entry;
+use requests::Request;
+use requests::Setup;
+
+const ALL: u64 = 0xFFFF_FFFF_FFFF_FFFF;
+
+// Requests of other devices, ill-formed, under equal ids and the id 0, and a length past the array.
+fn nonsense() -> Session {
+    let word = Request::Offcore {
+        word: ALL,
+        allowed: CounterSet(ALL),
+    };
+    let types = Request::Latency {
+        types: 0xFFFF,
+        first: CounterSet(4),
+        second: CounterSet(ALL),
+    };
+    let entry = Entry {
+        id: 7,
+        request: word,
+    };
+    let mut queue = [entry; 16];
+    queue[1] = Entry {
+        id: 7,
+        request: types,
+    };
+    let unlisted = event(0xFF, 0xFF, 8);
+    queue[2] = Entry {
+        id: 0,
+        request: unlisted,
+    };
+    let setup = Setup {
+        device: Device::S,
+        usable: CounterSet(ALL),
+    };
+    Session {
+        opened: true,
+        setup: setup,
+        queue: queue,
+        len: 1000,
+    }
+}
+
+pub fn run() {
+    print::text(b"by hand\n");
+    let session = nonsense();
+    print::session(session);
+    let reopened = open(session, opening(G, 15));
+    let answer = reopened.answer;
+    print::answer(answer);
+    let same = added(session, 8, event(0x52, 0x00, 1));
+    let after = turned(same);
+    print::session(after);
+    let dropped = drop_request(after, 7);
+    let taken_out = dropped.answer;
+    print::answer(taken_out);
+    let left = dropped.session;
+    print::session(left);
+    turned(left);
+}

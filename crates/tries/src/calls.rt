@@ -1,0 +1,64 @@
+// Calls with their answers printed.
+use crate::print;
+use planner::Session;
+use planner::add::add;
+use planner::open::new_session;
+use planner::open::open;
+use planner::turn::turn;
+use requests::CounterSet;
+use requests::Opening;
+use requests::Request;
+
+// The letters of the devices.
+pub const G: u64 = 71;
+
+pub const S: u64 = 83;
+
+// An event that a set of counters is allowed for.
+pub fn event(code: u8, mask: u8, allowed: u64) -> Request {
+    Request::Event {
+        code: code,
+        mask: mask,
+        allowed: CounterSet(allowed),
+    }
+}
+
+pub fn opening(device: u64, usable: u64) -> Opening {
+    Opening {
+        device: device,
+        usable: CounterSet(usable),
+    }
+}
+
+// A session after open.
+pub fn opened(device: u64, usable: u64) -> Session {
+    let answered = open(new_session(), opening(device, usable));
+    let answer = answered.answer;
+    print::answer(answer);
+    let next = answered.session;
+    next
+}
+
+// The session after an add.
+pub fn added(session: Session, id: u64, request: Request) -> Session {
+    let answered = add(session, id, request);
+    let answer = answered.answer;
+    print::answer(answer);
+    let next = answered.session;
+    next
+}
+
+// The session after a turn.
+pub fn turned(session: Session) -> Session {
+    let mut list: [u64; 36] = [0; 36];
+    let answered = turn(session, &mut list);
+    print::turn(answered, &list);
+    let next = answered.session;
+    next
+}
+
+// A turn on an empty queue.
+pub fn empty_queue() {
+    print::text(b"empty queue\n");
+    turned(opened(S, 14));
+}
