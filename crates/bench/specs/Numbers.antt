@@ -1,0 +1,23 @@
+-- An answer of the planner as a number, for a caller in another language.
+use Prim.Native.Nat.{ℕ, _+_, _*_, _%_}
+use lib.ListN.{getD}
+use Rattle.requests.specs.declared.Device.the-variants.{G}
+use Rattle.requests.specs.declared.Setup.{Setup}
+use Rattle.requests.specs.Choice.{pick}
+use Rattle.plans.specs.declared.Place.{Place}
+use Rattle.plans.specs.declared.Found.{Found}
+use Rattle.plans.specs.Places.{first, second}
+use Rattle.plans.specs.Rows.{setOf}
+use Rattle.plans.specs.Found.{nothing}
+
+-- device G with the usable set of a number
+abbrev pub setupFor : ℕ → Setup
+setupFor usable = record { device = G; usable = setOf usable }
+
+-- the two numbers of a place, as digits to the base 8
+unfoldable pub digitsOf : Place → ℕ
+digitsOf p = first p % 8 * 8 + second p % 8
+
+-- 0 where there is no plan, and otherwise one more than the digits of request i's place
+unfoldable pub placeNumber : Found → ℕ → ℕ
+placeNumber found i = pick (found .found) (digitsOf (getD (found .places) i nothing .place) + 1) 0
