@@ -1,5 +1,4 @@
 // The four calls over numbers, for the Rust program of bench/ to link: lists of calls with all their answers, and runs of turns to time.
-use planner::Session;
 use planner::add::add;
 use planner::drop::drop_request;
 use planner::open::new_session;
@@ -10,6 +9,7 @@ use requests::CounterSet;
 use requests::Opening;
 use requests::Request;
 use requests::refusals::number_of;
+use sessions::Session;
 ghost use mathlib.Core.Path.{_≡_};
 ghost use Prim.Native.Nat.{_≤_};
 ghost use lib.ListN.{length};

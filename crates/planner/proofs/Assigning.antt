@@ -8,7 +8,7 @@ use Rattle.requests.specs.declared.Entry.{Entry}
 use Rattle.plans.specs.declared.Place.{Place}
 use Rattle.plans.specs.declared.Given.{Given}
 use Rattle.plans.specs.Found.{give}
-use Rattle.planner.specs.Turns.{requestsOf, assign}
+use Rattle.sessions.specs.Turns.{requestsOf, assign}
 use Rattle.planner.specs.Selections.{placesIn}
 
 pub requests-next : (es : List Entry) (e : Entry) → requestsOf (es ++ (e ∷ [])) ≡ requestsOf es ++ (e .request ∷ [])

@@ -9,9 +9,9 @@ use lib.Dec.{eqb}
 use lib.ListN.{length, take, drop, getD, set, replicate}
 use Rattle.requests.specs.declared.Entry.{Entry}
 use Rattle.requests.specs.Choice.{either, pick}
-use Rattle.planner.specs.Calls.{waits}
-use Rattle.planner.specs.Plain.{removed}
-use Rattle.planner.specs.Sessions.{queueLimit, vacant, padded}
+use Rattle.sessions.specs.Calls.{waits}
+use Rattle.sessions.specs.Plain.{removed}
+use Rattle.sessions.specs.Sessions.{queueLimit, vacant, padded}
 use Rattle.planner.proofs.Arrays.{array-push}
 use Rattle.planner.proofs.Windows.{window-past, window-step}
 

@@ -20,13 +20,13 @@ use Rattle.plans.proofs.RequestRows.{rows-length}
 use Rattle.plans.proofs.Unpacking.{some-packed, plan-unpacked}
 use Rattle.plans.proofs.PartsHold.{parts}
 use Rattle.plans.proofs.PlanLengthHolds.{plan-length}
-use Rattle.planner.specs.Turns.{requestsOf, taken, passed, placesOf}
-use Rattle.planner.specs.Sessions.{vacant, padded}
+use Rattle.sessions.specs.Turns.{requestsOf, taken, passed, placesOf}
+use Rattle.sessions.specs.Sessions.{vacant, padded}
 use Rattle.planner.specs.Selections.{inArray, Searched, selectionOf}
 use Rattle.planner.proofs.Arrays.{array-push}
 use Rattle.planner.proofs.Queues.{padded-push}
 use Rattle.planner.proofs.Assigning.{requests-next, requests-length}
-use Rattle.planner.proofs.Takes.{taking}
+use Rattle.sessions.proofs.Takes.{taking}
 use Rattle.planner.proofs.Searching.{found-plan, found-none}
 
 -- the arrays and numbers of the loop, where it has gone through q: the rows are the requests taken, and plan is the number of their plan

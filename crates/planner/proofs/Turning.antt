@@ -20,21 +20,21 @@ use Rattle.requests.specs.Devices.{capacity}
 use Rattle.plans.specs.Found.{give, given}
 use Rattle.plans.proofs.PartsHold.{parts}
 use Rattle.plans.proofs.PlanLengthHolds.{plan-length}
-use Rattle.registers.specs.declared.WriteAnswer.the-variants.{Written, TooShort}
-use Rattle.registers.specs.declared.Settings.{Settings}
-use Rattle.registers.specs.Settings.{settingsOf}
-use Rattle.registers.specs.Writes.{Write, writes, writesFor, filled}
-use Rattle.registers.specs.Slices.{tooShort, writeAnswer, writeSlice, Wrote}
-use Rattle.planner.specs.Choose.{takenAfter, passedAfter}
-use Rattle.planner.specs.Turns.{requestsOf, fits, taken, passed, turned, placesOf, assign, writesOf}
-use Rattle.planner.specs.Calls.{Turn, opened}
-use Rattle.planner.specs.Sessions.{queueLimit, vacant, queued, padded, sessionOf, refusedBy, turnAnswer, turnOf, turnSlice}
+use Rattle.layouts.specs.declared.WriteAnswer.the-variants.{Written, TooShort}
+use Rattle.layouts.specs.declared.Settings.{Settings}
+use Rattle.layouts.specs.Settings.{settingsOf}
+use Rattle.layouts.specs.Writes.{Write, writes, writesFor, filled}
+use Rattle.layouts.specs.Slices.{tooShort, writeAnswer, writeSlice, Wrote}
+use Rattle.sessions.specs.Choose.{takenAfter, passedAfter}
+use Rattle.sessions.specs.Turns.{requestsOf, fits, taken, passed, turned, placesOf, assign, writesOf}
+use Rattle.sessions.specs.Calls.{Turn, opened}
+use Rattle.sessions.specs.Sessions.{queueLimit, vacant, queued, padded, sessionOf, refusedBy, turnAnswer, turnOf, turnSlice}
 use Rattle.planner.specs.Selections.{placesIn, takenIn, placesTaken, passedIn, WithinLimits, selectionOf}
 use Rattle.planner.specs.declared.Selection.{Selection}
-use Rattle.planner.specs.declared.Session.{Session}
+use Rattle.sessions.specs.declared.Session.{Session}
 use Rattle.planner.proofs.Arrays.{array-take}
 use Rattle.planner.proofs.Assigning.{requests-length, places-given}
-use Rattle.planner.proofs.TakenPlan.{taken-first}
+use Rattle.sessions.proofs.TakenPlan.{taken-first}
 use Rattle.planner.proofs.TableAnswers.{plain-closed, plain-opened, turn-closed, turn-short, turn-accepted}
 
 -- ---- what is selected

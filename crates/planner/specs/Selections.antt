@@ -13,8 +13,8 @@ use Rattle.plans.specs.Search.{firstPlan}
 use Rattle.plans.specs.Found.{given}
 use Rattle.plans.specs.Rows.{rowsFrom}
 use Rattle.plans.specs.Packed.{packed}
-use Rattle.planner.specs.Turns.{taken, passed, placesOf}
-use Rattle.planner.specs.Sessions.{vacant, padded}
+use Rattle.sessions.specs.Turns.{taken, passed, placesOf}
+use Rattle.sessions.specs.Sessions.{vacant, padded}
 use Rattle.planner.specs.declared.Selection.{Selection}
 
 -- a list in an array of n places: d stands in those past its end

@@ -1,6 +1,4 @@
 // add: a request enters the queue at the back.
-use crate::Answered;
-use crate::Session;
 use crate::ids::outside_ids;
 use crate::queue::QUEUE_LIMIT;
 use crate::queue::waits;
@@ -13,12 +11,14 @@ use requests::Refusal;
 use requests::Request;
 use requests::Setup;
 use requests::check::request_refusal;
+use sessions::Answered;
+use sessions::Session;
 ghost use mathlib.Core.Path.{_≡_};
 ghost use mathlib.Core.List.{_∷_, []};
 ghost use Rattle.requests.specs.Refusals.{answerFor};
 ghost use Rattle.plans.specs.Search.{hasPlan};
-ghost use Rattle.planner.specs.Calls.{Add};
-ghost use Rattle.planner.specs.Sessions.{refusedBy, addOf};
+ghost use Rattle.sessions.specs.Calls.{Add};
+ghost use Rattle.sessions.specs.Sessions.{refusedBy, addOf};
 
 // Whether the request has a plan alone.
 fn plans_alone(setup: Setup, request: Request) -> bool

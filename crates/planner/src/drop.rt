@@ -1,15 +1,15 @@
 // drop: a request leaves the queue.
-use crate::Answered;
-use crate::Session;
 use crate::ids::outside_ids;
 use crate::queue::waits;
 use crate::queue::without_id;
 use requests::Answer;
 use requests::Refusal;
+use sessions::Answered;
+use sessions::Session;
 ghost use mathlib.Core.Path.{_≡_};
 ghost use Rattle.requests.specs.Refusals.{answerFor};
-ghost use Rattle.planner.specs.Calls.{Drop};
-ghost use Rattle.planner.specs.Sessions.{refusedBy, dropOf};
+ghost use Rattle.sessions.specs.Calls.{Drop};
+ghost use Rattle.sessions.specs.Sessions.{refusedBy, dropOf};
 
 // The answer to a drop, by the refusal table.
 fn drop_answer(session: Session, id: u64) -> Answer

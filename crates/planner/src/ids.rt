@@ -1,6 +1,6 @@
 // Ids of requests.
 ghost use mathlib.Core.Path.{_≡_};
-ghost use Rattle.planner.specs.Table.{outsideIds};
+ghost use Rattle.sessions.specs.Table.{outsideIds};
 
 // The largest id.
 const LAST_ID: u64 = 65535;

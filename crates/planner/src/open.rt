@@ -1,6 +1,4 @@
 // A new session, and open.
-use crate::Answered;
-use crate::Session;
 use crate::queue::vacant;
 use requests::Answer;
 use requests::CounterSet;
@@ -10,9 +8,11 @@ use requests::Opening;
 use requests::Refusal;
 use requests::Setup;
 use requests::devices::setup_of;
+use sessions::Answered;
+use sessions::Session;
 ghost use mathlib.Core.Path.{_≡_};
 ghost use mathlib.Core.List.{[]};
-ghost use Rattle.planner.specs.Sessions.{newSession, sessionOf, openOf};
+ghost use Rattle.sessions.specs.Sessions.{newSession, sessionOf, openOf};
 
 // The session before open.
 pub fn new_session() -> Session

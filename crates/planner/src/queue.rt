@@ -1,15 +1,15 @@
 // The queue in its array: entries in the first places, vacant places after them.
-use crate::Session;
 use requests::CounterSet;
 use requests::Entry;
 use requests::Request;
+use sessions::Session;
 ghost use mathlib.Core.Path.{_≡_};
 ghost use mathlib.Core.List.{_++_, _∷_, []};
 ghost use Prim.Native.Nat.{_<_, min};
 ghost use lib.ListN.{take};
-ghost use Rattle.planner.specs.Calls.{waits};
-ghost use Rattle.planner.specs.Plain.{removed};
-ghost use Rattle.planner.specs.Sessions.{vacant, queued, padded, sessionOf};
+ghost use Rattle.sessions.specs.Calls.{waits};
+ghost use Rattle.sessions.specs.Plain.{removed};
+ghost use Rattle.sessions.specs.Sessions.{vacant, queued, padded, sessionOf};
 
 // "The queue holds at most 16 requests"
 pub const QUEUE_LIMIT: usize = 16;

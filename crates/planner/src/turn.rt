@@ -1,27 +1,27 @@
 // turn: the next plan, and its write list.
-use crate::Assigned;
 use crate::Selection;
-use crate::Session;
-use crate::TurnAnswered;
 use crate::queue::vacant;
 use crate::select::selection_of;
+use layouts::Settings;
+use layouts::WriteAnswer;
 use plans::Place;
-use registers::Settings;
-use registers::WriteAnswer;
 use registers::plan_settings::settings_of;
 use registers::writer::write_list;
 use requests::Answer;
 use requests::Refusal;
 use requests::Request;
 use requests::Setup;
+use sessions::Assigned;
+use sessions::Session;
+use sessions::TurnAnswered;
 ghost use mathlib.Core.Path.{_≡_};
 ghost use mathlib.Core.List.{_++_, []};
 ghost use Prim.Native.Nat.{_≤_};
 ghost use lib.ListN.{length, take};
 ghost use Rattle.requests.specs.Devices.{capacity};
-ghost use Rattle.registers.specs.Settings.{settingsOf};
-ghost use Rattle.planner.specs.Turns.{requestsOf, assign};
-ghost use Rattle.planner.specs.Sessions.{sessionOf, unassigned, turnAnswer, turnOf, turnSlice};
+ghost use Rattle.layouts.specs.Settings.{settingsOf};
+ghost use Rattle.sessions.specs.Turns.{requestsOf, assign};
+ghost use Rattle.sessions.specs.Sessions.{sessionOf, unassigned, turnAnswer, turnOf, turnSlice};
 ghost use Rattle.planner.specs.Selections.{inArray, takenIn, placesTaken, passedIn, WithinLimits};
 
 // The requests of the entries taken.

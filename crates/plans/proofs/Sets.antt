@@ -2,7 +2,7 @@
 use mathlib.Core.Path.{_≡_, refl, ap, sym, _∙_}
 use mathlib.Core.Logic.{_≢_}
 use mathlib.Core.Bool.{true}
-use mathlib.Core.List.{List, [], _∷_}
+use mathlib.Core.List.{List, [], _∷_, _++_}
 use Prim.Native.Nat.{ℕ, zero, suc, _-_, _/_, _%_, _^_, _≤_}
 use native.Mathlib.Nat.{div-div-eq-div-mul, pow-succ', le-div-iff-mul-le, one-mul}
 use native.Mathlib.Omega.{arith}
@@ -58,6 +58,11 @@ has-self s k j h g e =
     let one : (s .0 - 2 ^ k) / 2 ^ j % 2 ≡ 1 = eqb-true _ _ g in
     let none : (s .0 - 2 ^ k) / 2 ^ k % 2 ≡ 0 = bit-self k (s .0) (eqb-true _ _ h) (has-le s k h) in
     omega (arith, rw (← e) at one)
+
+module _ {A : Type 0} {P : A → Type 0} where
+  pub all-append : {s t : List A} → All P s → All P t → All P (s ++ t)
+  all-append nil h = h
+  all-append (cons g gs) h = cons g (all-append gs h)
 
 module _ {A : Type 0} {P Q : A → Type 0} where
   pub all-imp : {l : List A} → ((a : A) → P a → Q a) → All P l → All Q l

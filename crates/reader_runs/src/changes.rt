@@ -3,7 +3,7 @@ use crate::compare::same;
 use crate::values::changed;
 use crate::values::given;
 use crate::values::looked_at;
-use registers::Reading;
+use layouts::Reading;
 use registers::reader::read;
 use requests::Answer;
 use requests::Opening;

@@ -1,7 +1,7 @@
 // Whether two readings tell the same.
-use registers::CounterState;
-use registers::FilterRead;
-use registers::Reading;
+use layouts::CounterState;
+use layouts::FilterRead;
+use layouts::Reading;
 use requests::Answer;
 
 fn accepted(reading: Reading) -> bool {

@@ -1,7 +1,7 @@
 // Prints what a reading tells, a line for each counter.
-use registers::CounterState;
-use registers::FilterRead;
-use registers::Reading;
+use layouts::CounterState;
+use layouts::FilterRead;
+use layouts::Reading;
 use requests::Device;
 
 // Standard output.

@@ -2,9 +2,9 @@
 use crate::changes;
 use crate::print;
 use crate::values::after;
+use layouts::Reading;
+use layouts::WriteAnswer;
 use plans::first_plan::first_plan;
-use registers::Reading;
-use registers::WriteAnswer;
 use registers::plan_settings::settings_of;
 use registers::writer::write_list;
 use requests::CounterSet;

@@ -1,6 +1,6 @@
 // The values of the registers that the reader is given, in one array: the control values of counters 0 to 3, and then the others.
-use registers::FilterValues;
-use registers::RegisterValues;
+use layouts::FilterValues;
+use layouts::RegisterValues;
 use requests::Device;
 use requests::Setup;
 use requests::set::has;

@@ -25,12 +25,12 @@ use Rattle.requests.specs.Refusals.{answerFor}
 use Rattle.requests.specs.Checks.{kindNotOn, notListed, outOfRange, requestRows, requestRefusal, formed}
 use Rattle.requests.proofs.MaskTests.{only-by-mask}
 use Rattle.requests.proofs.Tests.{both-false}
-use Rattle.registers.specs.Layout.{tabulate}
-use Rattle.registers.specs.Settings.{setFrom}
-use Rattle.registers.specs.Read.{ours, count, latencyFits}
-use Rattle.registers.specs.declared.RegisterValues.{RegisterValues}
-use Rattle.registers.proofs.Tabulated.{length-tabulate, getD-tabulate}
-use Rattle.registers.proofs.CounterSets.{set-below}
+use Rattle.layouts.specs.Layout.{tabulate}
+use Rattle.layouts.specs.Settings.{setFrom}
+use Rattle.layouts.specs.Read.{ours, count, latencyFits}
+use Rattle.layouts.specs.declared.RegisterValues.{RegisterValues}
+use Rattle.layouts.proofs.Tabulated.{length-tabulate, getD-tabulate}
+use Rattle.layouts.proofs.CounterSets.{set-below}
 
 -- ---- well-formed
 

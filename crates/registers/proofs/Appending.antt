@@ -11,8 +11,8 @@ use lib.Seq.{sets, length-sets}
 use Rattle.requests.specs.declared.CounterSet.{CounterSet}
 use Rattle.requests.specs.Choice.{pick}
 use Rattle.requests.specs.Devices.{has, size}
-use Rattle.registers.specs.Writes.{Write, row, rows, flat}
-use Rattle.registers.specs.Slices.{Appended}
+use Rattle.layouts.specs.Writes.{Write, row, rows, flat}
+use Rattle.layouts.specs.Slices.{Appended}
 
 flat-append : (xs ys : List Write) → flat (xs ++ ys) ≡ flat xs ++ flat ys
 unfolding flat

@@ -3,7 +3,7 @@ use Prim.Native.Nat.{_≤_}
 use native.Mathlib.Omega.{arith}
 use Rattle.requests.specs.declared.Device.{Device}
 use Rattle.requests.specs.declared.Device.the-variants.{G, S}
-use Rattle.registers.specs.Layout.{layoutOf, enabled}
+use Rattle.layouts.specs.Layout.{layoutOf, enabled}
 
 -- the enabled bits leave room for a code and a unit mask
 pub enabled-small : (d : Device) → enabled d ≤ 0xFFFFFF

@@ -8,7 +8,7 @@ use Rattle.requests.specs.declared.Device.{Device}
 use Rattle.requests.specs.declared.Device.the-variants.{G, S}
 use Rattle.requests.specs.declared.Setup.{Setup}
 use Rattle.requests.specs.Devices.{counterCount, allCounters}
-use Rattle.registers.specs.Writes.{unusable}
+use Rattle.layouts.specs.Writes.{unusable}
 
 -- one more than all counters is a power of two
 all-next : (d : Device) → allCounters d + 1 ≡ 2 ^ counterCount d

@@ -16,11 +16,11 @@ use Rattle.plans.specs.declared.Place.{Place}
 use Rattle.plans.specs.declared.Given.{Given}
 use Rattle.plans.specs.Places.{countersOf}
 use Rattle.plans.specs.Legal.{wordsOf, packetsOf, ofAll, counters}
-use Rattle.registers.specs.Layout.{tabulate}
-use Rattle.registers.specs.Settings.{usesOf, wordAt, setFrom, headOr, nonempty, settingsOf}
+use Rattle.layouts.specs.Layout.{tabulate}
+use Rattle.layouts.specs.Settings.{usesOf, wordAt, setFrom, headOr, nonempty, settingsOf}
 use Rattle.registers.specs.Adding.{withUses, withPackets, settingsWith}
 use Rattle.registers.proofs.UsedCounters.{setOf, used-more}
-use Rattle.registers.proofs.Tabulated.{tabulate-set}
+use Rattle.layouts.proofs.Tabulated.{tabulate-set}
 
 head-more : {A : Type 0} (a : A) (xs ys : List A) → headOr a (xs ++ ys) ≡ headOr (headOr a ys) xs
 head-more a [] ys = refl

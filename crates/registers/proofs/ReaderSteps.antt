@@ -16,13 +16,13 @@ use Rattle.requests.specs.declared.Opened.the-variants.{With, Nothing}
 use Rattle.requests.specs.declared.Setup.{Setup}
 use Rattle.requests.specs.Choice.{both, every, pick}
 use Rattle.requests.specs.Devices.{counterCount, openedAs}
-use Rattle.registers.specs.Layout.{mmEnable, rspWord, packetWord}
-use Rattle.registers.specs.Settings.{setFrom}
-use Rattle.registers.specs.Writes.{unusable}
-use Rattle.registers.specs.Read.{ours, count, controlFits, rsp1Fits, rsp0Fits, filtersFit, accepts}
-use Rattle.registers.specs.declared.FilterValues.{FilterValues}
-use Rattle.registers.specs.declared.RegisterValues.{RegisterValues}
-use Rattle.registers.proofs.CounterSets.{set-below}
+use Rattle.layouts.specs.Layout.{mmEnable, rspWord, packetWord}
+use Rattle.layouts.specs.Settings.{setFrom}
+use Rattle.layouts.specs.Writes.{unusable}
+use Rattle.layouts.specs.Read.{ours, count, controlFits, rsp1Fits, rsp0Fits, filtersFit, accepts}
+use Rattle.layouts.specs.declared.FilterValues.{FilterValues}
+use Rattle.layouts.specs.declared.RegisterValues.{RegisterValues}
+use Rattle.layouts.proofs.CounterSets.{set-below}
 
 -- ---- the filter registers
 

@@ -16,12 +16,12 @@ use Rattle.requests.specs.Choice.{pick}
 use Rattle.requests.specs.Devices.{size, counterCount, capacity}
 use Rattle.plans.proofs.Members.{size-at-most}
 use Rattle.plans.proofs.PlanLengthHolds.{plan-length}
-use Rattle.registers.specs.Layout.{layoutOf}
-use Rattle.registers.specs.Writes.{Write, row, rows, zeros, flat, filled, unusable, packetWrites, offcoreWrites, filterWrites, writesFor}
-use Rattle.registers.specs.Slices.{Appended, Wrote, tooShort, writeAnswer, writeSlice}
-use Rattle.registers.specs.declared.Layout.{Layout}
-use Rattle.registers.specs.declared.Settings.{Settings}
-use Rattle.registers.specs.declared.WriteAnswer.the-variants.{Written, TooShort}
+use Rattle.layouts.specs.Layout.{layoutOf}
+use Rattle.layouts.specs.Writes.{Write, row, rows, zeros, flat, filled, unusable, packetWrites, offcoreWrites, filterWrites, writesFor}
+use Rattle.layouts.specs.Slices.{Appended, Wrote, tooShort, writeAnswer, writeSlice}
+use Rattle.layouts.specs.declared.Layout.{Layout}
+use Rattle.layouts.specs.declared.Settings.{Settings}
+use Rattle.layouts.specs.declared.WriteAnswer.the-variants.{Written, TooShort}
 use Rattle.registers.proofs.Fields.{control-small, counter-small, step-small}
 use Rattle.registers.proofs.Appending.{appended-then, length-flat, length-rows}
 

@@ -12,8 +12,8 @@ use Rattle.requests.specs.Devices.{has, counterCount}
 use Rattle.plans.specs.declared.Place.{Place}
 use Rattle.plans.specs.Places.{countersOf}
 use Rattle.plans.specs.Legal.{wordsOf, packetsOf}
-use Rattle.registers.specs.Settings.{usesOf, headOr, nonempty}
-use Rattle.registers.specs.declared.Settings.{Settings}
+use Rattle.layouts.specs.Settings.{usesOf, headOr, nonempty}
+use Rattle.layouts.specs.declared.Settings.{Settings}
 
 -- the set with counter k, where the device has it
 unfoldable pub withCounter : Device → ℕ → CounterSet → CounterSet

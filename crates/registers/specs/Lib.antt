@@ -1,16 +1,1 @@
-pub mod Layout
-pub mod Settings
-pub mod Writes
-pub mod Read
-pub mod Told
-pub mod NoReservedBit
-pub mod OthersUntouched
-pub mod WriteCount
-pub mod RoundTrip
-pub mod ExactReader
-pub mod NotLookedAt
-pub mod EmptyPlan
-pub mod Examples
 pub mod Adding
-pub mod Slices
-pub mod ToldPlaces

@@ -1,6 +1,4 @@
 // Which register values some plan leaves.
-use crate::FilterValues;
-use crate::RegisterValues;
 use crate::global::counting_value;
 use crate::tables::MM_CFG_ENABLE;
 use crate::tables::code_of;
@@ -8,6 +6,8 @@ use crate::tables::event_word;
 use crate::tables::mask_of;
 use crate::tables::packet_word;
 use crate::tables::rsp_word;
+use layouts::FilterValues;
+use layouts::RegisterValues;
 use requests::Answer;
 use requests::CounterSet;
 use requests::Device;
@@ -27,9 +27,9 @@ ghost use lib.ListN.{getD};
 ghost use Rattle.requests.specs.Choice.{every, pick};
 ghost use Rattle.requests.specs.Devices.{capacity};
 ghost use Rattle.requests.specs.Checks.{formed};
-ghost use Rattle.registers.specs.Layout.{tabulate, mmEnable};
-ghost use Rattle.registers.specs.Settings.{setFrom};
-ghost use Rattle.registers.specs.Read.{ours, count, filterWord, controlFits, rsp1Fits, latencyFits, rsp0Fits, filtersFit, accepts};
+ghost use Rattle.layouts.specs.Layout.{tabulate, mmEnable};
+ghost use Rattle.layouts.specs.Settings.{setFrom};
+ghost use Rattle.layouts.specs.Read.{ours, count, filterWord, controlFits, rsp1Fits, latencyFits, rsp0Fits, filtersFit, accepts};
 
 // Whether none of the refusals 7 to 11 applies.
 fn formed(setup: Setup, request: Request) -> bool

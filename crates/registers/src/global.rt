@@ -5,7 +5,7 @@ use requests::devices::all_counters;
 ghost use mathlib.Core.Path.{_≡_};
 ghost use Prim.Native.Nat.{_+_, _%_, _^_};
 ghost use Rattle.requests.specs.Devices.{counterCount};
-ghost use Rattle.registers.specs.Writes.{unusable};
+ghost use Rattle.layouts.specs.Writes.{unusable};
 
 // The bits of the unusable counters.
 pub fn unusable_counters(setup: Setup) -> u64

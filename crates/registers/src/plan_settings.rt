@@ -1,8 +1,8 @@
 // The register values of a plan, one request after another from the last to the first.
-use crate::Settings;
 use crate::tables::event_word;
 use crate::tables::packet_word;
 use crate::tables::rsp_word;
+use layouts::Settings;
 use plans::Given;
 use plans::Place;
 use requests::CounterSet;
@@ -18,7 +18,7 @@ ghost use lib.ListN.{take, set};
 ghost use Rattle.requests.specs.Devices.{capacity};
 ghost use Rattle.plans.specs.Places.{first, second, countersOf};
 ghost use Rattle.plans.specs.Legal.{wordsOf};
-ghost use Rattle.registers.specs.Settings.{usesOf, headOr, settingsOf};
+ghost use Rattle.layouts.specs.Settings.{usesOf, headOr, settingsOf};
 ghost use Rattle.registers.specs.Adding.{withCounter, withCounters, withUses, withPackets, settingsWith};
 
 // The counter of a place, or the first of two.

@@ -1,16 +1,16 @@
 // The register reader: what each counter does, where some plan leaves the values.
-use crate::CounterRead;
-use crate::CounterState;
-use crate::FilterRead;
-use crate::FilterValues;
-use crate::Reading;
-use crate::RegisterValues;
 use crate::accept::accepts;
 use crate::accept::looked_at;
 use crate::tables::code_of;
 use crate::tables::mask_of;
 use crate::tables::packet_word;
 use crate::tables::rsp_word;
+use layouts::CounterRead;
+use layouts::CounterState;
+use layouts::FilterRead;
+use layouts::FilterValues;
+use layouts::Reading;
+use layouts::RegisterValues;
 use requests::Answer;
 use requests::Device;
 use requests::Opened;
@@ -21,7 +21,7 @@ use requests::devices::setup_of;
 use requests::set::has;
 ghost use mathlib.Core.Path.{_≡_};
 ghost use Rattle.requests.specs.Choice.{pick};
-ghost use Rattle.registers.specs.Read.{filterOf, tell, cell, readingOf, refusedReading, readOf};
+ghost use Rattle.layouts.specs.Read.{filterOf, tell, cell, readingOf, refusedReading, readOf};
 
 // The filter of a control word.
 fn filter_of(device: Device, filters: FilterValues, word: u64) -> FilterRead

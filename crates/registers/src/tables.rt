@@ -1,9 +1,9 @@
 // The register tables as data: addresses and field places, each with its name in the manual.
 // G: SDM volume 3 (IA32_*) and documents 001, 002 (MSR_OFFCORE_RSP*). S: document 004, section 2.5.
-use crate::Layout;
+use layouts::Layout;
 use requests::Device;
 ghost use mathlib.Core.Path.{_≡_};
-ghost use Rattle.registers.specs.Layout.{layoutOf, enabled, eventWord, rspWord, packetWord, codeOf, maskOf};
+ghost use Rattle.layouts.specs.Layout.{layoutOf, enabled, eventWord, rspWord, packetWord, codeOf, maskOf};
 
 // ---- addresses, G (SDM volume 3, architectural MSRs; document 001 for the RSP registers)
 

@@ -1,6 +1,4 @@
 // The write list of register values, into a slice that the caller lends.
-use crate::Settings;
-use crate::WriteAnswer;
 use crate::global::counting_value;
 use crate::global::unusable_counters;
 use crate::tables::MASK;
@@ -10,6 +8,8 @@ use crate::tables::MM_CFG_ENABLE;
 use crate::tables::OFFCORE_RSP0;
 use crate::tables::OFFCORE_RSP1;
 use crate::tables::layout_of;
+use layouts::Settings;
+use layouts::WriteAnswer;
 use requests::CounterSet;
 use requests::Device;
 use requests::Setup;
@@ -20,8 +20,8 @@ ghost use mathlib.Core.Path.{_≡_};
 ghost use Prim.Native.Nat.{_+_, _*_, _≤_};
 ghost use lib.ListN.{length};
 ghost use Rattle.requests.specs.Devices.{size, capacity};
-ghost use Rattle.registers.specs.Writes.{row, rows, offcoreWrites, packetWrites, filterWrites, writesFor};
-ghost use Rattle.registers.specs.Slices.{Appended, Wrote};
+ghost use Rattle.layouts.specs.Writes.{row, rows, offcoreWrites, packetWrites, filterWrites, writesFor};
+ghost use Rattle.layouts.specs.Slices.{Appended, Wrote};
 
 // How many writes the filter registers take.
 fn filter_count(device: Device, settings: Settings) -> usize

@@ -1,12 +1,13 @@
 -- What an opening opens, by the device of its letter. Assumes nothing.
-use mathlib.Core.Path.{_≡_, refl, ap, _∙_}
+use mathlib.Core.Path.{_≡_, refl, ap, sym, _∙_}
 use mathlib.Core.Bool.{Bool, true, false}
-use mathlib.Core.Option.{Option, none, some}
+use mathlib.Core.Option.{Option, none, some, Option·none-ne-some, Option·some-injective}
 use Prim.Native.Nat.{ℕ, _<_}
 use native.Mathlib.Omega.{arith}
-use borrow.Author.Tests.{eq-eqb, ne-eqb}
+use lib.Dec.{eqb}
+use borrow.Author.Tests.{eqb-true, eq-eqb, ne-eqb}
 use Rattle.requests.specs.Choice.{pick}
-use Rattle.requests.specs.Devices.{counterCount, letterOf, deviceOf, usableSet, setupOf, openedAs}
+use Rattle.requests.specs.Devices.{counterCount, letterOf, deviceOf, usableSet, setupOf, openingOf, openedAs}
 use Rattle.requests.specs.declared.CounterSet.{CounterSet}
 use Rattle.requests.specs.declared.Device.{Device}
 use Rattle.requests.specs.declared.Device.the-variants.{G, S}
@@ -65,3 +66,29 @@ unfolding setupOf openedAs
 opened-nothing o e =
     let refused : setupOf o ≡ none = rw (e, setupOf) in
     ap openedAs refused
+
+-- the letter that names a device is its own
+letter-is : (letter : ℕ) (d : Device) → deviceOf letter ≡ some d → letterOf d ≡ letter
+unfolding deviceOf
+letter-is letter d e = go (eqb letter (letterOf G)) (eqb letter (letterOf S)) refl refl
+  where
+    go : (g s : Bool) → eqb letter (letterOf G) ≡ g → eqb letter (letterOf S) ≡ s → letterOf d ≡ letter
+    go true s h k = ap letterOf (sym (Option·some-injective G d (rw (h, deviceOf) at e))) ∙ sym (eqb-true letter (letterOf G) h)
+    go false true h k = ap letterOf (sym (Option·some-injective S d (rw (h, k, deviceOf) at e))) ∙ sym (eqb-true letter (letterOf S) k)
+    go false false h k = absurd (Option·none-ne-some d (rw (h, k, deviceOf) at e))
+
+-- the setup of an opening is what it was given, as it was given
+pub opening-is : (o : Opening) (s : Setup) → setupOf o ≡ some s → openingOf s ≡ o
+unfolding setupOf openingOf
+opening-is o s e = go (deviceOf (o .device)) refl
+  where
+    given : (d : Device) → letterOf d ≡ o .device → record { device = d; usable = o .usable } ≡ s → openingOf s ≡ o
+    given d l k = ap openingOf (sym k) ∙ ap (λ (n : ℕ). record { device = n; usable = o .usable }) l
+
+    usable : (d : Device) → deviceOf (o .device) ≡ some d → (b : Bool) → usableSet d (o .usable) ≡ b → openingOf s ≡ o
+    usable d h true k = given d (letter-is (o .device) d h) (Option·some-injective (record { device = d; usable = o .usable }) s (rw (h, k, setupOf) at e))
+    usable d h false k = absurd (Option·none-ne-some s (rw (h, k, setupOf) at e))
+
+    go : (x : Option Device) → deviceOf (o .device) ≡ x → openingOf s ≡ o
+    go none h = absurd (Option·none-ne-some s (rw (h, setupOf) at e))
+    go (some d) h = usable d h (usableSet d (o .usable)) refl

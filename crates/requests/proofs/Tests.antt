@@ -1,5 +1,6 @@
 -- Laws of tests joined by `both`, `either` and `every`. Assumes nothing.
 use mathlib.Core.Path.{_≡_, refl, ap, ap₂, sym, _∙_}
+use mathlib.Core.Logic.{_⊎_, inl, inr}
 use mathlib.Core.Bool.{Bool, true, false}
 use Prim.Native.Nat.{ℕ, zero, suc, _<_}
 use native.Mathlib.Decide.{decLt}
@@ -50,6 +51,12 @@ pub either-parts : (a b : Bool) → either a b ≡ false → (a ≡ false) × (b
 unfolding either
 either-parts true b h = absurd (true-not-false h)
 either-parts false b h = (refl, h)
+
+-- one test of a choice that holds
+pub either-cases : (a b : Bool) → either a b ≡ true → (a ≡ true) ⊎ (b ≡ true)
+unfolding either
+either-cases true b e = inl refl
+either-cases false b e = inr e
 
 -- tests that agree below n agree on every number below n
 pub every-same : (n : ℕ) (p q : ℕ → Bool) → ((k : ℕ) → k < n → p k ≡ q k) → every n p ≡ every n q

@@ -5,7 +5,6 @@ use crate::calls::event;
 use crate::calls::opening;
 use crate::calls::turned;
 use crate::print;
-use planner::Session;
 use planner::drop::drop_request;
 use planner::open::open;
 use requests::CounterSet;
@@ -13,6 +12,7 @@ use requests::Device;
 use requests::Entry;
 use requests::Request;
 use requests::Setup;
+use sessions::Session;
 
 const ALL: u64 = 0xFFFF_FFFF_FFFF_FFFF;
 

@@ -1,6 +1,5 @@
 // Calls with their answers printed.
 use crate::print;
-use planner::Session;
 use planner::add::add;
 use planner::open::new_session;
 use planner::open::open;
@@ -8,6 +7,7 @@ use planner::turn::turn;
 use requests::CounterSet;
 use requests::Opening;
 use requests::Request;
+use sessions::Session;
 
 // The letters of the devices.
 pub const G: u64 = 71;

@@ -4,9 +4,9 @@ use crate::calls::added;
 use crate::calls::event;
 use crate::calls::opened;
 use crate::print;
-use planner::Session;
-use planner::TurnAnswered;
 use planner::turn::turn;
+use sessions::Session;
+use sessions::TurnAnswered;
 
 // Sixteen requests on counter 0 alone, under the ids 1 to 16.
 fn sixteen() -> Session {

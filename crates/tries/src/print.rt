@@ -1,12 +1,12 @@
 // Prints requests, sessions and answers, a line each.
-use planner::Session;
-use planner::TurnAnswered;
 use plans::Place;
 use requests::Answer;
 use requests::Device;
 use requests::Entry;
 use requests::Request;
 use requests::refusals::number_of;
+use sessions::Session;
+use sessions::TurnAnswered;
 
 // Standard output.
 const OUT: i32 = 1;

@@ -5,7 +5,6 @@ use crate::calls::event;
 use crate::calls::opened;
 use crate::calls::opening;
 use crate::print;
-use planner::Session;
 use planner::add::add;
 use planner::drop::drop_request;
 use planner::open::new_session;
@@ -14,6 +13,7 @@ use planner::turn::turn;
 use requests::Answer;
 use requests::CounterSet;
 use requests::Request;
+use sessions::Session;
 
 // A session and the slice that a call is lent.
 fn state(session: Session, slice: &[u64; 4]) {

@@ -4,8 +4,8 @@ use mathlib.Core.List.{[], _∷_, _++_}
 use borrow.Author.Needs.{needs}
 use native.Mathlib.Omega.{arith}
 use lib.ListN.{length, length-take}
-use Rattle.planner.specs.Calls.{Add}
-use Rattle.planner.specs.Sessions.{queued, sessionOf, refusedBy, addOf}
+use Rattle.sessions.specs.Calls.{Add}
+use Rattle.sessions.specs.Sessions.{queued, sessionOf, refusedBy, addOf}
 use Rattle.planner.proofs.Windows.{length-mapped}
 use Rattle.planner.proofs.TableAnswers.{answered-refused, answered-accepted, add-room}
 use Rattle.planner.proofs.add.add.Statement.{statement}

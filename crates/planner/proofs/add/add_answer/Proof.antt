@@ -12,9 +12,9 @@ use Rattle.requests.specs.declared.Refusal.the-variants.{CallOrder, BadId, IdWa
 use Rattle.requests.specs.Refusals.{answerFor}
 use Rattle.requests.specs.Checks.{requestRefusal}
 use Rattle.plans.specs.Search.{hasPlan}
-use Rattle.planner.specs.Calls.{Add, waits}
-use Rattle.planner.specs.Table.{outsideIds}
-use Rattle.planner.specs.Sessions.{queueLimit, queued}
+use Rattle.sessions.specs.Calls.{Add, waits}
+use Rattle.sessions.specs.Table.{outsideIds}
+use Rattle.sessions.specs.Sessions.{queueLimit, queued}
 use Rattle.planner.proofs.Windows.{length-mapped}
 use Rattle.planner.proofs.TableAnswers.{add-closed, add-bad-id, add-waiting, add-ill-formed, add-no-plan, add-full, add-accepted, answer-none, answer-some, answer-closed, answer-opened}
 use Rattle.planner.proofs.add.add_answer.Statement.{statement}

@@ -6,9 +6,9 @@ use borrow.Author.Needs.{needs}
 use borrow.Author.Tests.{not-true, not-false}
 use Rattle.requests.specs.declared.Refusal.the-variants.{CallOrder, BadId, IdNotWaiting}
 use Rattle.requests.specs.Refusals.{answerFor}
-use Rattle.planner.specs.Calls.{Drop, waits}
-use Rattle.planner.specs.Table.{outsideIds}
-use Rattle.planner.specs.Sessions.{queueLimit, queued}
+use Rattle.sessions.specs.Calls.{Drop, waits}
+use Rattle.sessions.specs.Table.{outsideIds}
+use Rattle.sessions.specs.Sessions.{queueLimit, queued}
 use Rattle.planner.proofs.TableAnswers.{drop-closed, drop-bad-id, drop-not-waiting, drop-accepted, answer-closed, answer-opened}
 use Rattle.planner.proofs.drop.drop_answer.Statement.{statement}
 use Rattle.planner.proofs.drop.drop_answer.Tie as tie

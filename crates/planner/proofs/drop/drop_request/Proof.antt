@@ -1,8 +1,8 @@
 -- `planner::drop::drop_request` is `dropOf`: by the answer of the table, with the session as it came or without the id.
 use borrow.Author.Needs.{needs}
-use Rattle.planner.specs.Calls.{Drop}
-use Rattle.planner.specs.Plain.{removed}
-use Rattle.planner.specs.Sessions.{queued, sessionOf, refusedBy, dropOf}
+use Rattle.sessions.specs.Calls.{Drop}
+use Rattle.sessions.specs.Plain.{removed}
+use Rattle.sessions.specs.Sessions.{queued, sessionOf, refusedBy, dropOf}
 use Rattle.planner.proofs.TableAnswers.{answered-refused, answered-accepted}
 use Rattle.planner.proofs.drop.drop_request.Statement.{statement}
 use Rattle.planner.proofs.drop.drop_request.Tie as tie

@@ -1,7 +1,7 @@
 -- `planner::ids::outside_ids` is `outsideIds`: by its two tests.
 use borrow.Author.Tests.{eq-eqb, ne-eqb}
 use Rattle.requests.specs.Choice.{either}
-use Rattle.planner.specs.Table.{outsideIds}
+use Rattle.sessions.specs.Table.{outsideIds}
 use Rattle.planner.proofs.ids.outside_ids.Statement.{statement}
 use Rattle.planner.proofs.ids.outside_ids.Tie as tie
 

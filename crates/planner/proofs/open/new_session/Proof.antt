@@ -1,6 +1,6 @@
 -- `planner::open::new_session` is `newSession`: by the law on a queue with nothing in it.
 use borrow.Author.Needs.{needs}
-use Rattle.planner.specs.Sessions.{newSession}
+use Rattle.sessions.specs.Sessions.{newSession}
 use Rattle.planner.proofs.Queues.{padded-none}
 use Rattle.planner.proofs.open.new_session.Statement.{statement}
 use Rattle.planner.proofs.open.new_session.Tie as tie

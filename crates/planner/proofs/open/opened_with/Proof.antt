@@ -1,6 +1,6 @@
 -- `planner::open::opened_with` is `sessionOf` with an empty queue: by the law on a queue with nothing in it.
 use borrow.Author.Needs.{needs}
-use Rattle.planner.specs.Sessions.{sessionOf}
+use Rattle.sessions.specs.Sessions.{sessionOf}
 use Rattle.planner.proofs.Queues.{padded-none}
 use Rattle.planner.proofs.open.opened_with.Statement.{statement}
 use Rattle.planner.proofs.open.opened_with.Tie as tie

@@ -4,7 +4,7 @@ use Prim.Native.Nat.{_-_, _≤_}
 use borrow.Author.Needs.{needs}
 use native.Mathlib.Omega.{arith}
 use lib.ListN.{length, take, length-take}
-use Rattle.planner.specs.Sessions.{padded}
+use Rattle.sessions.specs.Sessions.{padded}
 use Rattle.planner.proofs.Windows.{take-next, take-min}
 use Rattle.planner.proofs.Queues.{padded-none, padded-push}
 use Rattle.planner.proofs.queue.padded.Statement.{statement}

@@ -1,6 +1,6 @@
 -- `planner::queue::vacant` is `vacant`: both are computed.
 use mathlib.Core.Path.{refl}
-use Rattle.planner.specs.Sessions.{vacant}
+use Rattle.sessions.specs.Sessions.{vacant}
 use Rattle.planner.proofs.queue.vacant.Statement.{statement}
 use Rattle.planner.proofs.queue.vacant.Tie as tie
 

@@ -5,8 +5,8 @@ use Prim.Native.Nat.{_-_}
 use borrow.Author.Needs.{needs}
 use native.Mathlib.Omega.{arith}
 use lib.ListN.{length, take, drop}
-use Rattle.planner.specs.Calls.{waits}
-use Rattle.planner.specs.Sessions.{queued}
+use Rattle.sessions.specs.Calls.{waits}
+use Rattle.sessions.specs.Sessions.{queued}
 use Rattle.planner.proofs.Windows.{length-mapped}
 use Rattle.planner.proofs.Queues.{waits-past, waits-here, waits-later}
 use Rattle.planner.proofs.queue.waits.Statement.{statement}

@@ -5,7 +5,7 @@ use mathlib.Core.List.{[], _∷_, _++_}
 use borrow.Author.Needs.{needs}
 use native.Mathlib.Omega.{arith}
 use lib.ListN.{length, take, length-append, length-take}
-use Rattle.planner.specs.Sessions.{queued, sessionOf}
+use Rattle.sessions.specs.Sessions.{queued, sessionOf}
 use Rattle.planner.proofs.Windows.{length-mapped}
 use Rattle.planner.proofs.Queues.{padded-push}
 use Rattle.planner.proofs.queue.with_entry.Statement.{statement}

@@ -6,8 +6,8 @@ use Prim.Native.Nat.{_+_, _-_, _≤_}
 use borrow.Author.Needs.{needs}
 use native.Mathlib.Omega.{arith}
 use lib.ListN.{length, take, getD, length-append}
-use Rattle.planner.specs.Plain.{removed}
-use Rattle.planner.specs.Sessions.{queued, padded, sessionOf}
+use Rattle.sessions.specs.Plain.{removed}
+use Rattle.sessions.specs.Sessions.{queued, padded, sessionOf}
 use Rattle.planner.proofs.Windows.{length-mapped, take-next, take-min}
 use Rattle.planner.proofs.Queues.{padded-none, padded-push, removed-same, removed-other}
 use Rattle.planner.proofs.queue.without_id.Statement.{statement}

@@ -6,7 +6,7 @@ use borrow.Author.Needs.{needs}
 use native.Mathlib.Omega.{arith}
 use lib.ListN.{length, take, getD}
 use Rattle.requests.specs.Devices.{capacity}
-use Rattle.planner.specs.Sessions.{vacant}
+use Rattle.sessions.specs.Sessions.{vacant}
 use Rattle.planner.specs.Selections.{selectionOf}
 use Rattle.planner.proofs.Windows.{take-next, take-min}
 use Rattle.planner.proofs.Queues.{padded-none}

@@ -9,8 +9,8 @@ use lib.ListN.{length, take, getD}
 use lib.Seq.{length-take-le}
 use Rattle.requests.specs.Devices.{capacity}
 use Rattle.plans.specs.Found.{nothing}
-use Rattle.planner.specs.Turns.{assign}
-use Rattle.planner.specs.Sessions.{vacant, unassigned}
+use Rattle.sessions.specs.Turns.{assign}
+use Rattle.sessions.specs.Sessions.{vacant, unassigned}
 use Rattle.planner.specs.Selections.{inArray, placesIn}
 use Rattle.planner.proofs.Windows.{length-mapped, take-next}
 use Rattle.planner.proofs.Arrays.{array-push}

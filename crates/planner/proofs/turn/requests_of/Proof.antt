@@ -8,8 +8,8 @@ use native.Mathlib.Numerals.{add-one}
 use native.Mathlib.Omega.{arith}
 use lib.ListN.{length, take, getD, length-set}
 use lib.Seq.{take-suc-set}
-use Rattle.planner.specs.Turns.{requestsOf}
-use Rattle.planner.specs.Sessions.{vacant}
+use Rattle.sessions.specs.Turns.{requestsOf}
+use Rattle.sessions.specs.Sessions.{vacant}
 use Rattle.planner.proofs.Windows.{length-mapped, take-next}
 use Rattle.planner.proofs.Assigning.{requests-next}
 use Rattle.planner.proofs.turn.requests_of.Statement.{statement}

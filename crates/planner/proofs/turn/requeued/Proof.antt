@@ -7,7 +7,7 @@ use borrow.Author.Needs.{needs}
 use native.Mathlib.Omega.{arith}
 use lib.ListN.{length, take, getD, length-append, length-take}
 use lib.Seq.{length-take-le}
-use Rattle.planner.specs.Sessions.{vacant, padded, sessionOf}
+use Rattle.sessions.specs.Sessions.{vacant, padded, sessionOf}
 use Rattle.planner.specs.Selections.{passedIn, takenIn}
 use Rattle.planner.proofs.Windows.{length-mapped, take-next}
 use Rattle.planner.proofs.Queues.{padded-none, padded-push}

@@ -5,9 +5,9 @@ use native.Mathlib.Omega.{arith}
 use borrow.Author.Tests.{not-true, not-false}
 use denote.Ref.{now}
 use lib.ListN.{length, length-take}
-use Rattle.registers.specs.Slices.{Wrote}
-use Rattle.planner.specs.Turns.{taken, turned, writesOf}
-use Rattle.planner.specs.Sessions.{queued}
+use Rattle.layouts.specs.Slices.{Wrote}
+use Rattle.sessions.specs.Turns.{taken, turned, writesOf}
+use Rattle.sessions.specs.Sessions.{queued}
 use Rattle.planner.specs.Selections.{selectionOf}
 use Rattle.planner.proofs.Windows.{length-mapped}
 use Rattle.planner.proofs.Turning.{selection-taken, selection-passed, selection-places, selection-few, selection-within, selection-writes, turn-order, turn-refused, turn-written}

@@ -5,8 +5,8 @@ use borrow.Author.Needs.{needs}
 use native.Mathlib.Omega.{arith}
 use lib.ListN.{length}
 use lib.Seq.{length-take-le}
-use Rattle.planner.specs.Turns.{assign}
-use Rattle.planner.specs.Sessions.{turnAnswer}
+use Rattle.sessions.specs.Turns.{assign}
+use Rattle.sessions.specs.Sessions.{turnAnswer}
 use Rattle.planner.specs.Selections.{takenIn, placesTaken}
 use Rattle.planner.proofs.Windows.{length-mapped}
 use Rattle.planner.proofs.Assigning.{places-length, assign-length}

@@ -1,7 +1,7 @@
 -- `planner::turn::turn_refused` is `turnAnswer` with no plan and no writes: by the contract of `unassigned`.
 use borrow.Author.Needs.{needs}
 use Rattle.requests.specs.Devices.{capacity}
-use Rattle.planner.specs.Sessions.{turnAnswer}
+use Rattle.sessions.specs.Sessions.{turnAnswer}
 use Rattle.planner.proofs.turn.turn_refused.Statement.{statement}
 use Rattle.planner.proofs.turn.turn_refused.Tie as tie
 

@@ -1,6 +1,6 @@
 -- `planner::turn::unassigned` is `unassigned`: both are computed.
 use mathlib.Core.Path.{refl}
-use Rattle.planner.specs.Sessions.{unassigned}
+use Rattle.sessions.specs.Sessions.{unassigned}
 use Rattle.planner.proofs.turn.unassigned.Statement.{statement}
 use Rattle.planner.proofs.turn.unassigned.Tie as tie
 

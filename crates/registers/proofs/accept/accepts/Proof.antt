@@ -7,7 +7,7 @@ use lib.Dec.{eqb}
 use lib.ListN.{length, getD}
 use borrow.Author.Needs.{needs}
 use Rattle.requests.specs.Devices.{capacity}
-use Rattle.registers.specs.Read.{ours}
+use Rattle.layouts.specs.Read.{ours}
 use Rattle.plans.proofs.PlanLengthHolds.{plan-length}
 use Rattle.registers.proofs.Accepting.{looked}
 use Rattle.registers.proofs.ReaderSteps.{counting-set, accepts-by-filters, global-refused, controls-refused}

@@ -3,8 +3,8 @@ use mathlib.Core.Path.{_≡_, sym, _∙_}
 use borrow.Author.Needs.{needs}
 use borrow.Author.Tests.{eq-eqb, ne-eqb}
 use Rattle.requests.specs.Choice.{both, either}
-use Rattle.registers.specs.Layout.{eventWord, codeOf, maskOf}
-use Rattle.registers.specs.Read.{controlFits}
+use Rattle.layouts.specs.Layout.{eventWord, codeOf, maskOf}
+use Rattle.layouts.specs.Read.{controlFits}
 use Rattle.registers.proofs.accept.control_fits.Statement.{statement}
 use Rattle.registers.proofs.accept.control_fits.Tie as tie
 

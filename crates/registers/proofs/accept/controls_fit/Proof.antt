@@ -8,7 +8,7 @@ use borrow.Author.Tests.{not-true, not-false}
 use lib.ListN.{getD}
 use Rattle.requests.specs.Choice.{every}
 use Rattle.requests.specs.Devices.{capacity}
-use Rattle.registers.specs.Read.{controlFits}
+use Rattle.layouts.specs.Read.{controlFits}
 use Rattle.registers.proofs.Accepting.{every-next, every-fails}
 use Rattle.registers.proofs.accept.controls_fit.Statement.{statement}
 use Rattle.registers.proofs.accept.controls_fit.Tie as tie

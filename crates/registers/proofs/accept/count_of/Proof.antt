@@ -4,7 +4,7 @@ use Prim.Native.Nat.{_-_, _≤_}
 use native.Mathlib.Omega.{arith}
 use lib.ListN.{getD}
 use Rattle.requests.specs.Devices.{capacity}
-use Rattle.registers.specs.Read.{count}
+use Rattle.layouts.specs.Read.{count}
 use Rattle.registers.proofs.Accepting.{count-on, count-off}
 use Rattle.registers.proofs.accept.count_of.Statement.{statement}
 use Rattle.registers.proofs.accept.count_of.Tie as tie

@@ -4,8 +4,8 @@ use borrow.Author.Needs.{needs}
 use borrow.Author.Tests.{eq-eqb, ne-eqb}
 use Rattle.requests.specs.declared.Device.the-variants.{G}
 use Rattle.requests.specs.Choice.{either}
-use Rattle.registers.specs.Layout.{rspWord}
-use Rattle.registers.specs.Read.{filterWord}
+use Rattle.layouts.specs.Layout.{rspWord}
+use Rattle.layouts.specs.Read.{filterWord}
 use Rattle.registers.proofs.accept.filter_word.Statement.{statement}
 use Rattle.registers.proofs.accept.filter_word.Tie as tie
 

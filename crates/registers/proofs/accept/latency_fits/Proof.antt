@@ -7,7 +7,7 @@ use borrow.Author.Tests.{eq-eqb, ne-eqb}
 use Rattle.requests.specs.Choice.{both}
 use Rattle.requests.specs.Bits.{outstanding, latencyWord}
 use Rattle.requests.specs.Checks.{formed}
-use Rattle.registers.specs.Read.{latencyFits}
+use Rattle.layouts.specs.Read.{latencyFits}
 use Rattle.registers.proofs.Accepting.{latency-wide}
 use Rattle.registers.proofs.accept.latency_fits.Statement.{statement}
 use Rattle.registers.proofs.accept.latency_fits.Tie as tie

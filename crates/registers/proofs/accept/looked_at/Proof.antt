@@ -7,9 +7,9 @@ use borrow.Author.Needs.{needs}
 use lib.ListN.{getD, replicate}
 use Rattle.requests.specs.Choice.{pick}
 use Rattle.requests.specs.Devices.{has, capacity}
-use Rattle.registers.specs.Layout.{tabulate}
-use Rattle.registers.specs.Read.{ours}
-use Rattle.registers.proofs.Tabulated.{fill-next, fill-end}
+use Rattle.layouts.specs.Layout.{tabulate}
+use Rattle.layouts.specs.Read.{ours}
+use Rattle.layouts.proofs.Tabulated.{fill-next, fill-end}
 use Rattle.registers.proofs.accept.looked_at.Statement.{statement}
 use Rattle.registers.proofs.accept.looked_at.Tie as tie
 

@@ -1,6 +1,6 @@
 -- `mm_cfg_of` gives 0 or the enable bit.
 use borrow.Author.Tests.{eq-eqb, ne-eqb}
-use Rattle.registers.specs.Layout.{mmEnable}
+use Rattle.layouts.specs.Layout.{mmEnable}
 use Rattle.registers.proofs.accept.mm_cfg_of.Statement.{statement}
 use Rattle.registers.proofs.accept.mm_cfg_of.Tie as tie
 

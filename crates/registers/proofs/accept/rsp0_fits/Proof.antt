@@ -3,7 +3,7 @@ use mathlib.Core.Path.{sym, _∙_}
 use borrow.Author.Needs.{needs}
 use borrow.Author.Tests.{eq-eqb, ne-eqb}
 use Rattle.requests.specs.Choice.{either}
-use Rattle.registers.specs.Read.{rsp0Fits}
+use Rattle.layouts.specs.Read.{rsp0Fits}
 use Rattle.registers.proofs.accept.rsp0_fits.Statement.{statement}
 use Rattle.registers.proofs.accept.rsp0_fits.Tie as tie
 

@@ -1,7 +1,7 @@
 -- `rsp1_fits` tests the two cases of the definition.
 use borrow.Author.Needs.{needs}
 use borrow.Author.Tests.{eq-eqb, ne-eqb}
-use Rattle.registers.specs.Read.{rsp1Fits}
+use Rattle.layouts.specs.Read.{rsp1Fits}
 use Rattle.registers.proofs.accept.rsp1_fits.Statement.{statement}
 use Rattle.registers.proofs.accept.rsp1_fits.Tie as tie
 

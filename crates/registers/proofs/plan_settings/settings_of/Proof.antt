@@ -7,7 +7,7 @@ use borrow.Author.Needs.{needs}
 use lib.ListN.{length, take, drop}
 use Rattle.requests.specs.Devices.{capacity}
 use Rattle.plans.specs.declared.Given.{Given}
-use Rattle.registers.specs.Settings.{settingsOf}
+use Rattle.layouts.specs.Settings.{settingsOf}
 use Rattle.registers.specs.Adding.{settingsWith}
 use Rattle.registers.proofs.PlanSteps.{settings-none, settings-past, settings-before}
 use Rattle.registers.proofs.plan_settings.settings_of.Statement.{statement}

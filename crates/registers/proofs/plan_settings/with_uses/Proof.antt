@@ -1,6 +1,6 @@
 -- `with_uses` stores the control words of each kind of request.
 use borrow.Author.Needs.{needs}
-use Rattle.registers.specs.Settings.{usesOf}
+use Rattle.layouts.specs.Settings.{usesOf}
 use Rattle.registers.specs.Adding.{withUses}
 use Rattle.registers.proofs.plan_settings.with_uses.Statement.{statement}
 use Rattle.registers.proofs.plan_settings.with_uses.Tie as tie

@@ -3,8 +3,8 @@ use mathlib.Core.Path.{sym, _∙_}
 use borrow.Author.Needs.{needs}
 use borrow.Author.Tests.{eq-eqb, ne-eqb}
 use Rattle.requests.specs.declared.Device.the-variants.{G, S}
-use Rattle.registers.specs.Layout.{rspWord, packetWord}
-use Rattle.registers.specs.Read.{filterOf}
+use Rattle.layouts.specs.Layout.{rspWord, packetWord}
+use Rattle.layouts.specs.Read.{filterOf}
 use Rattle.registers.proofs.reader.filter_of.Statement.{statement}
 use Rattle.registers.proofs.reader.filter_of.Tie as tie
 

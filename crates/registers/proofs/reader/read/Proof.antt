@@ -3,7 +3,7 @@ use mathlib.Core.Path.{sym, _∙_}
 use borrow.Author.Needs.{needs}
 use Rattle.requests.specs.Devices.{setupOf}
 use Rattle.registers.proofs.ReaderSteps.{opened-with, opened-nothing}
-use Rattle.registers.proofs.ReaderAnswers.{read-unopened, read-accepted, read-not-left}
+use Rattle.layouts.proofs.ReaderAnswers.{read-unopened, read-accepted, read-not-left}
 use Rattle.registers.proofs.reader.read.Statement.{statement}
 use Rattle.registers.proofs.reader.read.Tie as tie
 

@@ -7,10 +7,10 @@ use lib.ListN.{length, getD, replicate}
 use borrow.Author.Needs.{needs}
 use Rattle.requests.specs.Choice.{pick}
 use Rattle.requests.specs.Devices.{has, capacity}
-use Rattle.registers.specs.declared.CounterState.the-variants.{NotOurs}
-use Rattle.registers.specs.Layout.{tabulate}
-use Rattle.registers.specs.Read.{tell, cell, readingOf}
-use Rattle.registers.proofs.Tabulated.{fill-next, fill-end}
+use Rattle.layouts.specs.declared.CounterState.the-variants.{NotOurs}
+use Rattle.layouts.specs.Layout.{tabulate}
+use Rattle.layouts.specs.Read.{tell, cell, readingOf}
+use Rattle.layouts.proofs.Tabulated.{fill-next, fill-end}
 use Rattle.registers.proofs.Accepting.{looked}
 use Rattle.registers.proofs.reader.reading_of.Statement.{statement}
 use Rattle.registers.proofs.reader.reading_of.Tie as tie

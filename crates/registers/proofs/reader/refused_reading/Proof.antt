@@ -1,7 +1,7 @@
 -- `refused_reading` has the refusal and an array of the same.
 use mathlib.Core.Path.{refl}
 use Rattle.requests.specs.Devices.{capacity}
-use Rattle.registers.specs.Read.{refusedReading}
+use Rattle.layouts.specs.Read.{refusedReading}
 use Rattle.registers.proofs.reader.refused_reading.Statement.{statement}
 use Rattle.registers.proofs.reader.refused_reading.Tie as tie
 

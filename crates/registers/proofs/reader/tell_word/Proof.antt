@@ -1,7 +1,7 @@
 -- `tell_word` tells a counter off where its word is 0, and otherwise the parts of its word.
 use borrow.Author.Needs.{needs}
 use borrow.Author.Tests.{eq-eqb, ne-eqb}
-use Rattle.registers.specs.Read.{tell}
+use Rattle.layouts.specs.Read.{tell}
 use Rattle.registers.proofs.reader.tell_word.Statement.{statement}
 use Rattle.registers.proofs.reader.tell_word.Tie as tie
 

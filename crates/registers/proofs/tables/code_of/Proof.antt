@@ -1,7 +1,7 @@
 -- `code_of` computes its definition.
 use mathlib.Core.Path.{refl}
 use borrow.Author.Needs.{needs}
-use Rattle.registers.specs.Layout.{codeOf}
+use Rattle.layouts.specs.Layout.{codeOf}
 use Rattle.registers.proofs.tables.code_of.Statement.{statement}
 use Rattle.registers.proofs.tables.code_of.Tie as tie
 

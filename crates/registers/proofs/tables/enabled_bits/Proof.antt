@@ -1,7 +1,7 @@
 -- `enabled_bits` gives each device's bits: the constants are those of the definition.
 use mathlib.Core.Path.{ap, sym}
 use borrow.Author.Needs.{needs}
-use Rattle.registers.specs.Layout.{enabled}
+use Rattle.layouts.specs.Layout.{enabled}
 use Rattle.registers.proofs.tables.enabled_bits.Statement.{statement}
 use Rattle.registers.proofs.tables.enabled_bits.Tie as tie
 

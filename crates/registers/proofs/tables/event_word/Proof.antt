@@ -1,7 +1,7 @@
 -- `event_word` is the sum of the definition, which fits by `enabled-small`.
 use native.Mathlib.Omega.{arith}
 use borrow.Author.Needs.{needs}
-use Rattle.registers.specs.Layout.{eventWord}
+use Rattle.layouts.specs.Layout.{eventWord}
 use Rattle.registers.proofs.Fields.{enabled-small}
 use Rattle.registers.proofs.tables.event_word.Statement.{statement}
 use Rattle.registers.proofs.tables.event_word.Tie as tie

@@ -1,7 +1,7 @@
 -- `layout_of` gives each device's layout: the constants are those of the definition.
 use mathlib.Core.Path.{ap, sym}
 use borrow.Author.Needs.{needs}
-use Rattle.registers.specs.Layout.{layoutOf}
+use Rattle.layouts.specs.Layout.{layoutOf}
 use Rattle.registers.proofs.tables.layout_of.Statement.{statement}
 use Rattle.registers.proofs.tables.layout_of.Tie as tie
 

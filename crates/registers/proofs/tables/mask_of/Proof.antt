@@ -1,7 +1,7 @@
 -- `mask_of` computes its definition.
 use mathlib.Core.Path.{refl}
 use borrow.Author.Needs.{needs}
-use Rattle.registers.specs.Layout.{maskOf}
+use Rattle.layouts.specs.Layout.{maskOf}
 use Rattle.registers.proofs.tables.mask_of.Statement.{statement}
 use Rattle.registers.proofs.tables.mask_of.Tie as tie
 

@@ -1,6 +1,6 @@
 -- `packet_word` is the event word with code 0 and unit mask 0.
 use borrow.Author.Needs.{needs}
-use Rattle.registers.specs.Layout.{packetWord}
+use Rattle.layouts.specs.Layout.{packetWord}
 use Rattle.registers.proofs.tables.packet_word.Statement.{statement}
 use Rattle.registers.proofs.tables.packet_word.Tie as tie
 

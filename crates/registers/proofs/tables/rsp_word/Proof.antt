@@ -1,7 +1,7 @@
 -- `rsp_word` is the event word with the register's unit mask.
 use borrow.Author.Needs.{needs}
 use borrow.Author.Tests.{eq-eqb, ne-eqb}
-use Rattle.registers.specs.Layout.{rspWord, rspMask, offcoreCode}
+use Rattle.layouts.specs.Layout.{rspWord, rspMask, offcoreCode}
 use Rattle.registers.proofs.tables.rsp_word.Statement.{statement}
 use Rattle.registers.proofs.tables.rsp_word.Tie as tie
 

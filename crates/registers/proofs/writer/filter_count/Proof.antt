@@ -1,6 +1,6 @@
 -- `filter_count` has the length of each device's filter writes.
 use borrow.Author.Needs.{needs}
-use Rattle.registers.specs.Writes.{filterWrites, offcoreWrites, packetWrites}
+use Rattle.layouts.specs.Writes.{filterWrites, offcoreWrites, packetWrites}
 use Rattle.registers.proofs.writer.filter_count.Statement.{statement}
 use Rattle.registers.proofs.writer.filter_count.Tie as tie
 

@@ -3,7 +3,7 @@ use native.Mathlib.Numerals.{add-one}
 use native.Mathlib.Omega.{arith}
 use borrow.Author.Needs.{needs}
 use lib.ListN.{length-set}
-use Rattle.registers.specs.Writes.{flat}
+use Rattle.layouts.specs.Writes.{flat}
 use Rattle.registers.proofs.Appending.{appended, appended-none}
 use Rattle.registers.proofs.writer.put.Statement.{statement}
 use Rattle.registers.proofs.writer.put.Tie as tie

@@ -1,6 +1,6 @@
 -- `put_filters` appends the filter writes of the device.
 use borrow.Author.Needs.{needs}
-use Rattle.registers.specs.Writes.{filterWrites}
+use Rattle.layouts.specs.Writes.{filterWrites}
 use Rattle.registers.proofs.writer.put_filters.Statement.{statement}
 use Rattle.registers.proofs.writer.put_filters.Tie as tie
 

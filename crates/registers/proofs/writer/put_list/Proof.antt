@@ -6,9 +6,9 @@ use lib.ListN.{length}
 use borrow.Author.Needs.{needs}
 use Rattle.requests.specs.declared.Setup.{Setup}
 use Rattle.requests.specs.Devices.{size, capacity}
-use Rattle.registers.specs.declared.Settings.{Settings}
-use Rattle.registers.specs.declared.Layout.{Layout}
-use Rattle.registers.specs.Writes.{filterWrites, writesFor, zeros}
+use Rattle.layouts.specs.declared.Settings.{Settings}
+use Rattle.layouts.specs.declared.Layout.{Layout}
+use Rattle.layouts.specs.Writes.{filterWrites, writesFor, zeros}
 use Rattle.registers.proofs.Appending.{length-rows}
 use Rattle.registers.proofs.WriteLengths.{list-appended, length-parts, parts-small}
 use Rattle.registers.proofs.writer.put_list.Statement.{statement}

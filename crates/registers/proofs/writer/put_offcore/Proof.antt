@@ -1,8 +1,8 @@
 -- `put_offcore` appends RSP0, then RSP1.
 use native.Mathlib.Omega.{arith}
 use borrow.Author.Needs.{needs}
-use Rattle.registers.specs.Layout.{rsp0At, rsp1At}
-use Rattle.registers.specs.Writes.{offcoreWrites}
+use Rattle.layouts.specs.Layout.{rsp0At, rsp1At}
+use Rattle.layouts.specs.Writes.{offcoreWrites}
 use Rattle.registers.proofs.Appending.{appended-then}
 use Rattle.registers.proofs.writer.put_offcore.Statement.{statement}
 use Rattle.registers.proofs.writer.put_offcore.Tie as tie

@@ -1,8 +1,8 @@
 -- `put_packets` appends one write, and three more where packets are counted.
 use native.Mathlib.Omega.{arith}
 use borrow.Author.Needs.{needs}
-use Rattle.registers.specs.Layout.{mmCfgAt, matchAt, maskAt, mmEnable}
-use Rattle.registers.specs.Writes.{packetWrites}
+use Rattle.layouts.specs.Layout.{mmCfgAt, matchAt, maskAt, mmEnable}
+use Rattle.layouts.specs.Writes.{packetWrites}
 use Rattle.registers.proofs.Appending.{appended-then}
 use Rattle.registers.proofs.WriteLengths.{length-packets}
 use Rattle.registers.proofs.writer.put_packets.Statement.{statement}

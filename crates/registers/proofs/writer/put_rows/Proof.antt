@@ -4,8 +4,8 @@ use Prim.Native.Nat.{_+_, _*_, _-_, _≤_}
 use native.Mathlib.Omega.{arith}
 use borrow.Author.Needs.{needs}
 use Rattle.requests.specs.Devices.{capacity}
-use Rattle.registers.specs.Writes.{rows}
-use Rattle.registers.specs.Slices.{Appended}
+use Rattle.layouts.specs.Writes.{rows}
+use Rattle.layouts.specs.Slices.{Appended}
 use Rattle.registers.proofs.Appending.{rows-next, rows-room, appended-none}
 use Rattle.registers.proofs.writer.put_rows.Statement.{statement}
 use Rattle.registers.proofs.writer.put_rows.Tie as tie

@@ -1,0 +1,261 @@
+-- Values that pass the reader's test are left by the writes of a plan: FoundPlans has the plan, and here are registers from which its writes leave the values.
+--     before          registers that hold what the writes do not change
+--     built-leaves    a plan with the words that are looked at leaves the values
+--     accepted-left   so do values that pass the test
+use mathlib.Core.Path.{_≡_, refl, sym, ap, subst, _∙_, fun-ext}
+use mathlib.Core.Logic.{_⊎_, inl, inr, ⊎-elim}
+use mathlib.Core.Bool.{Bool, true, false, not}
+use mathlib.Core.List.{List, [], _∷_, flatMap, List·Memᴰ, List·Memᴰ·head, List·Memᴰ·tail}
+use Prim.Native.Nat.{ℕ, zero, suc, _+_, _%_, _^_, _<_}
+use native.Mathlib.Decide.{ℕ-discrete}
+use native.Mathlib.Omega.{arith}
+use borrow.Author.Tests.{eqb-true, eq-eqb, ne-eqb, leb-true}
+use lib.Dec.{eqb}
+use lib.ListN.{length, getD}
+use Rattle.requests.specs.Choice.{every, pick}
+use Rattle.requests.specs.declared.CounterSet.{CounterSet}
+use Rattle.requests.specs.declared.Device.{Device}
+use Rattle.requests.specs.declared.Device.the-variants.{G, S}
+use Rattle.requests.specs.declared.Setup.{Setup}
+use Rattle.requests.specs.declared.Request.the-variants.{Offcore, Latency}
+use Rattle.requests.specs.Bits.{inList, outstanding, latencyWord}
+use Rattle.requests.specs.Devices.{has, counterCount}
+use Rattle.requests.specs.Checks.{formed}
+use Rattle.requests.specs.WellFormedRequests.{Described}
+use Rattle.requests.proofs.Tests.{both-parts, every-at, either-cases}
+use Rattle.plans.specs.Lists.{All, cons}
+use Rattle.plans.specs.Legal.{Usable, Legal, wordsOf, packetsOf, ofAll, counters}
+use Rattle.plans.proofs.Sets.{all-imp}
+use Rattle.layouts.specs.Layout.{layoutOf, controlAt, filtersAt, matchAt, maskAt, mmEnable, rspWord, packetWord}
+use Rattle.layouts.specs.Settings.{wordAt, setFrom, headOr, nonempty}
+use Rattle.layouts.specs.Writes.{rows, unusable, writes, apply}
+use Rattle.layouts.specs.Read.{ours, noCounter, count, controlFits, rsp0Fits, rsp1Fits, latencyFits, filtersFit, accepts}
+use Rattle.layouts.specs.ExactReader.{FiltersShow, LeavesValues}
+use Rattle.layouts.specs.declared.RegisterValues.{RegisterValues}
+use Rattle.layouts.proofs.ListLaws.{all-member}
+use Rattle.layouts.proofs.CounterSets.{bit-set, set-same}
+use Rattle.layouts.proofs.RegisterAddresses.{in-room, apart}
+use Rattle.layouts.proofs.RegistersAfter.{apply-after, after-other, rows-all, rows-at}
+use Rattle.layouts.proofs.Counts.{hits}
+use Rattle.layouts.proofs.UsableSets.{on, Within, usable-counter}
+use Rattle.layouts.proofs.ControlWords.{word-some, plan-words}
+use Rattle.layouts.proofs.FormedRequests.{form-all, passes-described}
+use Rattle.layouts.proofs.PlanWords.{usesIn, used-word, count-uses, control-left, global-left}
+use Rattle.layouts.proofs.PlanFilters.{packets-fit, rsp-hits, packet-hits, rsp-some, packet-some}
+use Rattle.layouts.proofs.LeftValues.{rsp0-left, rsp1-left, mm-cfg-left, match-left, mask-left, kept, zero-fits}
+use Rattle.layouts.proofs.BuiltPlans.{Built}
+use Rattle.layouts.proofs.FoundPlans.{Words, plain-G, plain-S, paired}
+
+-- ---- registers from which the values are left
+
+-- every counter of the device
+every-counter : Device → CounterSet
+every-counter d = record { 0 = setFrom (counterCount d) 0 (λ k. true) }
+
+-- registers that hold the control values, and the match and mask words
+before : Device → RegisterValues → ℕ → ℕ
+before d v =
+    apply (rows (counterCount d) (every-counter d) (layoutOf d .control) (layoutOf d .step) (v .control))
+    (λ a. pick (eqb matchAt a) (v .filters .«match_word») (v .filters .«mask_word»))
+
+before-control : (d : Device) (v : RegisterValues) (k : ℕ) → k < counterCount d → before d v (controlAt d k) ≡ getD (v .control) k 0
+unfolding before every-counter controlAt has
+before-control d v k l =
+    let values = rows (counterCount d) (every-counter d) (layoutOf d .control) (layoutOf d .step) (v .control) in
+    let r : ℕ → ℕ = λ a. pick (eqb matchAt a) (v .filters .«match_word») (v .filters .«mask_word») in
+    apply-after values r (controlAt d k)
+    ∙ rows-at (every-counter d) (layoutOf d .control) (layoutOf d .step) (v .control) (apart d .control-control) (counterCount d) k (r (controlAt d k)) l
+    ∙ rw (bit-set (counterCount d) 0 k (λ j. true) l)
+
+-- a filter register is none of the control registers
+before-filter : (d : Device) (v : RegisterValues) (a : ℕ) → List·Memᴰ a (filtersAt d) → before d v a ≡ pick (eqb matchAt a) (v .filters .«match_word») (v .filters .«mask_word»)
+unfolding before controlAt
+before-filter d v a m =
+    let values = rows (counterCount d) (every-counter d) (layoutOf d .control) (layoutOf d .step) (v .control) in
+    let r : ℕ → ℕ = λ x. pick (eqb matchAt x) (v .filters .«match_word») (v .filters .«mask_word») in
+    apply-after values r a
+    ∙ after-other a (r a) (rows-all (λ w. w .0 ≡ a → ⊥) (every-counter d) (layoutOf d .control) (layoutOf d .step) (v .control) (counterCount d)
+    (λ k l h e. all-member (apart d .filter-control k (in-room d k l)) m (sym e)))
+
+before-match : (v : RegisterValues) → before S v matchAt ≡ v .filters .«match_word»
+unfolding filtersAt matchAt
+before-match v = before-filter S v matchAt (List·Memᴰ·tail (List·Memᴰ·head refl))
+
+before-mask : (v : RegisterValues) → before S v maskAt ≡ v .filters .«mask_word»
+unfolding filtersAt matchAt maskAt
+before-mask v = before-filter S v maskAt (List·Memᴰ·tail (List·Memᴰ·tail (List·Memᴰ·head refl)))
+
+-- ---- a plan that is found leaves the values
+
+-- the first word of a register that has the word of all its users, and 0 where it is unused
+head-is : (v : ℕ) (ws : List ℕ) → All (λ (w : ℕ). w ≡ v) ws → (length ws ≡ 0 → v ≡ 0) → headOr 0 ws ≡ v
+head-is v [] h e = sym (e refl)
+head-is v (w ∷ ws) (cons h hs) e = h
+
+module _ (s : Setup) (v : RegisterValues) (a b : ℕ) (q : ℕ × ℕ) (built : Built s a b q (ours s v)) where
+  abbrev us : List (ℕ × ℕ)
+  us = usesIn s (built .requests) (built .places)
+
+  built-legal : Legal s (built .requests) (built .places)
+  built-legal =
+      record {
+        differ = built .differ;
+        usable-only = built .usable-only;
+        allowed = built .allowed;
+        one-word = one-word;
+        one-packet = (q, built .packet);
+      }
+    where
+      one-word : (i : ℕ) → i < 2 → (value : ℕ) × All (λ (w : ℕ). w ≡ value) (ofAll (wordsOf i) (built .requests) (built .places))
+      one-word zero l = (a, built .rsp0)
+      one-word (suc zero) l = (b, built .rsp1)
+      one-word (suc (suc i)) l = absurd (omega arith)
+
+  built-words : wordAt us ≡ ours s v
+  built-words = fun-ext (built .words)
+
+  built-used : (k : ℕ) → inList (counters (built .places)) k ≡ not (eqb (ours s v k) 0)
+  built-used k =
+      used-word s (built .requests) (built .places) built-legal (all-imp (λ u w. word-some s (u .1) w) (plan-words s (built .described) (built .allowed))) k
+      ∙ ap (λ (w : ℕ). not (eqb w 0)) (built .words k)
+
+  built-count : (w : ℕ) → (w ≡ 0 → ⊥) → count (counterCount (s .device)) (ours s v) w ≡ hits w us
+  built-count w n = ap (λ (f : ℕ → ℕ). count (counterCount (s .device)) f w) (sym built-words) ∙ count-uses s (built .requests) (built .places) built-legal w n
+
+  built-leaves : FiltersShow (s .device) (v .filters) (apply (writes s (built .requests) (built .places)) (before (s .device) v))
+      → v .global ≡ unusable s + setFrom (counterCount (s .device)) 0 (λ k. not (eqb (ours s v k) 0)) → LeavesValues s v
+  unfolding ours
+  built-leaves shown e =
+      record {
+        requests = built .requests;
+        places = built .places;
+        before = before (s .device) v;
+        formed = form-all s (built .described);
+        legal = built-legal;
+        shown = record {
+          control = λ k l. sym (control-left s (built .requests) (built .places) (before (s .device) v) k l
+              ∙ rw (built-used k, built .words k, before-control (s .device) v k l) (looked-at k (has (s .usable) k)));
+          filters = shown;
+          global = e
+              ∙ ap (λ (x : ℕ). unusable s + x) (set-same (counterCount (s .device)) 0 (λ k. not (eqb (ours s v k) 0)) (inList (counters (built .places))) (λ k l. sym (built-used (0 + k))))
+              ∙ sym (global-left s (built .requests) (built .places) (before (s .device) v));
+        };
+      }
+    where
+      looked-at : (k : ℕ) (h : Bool) → pick (not (eqb (pick h (getD (v .control) k 0) 0) 0)) (pick h (getD (v .control) k 0) 0) (pick h 0 (getD (v .control) k 0)) ≡ getD (v .control) k 0
+      looked-at k true = kept (getD (v .control) k 0)
+      looked-at k false = refl
+
+module _ (u : CounterSet) (v : RegisterValues) where
+  -- the global value that the test asks for
+  abbrev Counted : Device → Type 0
+  Counted d = v .global ≡ unusable (on d u) + setFrom (counterCount d) 0 (λ k. not (eqb (ours (on d u) v k) 0))
+
+  -- an RSP register without a counter is 0
+  abbrev ZeroUnused : ℕ → ℕ → Type 0
+  ZeroUnused i w = count (counterCount G) (ours (on G u) v) (rspWord G i) ≡ 0 → w ≡ 0
+
+  leaves-G : Built (on G u) (v .filters .rsp0) (v .filters .rsp1) (0, 0) (ours (on G u) v) → ZeroUnused 0 (v .filters .rsp0) → ZeroUnused 1 (v .filters .rsp1) → Counted G
+      → LeavesValues (on G u) v
+  leaves-G built zero0 zero1 e =
+      let s = on G u in
+      let w0 = v .filters .rsp0 in
+      let w1 = v .filters .rsp1 in
+      let on0 = built-count s v w0 w1 (0, 0) built (rspWord G 0) (rsp-some 0) ∙ rsp-hits u 0 (omega arith) (built .described) (built .allowed) in
+      let on1 = built-count s v w0 w1 (0, 0) built (rspWord G 1) (rsp-some 1) ∙ rsp-hits u 1 (omega arith) (built .described) (built .allowed) in
+      built-leaves s v w0 w1 (0, 0) built (
+        sym (rsp0-left u (built .requests) (built .places) (before G v) ∙ head-is w0 (ofAll (wordsOf 0) (built .requests) (built .places)) (built .rsp0) (λ z. zero0 (on0 ∙ z))),
+        sym (rsp1-left u (built .requests) (built .places) (before G v) ∙ head-is w1 (ofAll (wordsOf 1) (built .requests) (built .places)) (built .rsp1) (λ z. zero1 (on1 ∙ z))),
+      ) e
+
+  -- the words of the match/mask register, where a packet request asks for them or nobody does
+  packet-words : (asked : List (ℕ × ℕ)) (x y : ℕ) → All (λ (p : ℕ × ℕ). p ≡ (x, y)) asked
+      → (x ≡ pick (nonempty asked) (headOr (0, 0) asked .0) x) × (y ≡ pick (nonempty asked) (headOr (0, 0) asked .1) y)
+  packet-words [] x y h = (refl, refl)
+  packet-words (p ∷ ps) x y (cons h hs) = (sym (ap (λ (r : ℕ × ℕ). r .0) h), sym (ap (λ (r : ℕ × ℕ). r .1) h))
+
+  leaves-S : Built (on S u) 0 0 (v .filters .«match_word», v .filters .«mask_word») (ours (on S u) v)
+      → v .filters .«mm_cfg» ≡ pick (eqb (count (counterCount S) (ours (on S u) v) (packetWord S)) 0) 0 (2 ^ mmEnable) → Counted S → LeavesValues (on S u) v
+  leaves-S built m e =
+      let s = on S u in
+      let x = v .filters .«match_word» in
+      let y = v .filters .«mask_word» in
+      let asked = flatMap packetsOf (built .requests) in
+      let packets = built-count s v 0 0 (x, y) built (packetWord S) packet-some ∙ packet-hits u (built .described) (built .allowed) in
+      let held = packet-words asked x y (built .packet) in
+      built-leaves s v 0 0 (x, y) built (
+        m ∙ ap (λ (n : ℕ). pick (eqb n 0) 0 (2 ^ mmEnable)) packets ∙ sym (packets-fit asked) ∙ sym (mm-cfg-left u (built .requests) (built .places) (before S v)),
+        sym (match-left u (built .requests) (built .places) (before S v) ∙ rw (before-match v) (sym (held .0))),
+        sym (mask-left u (built .requests) (built .places) (before S v) ∙ rw (before-mask v) (sym (held .1))),
+      ) e
+
+-- ---- from the test to a plan
+
+pick-zero : (n : ℕ) (a b : Bool) → pick (eqb n 0) a b ≡ true → n ≡ 0 → a ≡ true
+pick-zero n a b t e = rw (eq-eqb n 0 e) at t
+
+pick-cases : (n : ℕ) (a b : Bool) → pick (eqb n 0) a b ≡ true → (n ≡ 0) ⊎ (b ≡ true)
+pick-cases n a b t = elim (ℕ-discrete n 0) [ yes e ↦ inl e | no o ↦ inr (rw (ne-eqb n 0 o) at t) ]
+
+-- the control values that are looked at, where each fits
+ours-words : (s : Setup) (v : RegisterValues) → Within s → every (counterCount (s .device)) (λ k. controlFits s (ours s v k)) ≡ true → Words s (ours s v)
+unfolding ours
+ours-words s v within t = record { fits = λ k. fit k (has (s .usable) k) refl; usable = λ k. placed k (has (s .usable) k) refl }
+  where
+    fit : (k : ℕ) (b : Bool) → has (s .usable) k ≡ b → controlFits s (pick b (getD (v .control) k 0) 0) ≡ true
+    fit k true h = rw h at (every-at (counterCount (s .device)) (λ j. controlFits s (pick (has (s .usable) j) (getD (v .control) j 0) 0)) t k (usable-counter s k within h))
+    fit k false h = zero-fits s
+
+    placed : (k : ℕ) (b : Bool) → has (s .usable) k ≡ b → (pick b (getD (v .control) k 0) 0 ≡ 0) ⊎ Usable s k
+    placed k true h = inr (usable-counter s k within h, h)
+    placed k false h = inl refl
+
+module _ (u : CounterSet) (v : RegisterValues) where
+  found-G : Within (on G u) → Words (on G u) (ours (on G u) v) → filtersFit (on G u) (ours (on G u) v) (v .filters) ≡ true → Counted u v G → LeavesValues (on G u) v
+  unfolding filtersFit rsp0Fits rsp1Fits latencyFits
+  found-G within w t e =
+      let s = on G u in
+      let f = ours (on G u) v in
+      let w0 = v .filters .rsp0 in
+      let w1 = v .filters .rsp1 in
+      let n0 = count (counterCount G) f (rspWord G 0) in
+      let n1 = count (counterCount G) f (rspWord G 1) in
+      let parts = both-parts _ _ t in
+      let zero1 : n1 ≡ 0 → w1 ≡ 0 = λ z. eqb-true w1 0 (pick-zero n1 (eqb w1 0) (formed s (Offcore w1 noCounter)) (parts .0) z) in
+      let zero0 : n0 ≡ 0 → w0 ≡ 0 = λ z. eqb-true w0 0 (pick-zero n0 (eqb w0 0) _ (parts .1) z) in
+      let second : (n1 ≡ 0) ⊎ Described s (Offcore w1 noCounter) =
+      ⊎-elim (λ z. inl z) (λ h. inr (passes-described s (Offcore w1 noCounter) h)) (pick-cases n1 (eqb w1 0) (formed s (Offcore w1 noCounter)) (parts .0)) in
+      ⊎-elim
+      (λ z. leaves-G u v (plain-G u within w0 w1 (0, 0) f w (inl z) second) zero0 zero1 e)
+      (λ h. ⊎-elim
+      (λ offcore. leaves-G u v (plain-G u within w0 w1 (0, 0) f w (inr (passes-described s (Offcore w0 noCounter) offcore)) second) zero0 zero1 e)
+      (λ latency.
+      let types = w0 % 2 ^ outstanding in
+      let first-part = both-parts _ _ latency in
+      let types-part = both-parts _ _ (first-part .1) in
+      let second-part = both-parts _ _ (types-part .1) in
+      let built = paired u within types (passes-described s (Latency types noCounter noCounter) (types-part .0)) (0, 0) n0 f w refl (leb-true n0 n1 (second-part .1)) in
+      let held0 : latencyWord 0 types ≡ w0 = sym (eqb-true w0 (latencyWord 0 types) (first-part .0)) in
+      let held1 : latencyWord 1 types ≡ w1 = sym (eqb-true w1 (latencyWord 1 types) (second-part .0)) in
+      leaves-G u v
+      (subst (λ (x : ℕ). Built s x w1 (0, 0) f) held0 (subst (λ (y : ℕ). Built s (latencyWord 0 types) y (0, 0) f) held1 built)) zero0 zero1 e)
+      (either-cases _ _ h))
+      (pick-cases n0 (eqb w0 0) _ (parts .1))
+
+  found-S : Within (on S u) → Words (on S u) (ours (on S u) v) → filtersFit (on S u) (ours (on S u) v) (v .filters) ≡ true → Counted u v S → LeavesValues (on S u) v
+  unfolding filtersFit
+  found-S within w t e =
+      leaves-S u v (plain-S u within 0 0 (v .filters .«match_word», v .filters .«mask_word») (ours (on S u) v) w)
+      (eqb-true (v .filters .«mm_cfg») (pick (eqb (count (counterCount S) (ours (on S u) v) (packetWord S)) 0) 0 (2 ^ mmEnable)) t) e
+
+  found : (d : Device) → Within (on d u) → Words (on d u) (ours (on d u) v) → filtersFit (on d u) (ours (on d u) v) (v .filters) ≡ true → Counted u v d → LeavesValues (on d u) v
+  found G within w t e = found-G within w t e
+  found S within w t e = found-S within w t e
+
+pub accepted-left : (s : Setup) (v : RegisterValues) → Within s → accepts s v ≡ true → LeavesValues s v
+unfolding accepts
+accepted-left s v within h =
+    let words = both-parts _ _ h in
+    let rest = both-parts _ _ (words .1) in
+    found (s .usable) v (s .device) within (ours-words s v within (words .0)) (rest .1)
+    (eqb-true (v .global) (unusable s + setFrom (counterCount (s .device)) 0 (λ k. not (eqb (ours s v k) 0))) (rest .0))

@@ -1,0 +1,212 @@
+-- No reserved bit of the published layouts is set: `NoReservedBit`, write by write (`writes-all`), register by register.
+use mathlib.Core.Path.{_≡_, refl, sym, subst}
+use mathlib.Core.Logic.{inl, inr, ⊎-elim}
+use mathlib.Core.Bool.{Bool, true, false, not}
+use mathlib.Core.List.{List, [], _∷_, List·Memᴰ, List·Memᴰ·head, List·Memᴰ·tail, List·Memᴰ·cases-cons, flatMap}
+use Prim.Native.Nat.{ℕ, _+_, _%_, _^_, _≤_, _<_}
+use native.Mathlib.Decide.{decLt}
+use native.Mathlib.Omega.{arith}
+use lib.ListN.{getD}
+use lib.Pow.{pow-mono}
+use Rattle.requests.specs.Choice.{both, either, every}
+use Rattle.requests.specs.declared.CounterSet.{CounterSet}
+use Rattle.requests.specs.declared.Device.{Device}
+use Rattle.requests.specs.declared.Device.the-variants.{G, S}
+use Rattle.requests.specs.declared.Setup.{Setup}
+use Rattle.requests.specs.declared.Request.{Request}
+use Rattle.requests.specs.declared.Request.the-variants.{Offcore}
+use Rattle.requests.specs.Bits.{bit, inList, onlyBits, outstanding, rsp0Bits, rsp1Bits}
+use Rattle.requests.specs.Devices.{has, counterCount, capacity}
+use Rattle.requests.specs.WellFormedRequests.{Described, offcore, latency}
+use Rattle.requests.proofs.Tests.{every-at}
+use Rattle.plans.specs.declared.Place.{Place}
+use Rattle.plans.specs.Lists.{All, nil, cons, Each}
+use Rattle.plans.specs.Legal.{Allowed, Legal, wordsOf, packetsOf, ofAll, counters}
+use Rattle.plans.proofs.Sets.{all-imp}
+use Rattle.plans.proofs.PlanLengthHolds.{plan-length}
+use Rattle.layouts.specs.Layout.{tabulate, Register, registersOf, layoutOf, controlAt, counterAt, filtersAt, rsp0At, rsp1At, mmCfgAt, matchAt, maskAt, mmEnable, globalBits, controlBits}
+use Rattle.layouts.specs.Settings.{usesOf, wordAt, setFrom, headOr, nonempty, settingsOf}
+use Rattle.layouts.specs.Writes.{Write, unusable, offcoreWrites, packetWrites, filterWrites, writes}
+use Rattle.layouts.specs.Read.{noCounter}
+use Rattle.layouts.specs.NoReservedBit.{Clean, AsksOutstanding, NoReservedBit}
+use Rattle.layouts.proofs.UsableSets.{on}
+use Rattle.layouts.proofs.JoinedTests.{true-false}
+use Rattle.layouts.proofs.ListLaws.{all-member, all-head, tabulate-member}
+use Rattle.layouts.proofs.Tabulated.{getD-tabulate}
+use Rattle.layouts.proofs.WordBits.{bit-zero, bit-above, bits-only, zero-only}
+use Rattle.layouts.proofs.CounterSets.{set-below}
+use Rattle.layouts.proofs.RegisterAddresses.{in-room, enable-bits, apart}
+use Rattle.layouts.proofs.RegistersAfter.{writes-all}
+use Rattle.layouts.proofs.GlobalValues.{unusable-set, global-set}
+use Rattle.layouts.proofs.ControlWords.{word-clean, plan-words, word-at}
+use Rattle.layouts.proofs.OffcoreWords.{offcore-clean, offcore-plain, first-clean}
+use Rattle.layouts.proofs.AskedWords.{FirstWord, offcore-word, latency-word, first-words, second-words}
+use Rattle.layouts.proofs.FormedRequests.{describe-all}
+
+-- ---- the registers that have reserved bits
+
+-- the filter registers among them
+filterRegisters : Device → List Register
+filterRegisters G = (rsp0At, rsp0Bits) ∷ (rsp1At, rsp1Bits) ∷ []
+filterRegisters S = (mmCfgAt, mmEnable ∷ []) ∷ []
+
+filter-among : (d : Device) → All (λ (r : Register). List·Memᴰ (r .0) (filtersAt d)) (filterRegisters d)
+unfolding filterRegisters filtersAt
+filter-among G = cons (List·Memᴰ·head refl) (cons (List·Memᴰ·tail (List·Memᴰ·head refl)) nil)
+filter-among S = cons (List·Memᴰ·head refl) nil
+
+-- what holds of each of them
+registers-all : (d : Device) (P : Register → Type 0) → P (layoutOf d .global, globalBits d) → All P (filterRegisters d)
+    → ((k : ℕ) → k < counterCount d → P (controlAt d k, controlBits d)) → (r : Register) → List·Memᴰ r (registersOf d) → P r
+unfolding registersOf filterRegisters
+registers-all d P global filters controls r m = go d global filters controls m
+  where
+    control-among : (d : Device) → ((k : ℕ) → k < counterCount d → P (controlAt d k, controlBits d)) → List·Memᴰ r (tabulate (counterCount d) (λ k. (controlAt d k, controlBits d))) → P r
+    control-among d controls m = let t = tabulate-member (counterCount d) (λ k. (controlAt d k, controlBits d)) r m in subst P (sym (t .2)) (controls (t .0) (t .1))
+
+    go : (d : Device) → P (layoutOf d .global, globalBits d) → All P (filterRegisters d) → ((k : ℕ) → k < counterCount d → P (controlAt d k, controlBits d)) → List·Memᴰ r (registersOf d) → P r
+    go G global (cons f0 (cons f1 nil)) controls m =
+        ⊎-elim (λ e. subst P (sym e) global)
+        (λ m1. ⊎-elim (λ e. subst P (sym e) f0) (λ m2. ⊎-elim (λ e. subst P (sym e) f1) (λ m3. control-among G controls m3) (List·Memᴰ·cases-cons m2)) (List·Memᴰ·cases-cons m1))
+        (List·Memᴰ·cases-cons m)
+    go S global (cons f0 nil) controls m =
+        ⊎-elim (λ e. subst P (sym e) global)
+        (λ m1. ⊎-elim (λ e. subst P (sym e) f0) (λ m2. control-among S controls m2) (List·Memᴰ·cases-cons m1))
+        (List·Memᴰ·cases-cons m)
+
+-- ---- writes
+
+zero-clean : (s : Setup) (a : ℕ) → Clean s (a, 0)
+zero-clean s a r m e = zero-only (r .1)
+
+-- a set of the device's counters has only enable bits
+set-clean : (d : Device) (on : ℕ → Bool) → onlyBits (globalBits d) (setFrom (counterCount d) 0 on) ≡ true
+unfolding capacity
+set-clean d on =
+    let small : 2 ^ counterCount d ≤ 2 ^ 8 = pow-mono (plan-length .device-at-most d) in
+    let l = set-below (counterCount d) 0 on in
+    bits-only (globalBits d) (setFrom (counterCount d) 0 on) (omega arith) (λ k b. elim (decLt k (counterCount d)) [
+      | yes y ↦ inr (every-at (counterCount d) (inList (globalBits d)) (enable-bits d) k y)
+      | no o ↦ let more : 2 ^ counterCount d ≤ 2 ^ k = pow-mono (let y = o in omega arith) in
+          inl (bit-above k (setFrom (counterCount d) 0 on) (omega arith))
+    ])
+
+global-clean : (s : Setup) (v : ℕ) → onlyBits (globalBits (s .device)) v ≡ true → Clean s (layoutOf (s .device) .global, v)
+global-clean s v h =
+    let d = s .device in
+    registers-all d (λ r. layoutOf d .global ≡ r .0 → onlyBits (r .1) v ≡ true)
+    (λ e. h)
+    (all-imp (λ r m e. absurd (all-member (apart d .filter-global) m (sym e))) (filter-among d))
+    (λ k l e. absurd (apart d .global-control k (in-room d k l) e))
+
+control-clean : (s : Setup) (k w : ℕ) → k < counterCount (s .device) → onlyBits (controlBits (s .device)) w ≡ true → Clean s (controlAt (s .device) k, w)
+control-clean s k w l h =
+    let d = s .device in
+    registers-all d (λ r. controlAt d k ≡ r .0 → onlyBits (r .1) w ≡ true)
+    (λ e. absurd (apart d .global-control k (in-room d k l) (sym e)))
+    (all-imp (λ r m e. absurd (all-member (apart d .filter-control k (in-room d k l)) m (sym e))) (filter-among d))
+    (λ j b e. h)
+
+-- a write of a filter register, seen by the filter registers alone
+filter-clean : (s : Setup) (a w : ℕ) → List·Memᴰ a (filtersAt (s .device)) → All (λ (r : Register). a ≡ r .0 → onlyBits (r .1) w ≡ true) (filterRegisters (s .device)) → Clean s (a, w)
+filter-clean s a w m h =
+    let d = s .device in
+    registers-all d (λ r. a ≡ r .0 → onlyBits (r .1) w ≡ true)
+    (λ e. absurd (all-member (apart d .filter-global) m e))
+    h
+    (λ k l e. absurd (all-member (apart d .filter-control k (in-room d k l)) m e))
+
+-- ---- the filter writes of a plan
+
+first-word-clean : (s : Setup) (rs : List Request) (w : ℕ) → FirstWord s rs w → onlyBits rsp0Bits w ≡ true
+first-word-clean s rs w (offcore-word (offcore g h t o c)) = offcore-clean w h
+first-word-clean s rs w (latency-word t a b m (latency g h o c d) e) = rw e (first-clean t h)
+
+second-word-clean : (s : Setup) (w : ℕ) → Described s (Offcore w noCounter) → onlyBits rsp1Bits w ≡ true
+second-word-clean s w (offcore g h t o c) = h
+
+enable-clean : onlyBits (mmEnable ∷ []) (2 ^ mmEnable) ≡ true
+unfolding mmEnable onlyBits both every either bit inList
+enable-clean = refl
+
+packets-clean : (u : CounterSet) (b : Bool) (x y : ℕ) → All (Clean (on S u)) (packetWrites b x y)
+unfolding packetWrites filterRegisters filtersAt mmCfgAt matchAt maskAt
+packets-clean u true x y =
+    cons (zero-clean (on S u) mmCfgAt)
+    (cons (filter-clean (on S u) matchAt x (List·Memᴰ·tail (List·Memᴰ·head refl)) (cons (λ e. absurd (omega arith)) nil))
+    (cons (filter-clean (on S u) maskAt y (List·Memᴰ·tail (List·Memᴰ·tail (List·Memᴰ·head refl))) (cons (λ e. absurd (omega arith)) nil))
+    (cons (filter-clean (on S u) mmCfgAt (2 ^ mmEnable) (List·Memᴰ·head refl) (cons (λ e. enable-clean) nil)) nil)))
+packets-clean u false x y = cons (zero-clean (on S u) mmCfgAt) nil
+
+filters-clean : (d : Device) (u : CounterSet) (rs : List Request) (ps : List Place) → All (Described (on d u)) rs → Each Allowed rs ps
+    → All (Clean (on d u)) (filterWrites d (settingsOf d rs ps))
+unfolding filterWrites offcoreWrites settingsOf filterRegisters filtersAt rsp0At rsp1At
+filters-clean G u rs ps f h =
+    let first : onlyBits rsp0Bits (headOr 0 (ofAll (wordsOf 0) rs ps)) ≡ true =
+    all-head 0 (ofAll (wordsOf 0) rs ps) (zero-only rsp0Bits) (all-imp (λ w a. first-word-clean (on G u) rs w a) (first-words (on G u) f h)) in
+    let second : onlyBits rsp1Bits (headOr 0 (ofAll (wordsOf 1) rs ps)) ≡ true =
+    all-head 0 (ofAll (wordsOf 1) rs ps) (zero-only rsp1Bits) (all-imp (λ w a. second-word-clean (on G u) w a) (second-words (on G u) f h)) in
+    cons (filter-clean (on G u) rsp0At _ (List·Memᴰ·head refl) (cons (λ e. first) (cons (λ e. absurd (omega arith)) nil)))
+    (cons (filter-clean (on G u) rsp1At _ (List·Memᴰ·tail (List·Memᴰ·head refl)) (cons (λ e. absurd (omega arith)) (cons (λ e. second) nil))) nil)
+filters-clean S u rs ps f h = packets-clean u (nonempty (flatMap packetsOf rs)) (headOr (0, 0) (flatMap packetsOf rs) .0) (headOr (0, 0) (flatMap packetsOf rs) .1)
+
+-- ---- the list
+
+module _ (s : Setup) (rs : List Request) (ps : List Place) (described : All (Described s) rs) (legal : Legal s rs ps) where
+  clean : All (Clean s) (writes s rs ps)
+  unfolding writes settingsOf
+  clean =
+      let d = s .device in
+      let us = ofAll (usesOf (s .device)) rs ps in
+      writes-all s (settingsOf d rs ps) (Clean s)
+      (global-clean s (unusable s) (rw (unusable-set s) (set-clean d (λ k. not (has (s .usable) k)))))
+      (λ k l h. zero-clean s (controlAt d k))
+      (filters-clean d (s .usable) rs ps described (legal .allowed))
+      (λ k l h. zero-clean s (counterAt d k))
+      (λ k l h. control-clean s k (getD (tabulate capacity (wordAt us)) k 0) l
+      (rw (getD-tabulate capacity (wordAt us) k 0 (in-room d k l))
+      (word-at (λ w. onlyBits (controlBits d) w ≡ true) us k (zero-only (controlBits d)) (all-imp (λ x w. word-clean s (x .1) w) (plan-words s described (legal .allowed))))))
+      (global-clean s (unusable s + settingsOf d rs ps .used .0 % 2 ^ counterCount d)
+      (rw (global-set s rs ps legal) (set-clean d (λ k. either (not (has (s .usable) k)) (inList (counters ps) k)))))
+
+-- a word of RSP0 with bit 38 is a latency request's
+first-latency : (s : Setup) (rs : List Request) (w : ℕ) → FirstWord s rs w → bit outstanding w ≡ true → AsksOutstanding rs w
+first-latency s rs w (offcore-word (offcore g h t o c)) held = absurd (true-false held (offcore-plain w h))
+first-latency s rs w (latency-word t a b m h e) held = (t, a, b, m, e)
+
+latency-writes : (d : Device) (u : CounterSet) (rs : List Request) (ps : List Place) → d ≡ G → All (Described (on d u)) rs → Each Allowed rs ps
+    → All (λ (w : Write). w .0 ≡ rsp0At → bit outstanding (w .1) ≡ true → AsksOutstanding rs (w .1)) (filterWrites d (settingsOf d rs ps))
+unfolding filterWrites offcoreWrites settingsOf rsp0At rsp1At
+latency-writes G u rs ps g f h =
+    let first : bit outstanding (headOr 0 (ofAll (wordsOf 0) rs ps)) ≡ true → AsksOutstanding rs (headOr 0 (ofAll (wordsOf 0) rs ps)) =
+    all-head {P = λ w. bit outstanding w ≡ true → AsksOutstanding rs w} 0 (ofAll (wordsOf 0) rs ps) (λ e. absurd (true-false e (bit-zero outstanding)))
+    (all-imp (λ w a. first-latency (on G u) rs w a) (first-words (on G u) f h)) in
+    cons (λ e. first) (cons (λ (e : rsp1At ≡ rsp0At). absurd (omega arith)) nil)
+latency-writes S u rs ps g f h = let z : _≡_ {A = ℕ} 0 1 = cc in absurd (omega arith)
+
+rsp0-filter : List·Memᴰ rsp0At (filtersAt G)
+unfolding filtersAt
+rsp0-filter = List·Memᴰ·head refl
+
+latency-only : (s : Setup) (rs : List Request) (ps : List Place) (w : ℕ) → s .device ≡ G → All (Described s) rs → Legal s rs ps
+    → List·Memᴰ (rsp0At, w) (writes s rs ps) → bit outstanding w ≡ true → AsksOutstanding rs w
+unfolding writes
+latency-only s rs ps w g described legal m held =
+    let d = s .device in
+    let filter : List·Memᴰ rsp0At (filtersAt d) = subst (λ (x : Device). List·Memᴰ rsp0At (filtersAt x)) (sym g) rsp0-filter in
+    all-member
+    (writes-all s (settingsOf d rs ps) (λ x. x .0 ≡ rsp0At → bit outstanding (x .1) ≡ true → AsksOutstanding rs (x .1))
+    (λ e. absurd (all-member (apart d .filter-global) filter (sym e)))
+    (λ k l h e. absurd (all-member (apart d .filter-control k (in-room d k l)) filter (sym e)))
+    (latency-writes d (s .usable) rs ps g described (legal .allowed))
+    (λ k l h e. absurd (all-member (apart d .filter-counter k (in-room d k l)) filter (sym e)))
+    (λ k l h e. absurd (all-member (apart d .filter-control k (in-room d k l)) filter (sym e)))
+    (λ e. absurd (all-member (apart d .filter-global) filter (sym e))))
+    m refl held
+
+pub no-reserved-bit : NoReservedBit
+no-reserved-bit =
+    record {
+      clean = λ s rs ps f legal. clean s rs ps (describe-all s f) legal;
+      latency-only = λ s rs ps w g f legal m held. latency-only s rs ps w g (describe-all s f) legal m held;
+    }

@@ -1,0 +1,121 @@
+-- What the reader tells of a plan's control word is what the plan has at that counter. Assumes nothing.
+--     tell-plan   counter by counter, where the filter registers hold what the requests ask for
+use mathlib.Core.Path.{_≡_, refl, sym, ap, _∙_}
+use mathlib.Core.Bool.{Bool, true, false}
+use mathlib.Core.Option.{none, some}
+use mathlib.Core.List.{List, [], _∷_, flatMap}
+use Prim.Native.Nat.{ℕ, zero, suc}
+use native.Mathlib.Omega.{arith}
+use borrow.Author.Tests.{ne-eqb}
+use lib.Dec.{eqb}
+use Rattle.requests.specs.Choice.{pick}
+use Rattle.requests.specs.declared.CounterSet.{CounterSet}
+use Rattle.requests.specs.declared.Device.{Device}
+use Rattle.requests.specs.declared.Device.the-variants.{G, S}
+use Rattle.requests.specs.declared.Request.{Request}
+use Rattle.requests.specs.Bits.{latencyWord}
+use Rattle.requests.specs.Catalogue.{eventsOf, pairIn}
+use Rattle.requests.specs.WellFormedRequests.{Described, event, packet, offcore, latency}
+use Rattle.plans.specs.declared.Place.{Place}
+use Rattle.plans.specs.Lists as lists
+use Rattle.plans.specs.Lists.{All, nil, cons, Each, and}
+use Rattle.plans.specs.Places.{first, second}
+use Rattle.plans.specs.Legal.{Allowed, wordsOf, packetsOf, ofAll}
+use Rattle.plans.specs.Legal as plans
+use Rattle.layouts.specs.Layout.{eventWord, enabled, codeOf, maskOf, offcoreCode, rspMask, rspWord, packetWord}
+use Rattle.layouts.specs.Settings.{usesOf, wordAt}
+use Rattle.layouts.specs.Read.{filterOf, tell}
+use Rattle.layouts.specs.Told.{Told, counting, told, toldOf, toldAt}
+use Rattle.layouts.specs.declared.FilterValues.{FilterValues}
+use Rattle.layouts.proofs.UsableSets.{on}
+use Rattle.layouts.proofs.ControlWords.{listed, word-parts}
+use Rattle.layouts.proofs.PlanFilters.{devices-differ, event-not-rsp, event-not-packet}
+
+-- ---- one word
+
+-- a counter that has no use is off
+tell-none : (d : Device) (v : FilterValues) (k : ℕ) → told (tell d v (wordAt [] k)) ≡ toldAt [] k
+unfolding tell told wordAt toldAt
+tell-none d v k = refl
+
+tell-event : (d : Device) (v : FilterValues) (c m : ℕ) → pairIn (eventsOf d) c m ≡ true → told (tell d v (eventWord d c m)) ≡ counting c m none []
+unfolding tell told filterOf
+tell-event G v c m h =
+    let l = listed G c m h in
+    let p = word-parts G c m (l .code) (l .mask) in
+    rw (ne-eqb (eventWord G c m) 0 (p .some-bit), p .code, p .mask, ne-eqb (eventWord G c m) (rspWord G 0) (event-not-rsp c m 0 h), ne-eqb (eventWord G c m) (rspWord G 1) (event-not-rsp c m 1 h))
+tell-event S v c m h =
+    let l = listed S c m h in
+    let p = word-parts S c m (l .code) (l .mask) in
+    rw (ne-eqb (eventWord S c m) 0 (p .some-bit), p .code, p .mask, ne-eqb (eventWord S c m) (packetWord S) (event-not-packet c m h))
+
+tell-rsp0 : (v : FilterValues) → told (tell G v (rspWord G 0)) ≡ counting offcoreCode (rspMask 0) (some 0) (v .rsp0 ∷ [])
+unfolding tell told filterOf rspWord eventWord enabled offcoreCode rspMask codeOf maskOf
+tell-rsp0 v = refl
+
+tell-rsp1 : (v : FilterValues) → told (tell G v (rspWord G 1)) ≡ counting offcoreCode (rspMask 1) (some 1) (v .rsp1 ∷ [])
+unfolding tell told filterOf rspWord eventWord enabled offcoreCode rspMask codeOf maskOf
+tell-rsp1 v = refl
+
+tell-packet : (v : FilterValues) → told (tell S v (packetWord S)) ≡ counting 0 0 none (v .«match_word» ∷ v .«mask_word» ∷ [])
+unfolding tell told filterOf packetWord eventWord enabled codeOf maskOf
+tell-packet v = refl
+
+-- ---- one counter
+
+module _ (d : Device) (v : FilterValues) (k : ℕ) where
+  -- one use more, with what is to be told of it
+  tell-use : (j w : ℕ) (t : Told) (us : List (ℕ × ℕ)) (ts : List (ℕ × Told)) → told (tell d v w) ≡ t → told (tell d v (wordAt us k)) ≡ toldAt ts k
+      → told (tell d v (wordAt ((j, w) ∷ us) k)) ≡ toldAt ((j, t) ∷ ts) k
+  unfolding wordAt toldAt
+  tell-use j w t us ts e q = go (eqb j k)
+    where
+      go : (b : Bool) → told (tell d v (pick b w (wordAt us k))) ≡ pick b t (toldAt ts k)
+      go true = e
+      go false = q
+
+-- the filter registers hold what the requests ask for
+abbrev pub Holds : Device → List Request → List Place → FilterValues → Type 0
+Holds G rs ps v = All (λ (w : ℕ). w ≡ v .rsp0) (ofAll (wordsOf 0) rs ps) × All (λ (w : ℕ). w ≡ v .rsp1) (ofAll (wordsOf 1) rs ps)
+Holds S rs ps v = All (λ (p : ℕ × ℕ). p ≡ (v .«match_word», v .«mask_word»)) (flatMap packetsOf rs)
+
+module _ (u : CounterSet) (v : FilterValues) (k : ℕ) where
+  tell-G : {rs : List Request} {ps : List Place} → All (Described (on G u)) rs → Each Allowed rs ps
+      → All (λ (w : ℕ). w ≡ v .rsp0) (ofAll (wordsOf 0) rs ps) → All (λ (w : ℕ). w ≡ v .rsp1) (ofAll (wordsOf 1) rs ps)
+      → told (tell G v (wordAt (ofAll (usesOf G) rs ps) k)) ≡ toldAt (ofAll toldOf rs ps) k
+  unfolding ofAll usesOf toldOf wordsOf first second
+  tell-G nil lists.none xs ys = tell-none G v k
+  tell-G (cons (event {c = c} {m = m} h a) fs) (and {s = rs} {t = ps} (plans.event {k = j} b) es) xs ys =
+      tell-use G v k j (eventWord G c m) (counting c m none []) (ofAll (usesOf G) rs ps) (ofAll toldOf rs ps) (tell-event G v c m h) (tell-G fs es xs ys)
+  tell-G (cons (packet g a) fs) (and (plans.packet b) es) xs ys = absurd (devices-differ g)
+  tell-G (cons (offcore {w = w} g h t o c) fs) (and {s = rs} {t = ps} (plans.offcore {k = j} {i = zero} b l) es) (cons e xs) ys =
+      tell-use G v k j (rspWord G 0) (counting offcoreCode (rspMask 0) (some 0) (w ∷ [])) (ofAll (usesOf G) rs ps) (ofAll toldOf rs ps)
+      (tell-rsp0 v ∙ ap (λ (x : ℕ). counting offcoreCode (rspMask 0) (some 0) (x ∷ [])) (sym e)) (tell-G fs es xs ys)
+  tell-G (cons (offcore {w = w} g h t o c) fs) (and {s = rs} {t = ps} (plans.offcore {k = j} {i = suc zero} b l) es) xs (cons e ys) =
+      tell-use G v k j (rspWord G 1) (counting offcoreCode (rspMask 1) (some 1) (w ∷ [])) (ofAll (usesOf G) rs ps) (ofAll toldOf rs ps)
+      (tell-rsp1 v ∙ ap (λ (x : ℕ). counting offcoreCode (rspMask 1) (some 1) (x ∷ [])) (sym e)) (tell-G fs es xs ys)
+  tell-G (cons (offcore g h t o c) fs) (and (plans.offcore {i = suc (suc i)} b l) es) xs ys = absurd (omega arith)
+  tell-G (cons (latency {t = t} g h o c d) fs) (and {s = rs} {t = ps} (plans.latency {j = i} {k = j} x y) es) (cons e xs) (cons q ys) =
+      let second-told = counting offcoreCode (rspMask 1) (some 1) (latencyWord 1 t ∷ []) in
+      tell-use G v k i (rspWord G 0) (counting offcoreCode (rspMask 0) (some 0) (latencyWord 0 t ∷ [])) ((j, rspWord G 1) ∷ ofAll (usesOf G) rs ps) ((j, second-told) ∷ ofAll toldOf rs ps)
+      (tell-rsp0 v ∙ ap (λ (x : ℕ). counting offcoreCode (rspMask 0) (some 0) (x ∷ [])) (sym e))
+      (tell-use G v k j (rspWord G 1) second-told (ofAll (usesOf G) rs ps) (ofAll toldOf rs ps)
+      (tell-rsp1 v ∙ ap (λ (x : ℕ). counting offcoreCode (rspMask 1) (some 1) (x ∷ [])) (sym q)) (tell-G fs es xs ys))
+
+  tell-S : {rs : List Request} {ps : List Place} → All (Described (on S u)) rs → Each Allowed rs ps
+      → All (λ (p : ℕ × ℕ). p ≡ (v .«match_word», v .«mask_word»)) (flatMap packetsOf rs)
+      → told (tell S v (wordAt (ofAll (usesOf S) rs ps) k)) ≡ toldAt (ofAll toldOf rs ps) k
+  unfolding ofAll usesOf toldOf flatMap packetsOf first second
+  tell-S nil lists.none xs = tell-none S v k
+  tell-S (cons (event {c = c} {m = m} h a) fs) (and {s = rs} {t = ps} (plans.event {k = j} b) es) xs =
+      tell-use S v k j (eventWord S c m) (counting c m none []) (ofAll (usesOf S) rs ps) (ofAll toldOf rs ps) (tell-event S v c m h) (tell-S fs es xs)
+  tell-S (cons (packet {x = x} {y = y} g a) fs) (and {s = rs} {t = ps} (plans.packet {k = j} b) es) (cons e xs) =
+      tell-use S v k j (packetWord S) (counting 0 0 none (x ∷ y ∷ [])) (ofAll (usesOf S) rs ps) (ofAll toldOf rs ps)
+      (tell-packet v ∙ ap (λ (p : ℕ × ℕ). counting 0 0 none (p .0 ∷ p .1 ∷ [])) (sym e)) (tell-S fs es xs)
+  tell-S (cons (offcore g h t o c) fs) (and (plans.offcore b l) es) xs = absurd (devices-differ (sym g))
+  tell-S (cons (latency g h o c d) fs) (and (plans.latency x y) es) xs = absurd (devices-differ (sym g))
+
+pub tell-plan : (d : Device) (u : CounterSet) (rs : List Request) (ps : List Place) (v : FilterValues) (k : ℕ) → All (Described (on d u)) rs → Each Allowed rs ps → Holds d rs ps v
+    → told (tell d v (wordAt (ofAll (usesOf d) rs ps) k)) ≡ toldAt (ofAll toldOf rs ps) k
+tell-plan G u rs ps v k f es h = tell-G u v k f es (h .0) (h .1)
+tell-plan S u rs ps v k f es h = tell-S u v k f es h

@@ -1,0 +1,165 @@
+-- What a register holds after the write list of settings, from any registers: by `after`, the value at one address.
+--     apply-after, after-append, after-other   the value at an address, write by write
+--     control-after, global-after, filter-after   the registers of a device after `writesFor`
+--     writes-all                                what holds of every write of `writesFor`
+use mathlib.Core.Path.{_≡_, refl, sym, ap}
+use mathlib.Core.Bool.{Bool, true, false}
+use mathlib.Core.List.{List, [], _∷_, _++_, List·Memᴰ, List·Memᴰ·head, List·Memᴰ·tail}
+use Prim.Native.Nat.{ℕ, zero, suc, _+_, _*_, _%_, _^_, _<_}
+use native.Mathlib.Nat.{le-refl}
+use native.Mathlib.Decide.{ℕ-discrete}
+use native.Mathlib.Omega.{arith}
+use borrow.Author.Tests.{eq-eqb, ne-eqb}
+use lib.Dec.{eqb}
+use lib.ListN.{getD}
+use Rattle.requests.specs.Choice.{pick}
+use Rattle.requests.specs.declared.CounterSet.{CounterSet}
+use Rattle.requests.specs.declared.Device.{Device}
+use Rattle.requests.specs.declared.Device.the-variants.{G, S}
+use Rattle.requests.specs.declared.Setup.{Setup}
+use Rattle.requests.specs.Devices.{has, counterCount, capacity}
+use Rattle.plans.specs.Lists.{All, nil, cons}
+use Rattle.plans.proofs.Sets.{all-append, all-imp}
+use Rattle.layouts.specs.Layout.{layoutOf, controlAt, counterAt, filtersAt}
+use Rattle.layouts.specs.Writes.{Write, row, rows, zeros, unusable, offcoreWrites, packetWrites, filterWrites, writesFor, store, apply}
+use Rattle.layouts.specs.declared.Settings.{Settings}
+use Rattle.layouts.proofs.JoinedTests.{pick-same}
+use Rattle.layouts.proofs.ListLaws.{all-member, zero-at}
+use Rattle.layouts.proofs.RegisterAddresses.{in-room, apart}
+
+-- the value at address a after the writes, where it was x before
+unfoldable pub after : List Write → ℕ → ℕ → ℕ
+after [] a x = x
+after (w ∷ ws) a x = after ws a (pick (eqb (w .0) a) (w .1) x)
+
+pub apply-after : (ws : List Write) (r : ℕ → ℕ) (a : ℕ) → apply ws r a ≡ after ws a (r a)
+unfolding apply after
+apply-after [] r a = refl
+apply-after (w ∷ ws) r a = apply-after ws (store w r) a
+
+after-append : (xs ys : List Write) (a x : ℕ) → after (xs ++ ys) a x ≡ after ys a (after xs a x)
+unfolding after
+after-append [] ys a x = refl
+after-append (w ∷ xs) ys a x = after-append xs ys a (pick (eqb (w .0) a) (w .1) x)
+
+-- an address that is not written keeps its value
+pub after-other : {ws : List Write} (a x : ℕ) → All (λ (w : Write). w .0 ≡ a → ⊥) ws → after ws a x ≡ x
+unfolding after
+after-other a x nil = refl
+after-other a x (cons {a = w} h hs) = rw (ne-eqb (w .0) a h) (after-other a x hs)
+
+-- the last write to an address
+after-last : (a v x : ℕ) → after ((a, v) ∷ []) a x ≡ v
+unfolding after
+after-last a v x = rw (eq-eqb a a refl)
+
+module _ (P : Write → Type 0) (s : CounterSet) (base step : ℕ) (values : List ℕ) where
+  -- what holds of each write of a set
+  pub rows-all : (n : ℕ) → ((k : ℕ) → k < n → has s k ≡ true → P (base + step * k, getD values k 0)) → All P (rows n s base step values)
+  unfolding rows
+  rows-all zero h = nil
+  rows-all (suc m) h = all-append (rows-all m (λ k l. h k (omega arith))) (one (has s m) refl)
+    where
+      one : (b : Bool) → has s m ≡ b → All P (row b (base + step * m) (getD values m 0))
+      one true e = cons (h m (le-refl (suc m)) e) nil
+      one false e = nil
+
+module _ (s : CounterSet) (base step : ℕ) (values : List ℕ) where
+  after-row : (b : Bool) (address v a x : ℕ) → after (row b address v) a x ≡ pick b (pick (eqb address a) v x) x
+  unfolding after
+  after-row true address v a x = refl
+  after-row false address v a x = refl
+
+  -- the value of counter k's register after the writes of a set
+  pub rows-at : ((j k : ℕ) → base + step * j ≡ base + step * k → j ≡ k) → (n k x : ℕ) → k < n
+      → after (rows n s base step values) (base + step * k) x ≡ pick (has s k) (getD values k 0) x
+  unfolding rows
+  rows-at inj zero k x l = absurd (omega arith)
+  rows-at inj (suc m) k x l =
+      rw (after-append (rows m s base step values) (row (has s m) (base + step * m) (getD values m 0)) (base + step * k) x, after-row)
+      (elim (ℕ-discrete m k) [
+        | yes e ↦ rw (
+          eq-eqb (base + step * m) (base + step * k) (ap (λ (j : ℕ). base + step * j) e),
+          after-other (base + step * k) x (rows-all (λ w. w .0 ≡ base + step * k → ⊥) s base step values m (λ j lj on q. let z = inj j k q in omega arith)),
+          e,
+        )
+        | no ne ↦ rw (ne-eqb (base + step * m) (base + step * k) (λ q. ne (inj m k q)), pick-same) (rows-at inj m k x (let z = ne in omega arith))
+      ])
+
+-- every write of the filter registers is to one of them
+pub filter-addresses : (d : Device) (t : Settings) → All (λ (w : Write). List·Memᴰ (w .0) (filtersAt d)) (filterWrites d t)
+unfolding filterWrites offcoreWrites packetWrites filtersAt
+filter-addresses G t = cons (List·Memᴰ·head refl) (cons (List·Memᴰ·tail (List·Memᴰ·head refl)) nil)
+filter-addresses S t = go (t .packets)
+  where
+    go : (b : Bool) → All (λ (w : Write). List·Memᴰ (w .0) (filtersAt S)) (packetWrites b (t .«match_word») (t .«mask_word»))
+    go true =
+        cons (List·Memᴰ·head refl)
+        (cons (List·Memᴰ·tail (List·Memᴰ·head refl))
+        (cons (List·Memᴰ·tail (List·Memᴰ·tail (List·Memᴰ·head refl))) (cons (List·Memᴰ·head refl) nil)))
+    go false = cons (List·Memᴰ·head refl) nil
+
+module _ (s : Setup) (t : Settings) where
+  abbrev d : Device
+  d = s .device
+
+  abbrev n : ℕ
+  n = counterCount (s .device)
+
+  -- what holds of every write of the list
+  pub writes-all : (P : Write → Type 0)
+      → P (layoutOf d .global, unusable s)
+      → ((k : ℕ) → k < n → has (s .usable) k ≡ true → P (controlAt d k, 0))
+      → All P (filterWrites d t)
+      → ((k : ℕ) → k < n → has (t .used) k ≡ true → P (counterAt d k, 0))
+      → ((k : ℕ) → k < n → has (t .used) k ≡ true → P (controlAt d k, getD (t .words) k 0))
+      → P (layoutOf d .global, unusable s + t .used .0 % 2 ^ n)
+      → All P (writesFor s t)
+  unfolding writesFor controlAt counterAt zeros
+  writes-all P first off filters counts words last =
+      let l = layoutOf d in
+      all-append
+      (all-append
+      (all-append
+      (all-append
+      (all-append (cons first nil)
+      (rows-all P (s .usable) (l .control) (l .step) zeros n (λ k b h. rw (zero-at capacity k) (off k b h))))
+      filters)
+      (rows-all P (t .used) (l .counter) (l .step) zeros n (λ k b h. rw (zero-at capacity k) (counts k b h))))
+      (rows-all P (t .used) (l .control) (l .step) (t .words) n words))
+      (cons last nil)
+
+  -- no filter register is another one
+  filters-apart : (a : ℕ) → All (λ (b : ℕ). b ≡ a → ⊥) (filtersAt d) → All (λ (w : Write). w .0 ≡ a → ⊥) (filterWrites d t)
+  filters-apart a h = all-imp (λ w m. all-member h m) (filter-addresses d t)
+
+  pub control-after : (k x : ℕ) → k < n → after (writesFor s t) (controlAt d k) x ≡ pick (has (t .used) k) (getD (t .words) k 0) (pick (has (s .usable) k) 0 x)
+  unfolding writesFor controlAt counterAt zeros
+  control-after k x l =
+      let a = controlAt d k in
+      let lay = layoutOf d in
+      let apart-d = apart d in
+      let globals : (v : ℕ) (y : ℕ) → after ((lay .global, v) ∷ []) a y ≡ y = λ v y. after-other a y (cons (apart-d .global-control k (in-room d k l)) nil) in
+      let off = rows-at (s .usable) (lay .control) (lay .step) zeros (apart-d .control-control) n k x l in
+      let filters = after-other a (pick (has (s .usable) k) 0 x) (filters-apart a (apart-d .filter-control k (in-room d k l))) in
+      let counts = after-other a (pick (has (s .usable) k) 0 x)
+      (rows-all (λ w. w .0 ≡ a → ⊥) (t .used) (lay .counter) (lay .step) zeros n (λ j b h e. apart-d .counter-control j k (in-room d j b) (in-room d k l) e)) in
+      let words = rows-at (t .used) (lay .control) (lay .step) (t .words) (apart-d .control-control) n k (pick (has (s .usable) k) 0 x) l in
+      simp (after-append, globals, off, zero-at capacity k, filters, counts, words)
+
+  pub global-after : (x : ℕ) → after (writesFor s t) (layoutOf d .global) x ≡ unusable s + t .used .0 % 2 ^ n
+  unfolding writesFor
+  global-after x = simp (after-append, after-last)
+
+  -- a filter register has what its own writes leave
+  pub filter-after : (a x : ℕ) → List·Memᴰ a (filtersAt d) → after (writesFor s t) a x ≡ after (filterWrites d t) a x
+  unfolding writesFor controlAt counterAt
+  filter-after a x m =
+      let lay = layoutOf d in
+      let apart-d = apart d in
+      let globals : (v : ℕ) (y : ℕ) → after ((lay .global, v) ∷ []) a y ≡ y = λ v y. after-other a y (cons (λ e. all-member (apart-d .filter-global) m (sym e)) nil) in
+      let controls : (u : CounterSet) (vs : List ℕ) (y : ℕ) → after (rows n u (lay .control) (lay .step) vs) a y ≡ y =
+      λ u vs y. after-other a y (rows-all (λ w. w .0 ≡ a → ⊥) u (lay .control) (lay .step) vs n (λ k b h e. all-member (apart-d .filter-control k (in-room d k b)) m (sym e))) in
+      let counts : (u : CounterSet) (vs : List ℕ) (y : ℕ) → after (rows n u (lay .counter) (lay .step) vs) a y ≡ y =
+      λ u vs y. after-other a y (rows-all (λ w. w .0 ≡ a → ⊥) u (lay .counter) (lay .step) vs n (λ k b h e. all-member (apart-d .filter-counter k (in-room d k b)) m (sym e))) in
+      simp (after-append, globals, controls, counts)

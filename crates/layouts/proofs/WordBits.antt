@@ -1,0 +1,101 @@
+-- Laws of the bits of a word: of words that agree in their high part, of a word with one bit more, and of words with bits of a list only. Assumes nothing.
+use mathlib.Core.Path.{_≡_, refl, ap, sym}
+use mathlib.Core.Logic.{_⊎_, inl, inr, ⊎-elim}
+use mathlib.Core.Bool.{Bool, true, false, not}
+use mathlib.Core.List.{List, [], _∷_}
+use Prim.Native.Nat.{ℕ, zero, suc, _+_, _*_, _-_, _/_, _%_, _^_, _≤_, _<_}
+use native.Mathlib.Nat.{div-div-eq-div-mul, pow-succ', div-eq-of-lt, zero-div, div-lt-iff-lt-mul, div-one, zero-add, suc-add}
+use native.Mathlib.Omega.{arith}
+use lib.Dec.{eqb, eqb·suc-suc}
+use lib.Pow.{pow-pos, shr-shr}
+use borrow.Author.Tests.{eqb-false, ne-eqb, ltb-true, lt-ltb}
+use Rattle.requests.specs.Choice.{either}
+use Rattle.requests.specs.Bits.{bit, inList, anyBit, onlyBits}
+use Rattle.requests.proofs.Tests.{both-parts, either-cases}
+use Rattle.requests.proofs.BitLists.{reserved}
+use Rattle.layouts.proofs.JoinedTests.{true-both, either-left, either-right, every-true}
+
+pub half-div : (k w : ℕ) → w / 2 ^ suc k ≡ w / 2 / 2 ^ k
+half-div k w = rw pow-succ' (sym (div-div-eq-div-mul w 2 (2 ^ k)))
+
+pub bit-zero : (k : ℕ) → bit k 0 ≡ false
+unfolding bit
+bit-zero k = rw (zero-div (2 ^ k))
+
+-- a word below 2^k has no bit k
+pub bit-above : (k w : ℕ) → w < 2 ^ k → bit k w ≡ false
+unfolding bit
+bit-above k w l = rw (div-eq-of-lt l)
+
+-- words that agree from bit n on have the same bits there
+pub bit-high : (n k v w : ℕ) → n ≤ k → v / 2 ^ n ≡ w / 2 ^ n → bit k v ≡ bit k w
+unfolding bit
+bit-high n k v w l e =
+    let p : n + (k - n) ≡ k = omega arith in
+    rw (← p, ← shr-shr v n (k - n), ← shr-shr w n (k - n), e)
+
+-- a word with one bit more, above its others
+pub bit-more : (j k w : ℕ) → w < 2 ^ j → bit k (w + 2 ^ j) ≡ either (bit k w) (eqb j k)
+unfolding bit either
+bit-more zero zero w l = let e : w ≡ 0 = omega arith in rw e
+bit-more (suc j) zero w l =
+    let e : (w + 2 ^ suc j) / 1 % 2 ≡ w / 1 % 2 = rw (div-one (w + 2 ^ suc j), div-one w) (omega (arith, pow-succ' 2 j)) in
+    rw (e, ne-eqb (suc j) 0 (λ q. omega arith)) (go (eqb (w / 1 % 2) 1))
+  where
+    go : (b : Bool) → b ≡ either b false
+    go true = refl
+    go false = refl
+bit-more zero (suc k) w l =
+    let e : w ≡ 0 = omega arith in
+    let p : 1 < 2 ^ suc k = omega (arith, pow-succ' 2 k, pow-pos k) in
+    rw (e, div-eq-of-lt p, zero-div (2 ^ suc k), ne-eqb 0 (suc k) (λ q. omega arith))
+bit-more (suc j) (suc k) w l =
+    let e : (w + 2 ^ suc j) / 2 ≡ w / 2 + 2 ^ j = omega (arith, pow-succ' 2 j) in
+    rw (half-div k (w + 2 ^ suc j), half-div k w, e, eqb·suc-suc j k) (bit-more j k (w / 2) (omega (arith, pow-succ' 2 j)))
+
+-- a word whose bits from n on are 0 is below 2^n
+pub below-bits : (n m w : ℕ) → w < 2 ^ (m + n) → ((k : ℕ) → n ≤ k → k < m + n → bit k w ≡ false) → w < 2 ^ n
+unfolding bit
+below-bits n zero w l h = rw zero-add at l
+below-bits n (suc m) w l h =
+    let small : w / 2 ^ (m + n) < 2 = div-lt-iff-lt-mul (pow-pos (m + n)) .1 (rw (← pow-succ' 2 (m + n)) (rw (suc-add m n) at l)) in
+    let off : w / 2 ^ (m + n) % 2 ≡ 1 → ⊥ = eqb-false _ _ (h (m + n) (omega arith) (omega arith)) in
+    let none : w / 2 ^ (m + n) < 1 = let y = off in omega arith in
+    let fits : w < 1 * 2 ^ (m + n) = div-lt-iff-lt-mul (pow-pos (m + n)) .0 none in
+    below-bits n m w (omega (arith, fits)) (λ k a b. h k a (omega arith))
+
+-- ---- words with bits of a list only
+
+pub only-below : (ks : List ℕ) (w : ℕ) → onlyBits ks w ≡ true → w < 2 ^ 64
+unfolding onlyBits
+only-below ks w h = ltb-true w (2 ^ 64) (both-parts _ _ h .0)
+
+pub bits-only : (ks : List ℕ) (w : ℕ) → w < 2 ^ 64 → ((k : ℕ) → k < 64 → (bit k w ≡ false) ⊎ (inList ks k ≡ true)) → onlyBits ks w ≡ true
+unfolding onlyBits
+bits-only ks w l h =
+    true-both _ _ (lt-ltb w (2 ^ 64) l)
+    (every-true 64 (λ k. either (not (bit k w)) (inList ks k))
+    (λ k b. ⊎-elim (λ e. either-left _ _ (ap not e)) (λ e. either-right _ _ e) (h k b)))
+
+pub zero-only : (ks : List ℕ) → onlyBits ks 0 ≡ true
+zero-only ks = bits-only ks 0 (omega arith) (λ k l. inl (bit-zero k))
+
+-- what holds of a bit that the word has
+pub only-cases : (ks : List ℕ) (k w : ℕ) → onlyBits ks w ≡ true → k < 64 → (bit k w ≡ false) ⊎ (inList ks k ≡ true)
+only-cases ks k w h l = go (inList ks k) refl
+  where
+    go : (b : Bool) → inList ks k ≡ b → (bit k w ≡ false) ⊎ (inList ks k ≡ true)
+    go true e = inr e
+    go false e = inl (reserved ks k w l e h)
+
+-- a longer list permits more
+pub only-more : (ks js : List ℕ) (w : ℕ) → ((k : ℕ) → inList ks k ≡ true → inList js k ≡ true) → onlyBits ks w ≡ true → onlyBits js w ≡ true
+only-more ks js w more h =
+    bits-only js w (only-below ks w h) (λ k l. ⊎-elim (λ e. inl e) (λ e. inr (more k e)) (only-cases ks k w h l))
+
+-- a word that has each bit of another has one of a list where the other has
+pub any-more : (ks : List ℕ) (v w : ℕ) → ((k : ℕ) → bit k v ≡ true → bit k w ≡ true) → anyBit ks v ≡ true → anyBit ks w ≡ true
+unfolding anyBit
+any-more [] v w h e = e
+any-more (k ∷ ks) v w h e =
+    ⊎-elim (λ b. either-left _ _ (h k b)) (λ a. either-right _ _ (any-more ks v w h a)) (either-cases _ _ e)

@@ -1,0 +1,240 @@
+-- Document 01, tries A, C and F, the empty plan, and a plan on S: whole write lists; and readings of such values, and of values that no plan leaves. All computed.
+use mathlib.Core.Path.{_≡_}
+use mathlib.Core.List.{List, [], _∷_, _++_, map}
+use mathlib.Core.Option.{none, some}
+use Prim.Native.Nat.{ℕ}
+use Rattle.requests.specs.Refusals.{answerNumber}
+use Rattle.requests.specs.declared.CounterSet.{CounterSet}
+use Rattle.requests.specs.declared.Device.{Device}
+use Rattle.requests.specs.declared.Device.the-variants.{G, S}
+use Rattle.requests.specs.declared.Request.{Request}
+use Rattle.requests.specs.declared.Request.the-variants.{Event, Packet, Offcore, Latency}
+use Rattle.plans.specs.declared.Place.{Place}
+use Rattle.plans.specs.declared.Place.the-variants.{Counter, WithRsp, Pair}
+use Rattle.layouts.specs.Writes.{Write, writes}
+use Rattle.layouts.specs.Read.{readOf}
+use Rattle.layouts.specs.Told.{Told, notOurs, off, counting, toldBy}
+use Rattle.layouts.specs.declared.RegisterValues.{RegisterValues}
+use Rattle.layouts.specs.declared.Reading.{Reading}
+
+-- counters 0 to 3
+abbrev all : CounterSet
+all = record { 0 = 15 }
+
+-- a set by its number
+abbrev set : ℕ → CounterSet
+set n = record { 0 = n }
+
+-- ---- write lists
+
+-- a plan, and its whole write list
+pub record Plan : Type 0 where
+  pub device : Device
+  pub usable : CounterSet
+  pub requests : List Request
+  pub places : List Place
+  pub written : List Write
+
+-- plans of the tries, and one on S
+unfoldable pub plans : List Plan
+plans =
+    -- A. "event 1 C0 00 1" takes counter 0, "latency 2 0001 15 15" takes counter 1 with RSP0 and counter 2 with RSP1
+    record {
+      device = G;
+      usable = all;
+      requests = Event 0xC0 0x00 (set 1) ∷ Latency 0x0001 all all ∷ [];
+      places = Counter 0 ∷ Pair 1 2 ∷ [];
+      written =
+          (0x038F, 0x0000000000000000)
+          ∷ (0x0186, 0x0000000000000000)
+          ∷ (0x0187, 0x0000000000000000)
+          ∷ (0x0188, 0x0000000000000000)
+          ∷ (0x0189, 0x0000000000000000)
+          ∷ (0x01A6, 0x0000004000000001)
+          ∷ (0x01A7, 0x0000000000010001)
+          ∷ (0x00C1, 0x0000000000000000)
+          ∷ (0x00C2, 0x0000000000000000)
+          ∷ (0x00C3, 0x0000000000000000)
+          ∷ (0x0186, 0x00000000004300C0)
+          ∷ (0x0187, 0x00000000004301B7)
+          ∷ (0x0188, 0x00000000004302B7)
+          ∷ (0x038F, 0x0000000000000007)
+          ∷ [];
+    }
+    -- usable 14 on S: a packet request takes counter 1, and 51/3 ("400351") counter 2
+    ∷ record {
+      device = S;
+      usable = set 14;
+      requests = Packet 0x0123456789ABCDEF 0xFFFFFFFF00000000 all ∷ Event 0x51 0x03 all ∷ [];
+      places = Counter 1 ∷ Counter 2 ∷ [];
+      written =
+          (0x0C40, 0x0000000000000001)
+          ∷ (0x0C52, 0x0000000000000000)
+          ∷ (0x0C54, 0x0000000000000000)
+          ∷ (0x0C56, 0x0000000000000000)
+          ∷ (0x0E48, 0x0000000000000000)
+          ∷ (0x0E49, 0x0123456789ABCDEF)
+          ∷ (0x0E4A, 0xFFFFFFFF00000000)
+          ∷ (0x0E48, 0x8000000000000000)
+          ∷ (0x0C53, 0x0000000000000000)
+          ∷ (0x0C55, 0x0000000000000000)
+          ∷ (0x0C52, 0x0000000000400000)
+          ∷ (0x0C54, 0x0000000000400351)
+          ∷ (0x0C40, 0x0000000000000007)
+          ∷ [];
+    }
+    -- F. "Usable 14: 038F gets 1 first". C0/00 takes counter 1; both RSP registers are unused
+    ∷ record {
+      device = G;
+      usable = set 14;
+      requests = Event 0xC0 0x00 all ∷ [];
+      places = Counter 1 ∷ [];
+      written =
+          (0x038F, 0x0000000000000001)
+          ∷ (0x0187, 0x0000000000000000)
+          ∷ (0x0188, 0x0000000000000000)
+          ∷ (0x0189, 0x0000000000000000)
+          ∷ (0x01A6, 0x0000000000000000)
+          ∷ (0x01A7, 0x0000000000000000)
+          ∷ (0x00C2, 0x0000000000000000)
+          ∷ (0x0187, 0x00000000004300C0)
+          ∷ (0x038F, 0x0000000000000003)
+          ∷ [];
+    }
+    -- C. "Offcore 10001, latency 0001: RSP1 is shared": the offcore request takes counter 0 with RSP1
+    ∷ record {
+      device = G;
+      usable = all;
+      requests = Offcore 0x10001 all ∷ Latency 0x0001 all all ∷ [];
+      places = WithRsp 0 1 ∷ Pair 1 2 ∷ [];
+      written =
+          (0x038F, 0x0000000000000000)
+          ∷ (0x0186, 0x0000000000000000)
+          ∷ (0x0187, 0x0000000000000000)
+          ∷ (0x0188, 0x0000000000000000)
+          ∷ (0x0189, 0x0000000000000000)
+          ∷ (0x01A6, 0x0000004000000001)
+          ∷ (0x01A7, 0x0000000000010001)
+          ∷ (0x00C1, 0x0000000000000000)
+          ∷ (0x00C2, 0x0000000000000000)
+          ∷ (0x00C3, 0x0000000000000000)
+          ∷ (0x0186, 0x00000000004302B7)
+          ∷ (0x0187, 0x00000000004301B7)
+          ∷ (0x0188, 0x00000000004302B7)
+          ∷ (0x038F, 0x0000000000000007)
+          ∷ [];
+    }
+    -- "An empty queue gives an empty plan and a write list that turns the usable counters off"
+    ∷ record {
+      device = S;
+      usable = set 6;
+      requests = [];
+      places = [];
+      written =
+          (0x0C40, 0x0000000000000009)
+          ∷ (0x0C52, 0x0000000000000000)
+          ∷ (0x0C54, 0x0000000000000000)
+          ∷ (0x0E48, 0x0000000000000000)
+          ∷ (0x0C40, 0x0000000000000009)
+          ∷ [];
+    }
+    ∷ []
+
+-- the write list of a plan
+unfoldable pub writesOf : Plan → List Write
+writesOf p = writes (record { device = p .device; usable = p .usable }) (p .requests) (p .places)
+
+-- ---- readings
+
+-- values on G: control values, RSP0 and RSP1, global control
+abbrev onG : List ℕ → ℕ → ℕ → ℕ → RegisterValues
+onG control w0 w1 g =
+    record { control = control ++ 0 ∷ 0 ∷ 0 ∷ 0 ∷ []; filters = record { rsp0 = w0; rsp1 = w1; «mm_cfg» = 0; «match_word» = 0; «mask_word» = 0 }; global = g }
+
+-- values on S: control values, MM_CFG, MATCH and MASK, global control
+abbrev onS : List ℕ → ℕ → ℕ → ℕ → ℕ → RegisterValues
+onS control c x y g =
+    record { control = control ++ 0 ∷ 0 ∷ 0 ∷ 0 ∷ []; filters = record { rsp0 = 0; rsp1 = 0; «mm_cfg» = c; «match_word» = x; «mask_word» = y }; global = g }
+
+-- the letter of a device and a usable set, with register values
+pub record Given : Type 0 where
+  pub letter : ℕ
+  pub usable : ℕ
+  pub values : RegisterValues
+
+-- what the reader answers
+unfoldable pub readingFor : Given → Reading
+readingFor e = readOf (record { device = e .letter; usable = set (e .usable) }) (e .values)
+
+-- what is given, and what is told of counters 0 to 3
+pub record AcceptedAs : Type 0 where
+  pub given : Given
+  pub tells : List Told
+
+-- values that plans leave
+unfoldable pub acceptances : List AcceptedAs
+acceptances =
+    -- try A's values: "off, or event with its filter register and words"
+    record {
+      given = record { letter = 71; usable = 15; values = onG (0x4300C0 ∷ 0x4301B7 ∷ 0x4302B7 ∷ 0 ∷ []) 0x4000000001 0x10001 7 };
+      tells = counting 0xC0 0x00 none [] ∷ counting 0xB7 0x01 (some 0) (0x4000000001 ∷ []) ∷ counting 0xB7 0x02 (some 1) (0x10001 ∷ []) ∷ off ∷ [];
+    }
+    -- try C's: two counters on RSP1 and one on RSP0
+    ∷ record {
+      given = record { letter = 71; usable = 15; values = onG (0x4302B7 ∷ 0x4301B7 ∷ 0x4302B7 ∷ 0 ∷ []) 0x4000000001 0x10001 7 };
+      tells = counting 0xB7 0x02 (some 1) (0x10001 ∷ []) ∷ counting 0xB7 0x01 (some 0) (0x4000000001 ∷ []) ∷ counting 0xB7 0x02 (some 1) (0x10001 ∷ []) ∷ off ∷ [];
+    }
+    -- usable 14 on S: "An unusable counter is told as not ours", and its control value is not looked at
+    ∷ record {
+      given = record { letter = 83; usable = 14; values = onS (0xFFFF ∷ 0x400000 ∷ 0x400351 ∷ 0 ∷ []) 0x8000000000000000 0x0123456789ABCDEF 0xFFFFFFFF00000000 7 };
+      tells = notOurs ∷ counting 0x00 0x00 none (0x0123456789ABCDEF ∷ 0xFFFFFFFF00000000 ∷ []) ∷ counting 0x51 0x03 none [] ∷ off ∷ [];
+    }
+    -- all off; "nor are MATCH and MASK where MM_CFG is 0"
+    ∷ record { given = record { letter = 83; usable = 15; values = onS (0 ∷ 0 ∷ 0 ∷ 0 ∷ []) 0 5 6 0 }; tells = off ∷ off ∷ off ∷ off ∷ [] }
+    ∷ []
+
+-- what is told of an example; counters 4 to 7 are on neither device
+unfoldable pub tellsOf : AcceptedAs → List Told
+tellsOf e = e .tells ++ notOurs ∷ notOurs ∷ notOurs ∷ notOurs ∷ []
+
+-- what is given, and the number that refuses it
+pub record RefusedAs : Type 0 where
+  pub number : ℕ
+  pub given : Given
+
+-- a number, a letter, a usable set and register values
+abbrev refusedAs : ℕ → ℕ → ℕ → RegisterValues → RefusedAs
+refusedAs n letter usable v = record { number = n; given = record { letter = letter; usable = usable; values = v } }
+
+-- values that no plan leaves, and openings that open refuses
+unfoldable pub refusals : List RefusedAs
+refusals =
+    -- 3: "device unknown, or usable set 0 or above 15", also where the values would be 15
+    refusedAs 3 72 15 (onG (0 ∷ 0 ∷ 0 ∷ 0 ∷ []) 0 0 0)
+    ∷ refusedAs 3 71 0 (onG (0 ∷ 0 ∷ 0 ∷ 0 ∷ []) 0 0 15)
+    ∷ refusedAs 3 83 16 (onS (1 ∷ 0 ∷ 0 ∷ 0 ∷ []) 1 0 0 0)
+    -- "at least as many counters on RSP1 as on RSP0"
+    ∷ refusedAs 15 71 15 (onG (0x4301B7 ∷ 0x4301B7 ∷ 0x4302B7 ∷ 0 ∷ []) 0x4000000001 0x10001 7)
+    -- "a latency word needs the matching type with bit 16 in RSP1"
+    ∷ refusedAs 15 71 15 (onG (0x4301B7 ∷ 0x4302B7 ∷ 0 ∷ 0 ∷ []) 0x4000000001 0x10002 3)
+    -- "on G an unused RSP must be 0"
+    ∷ refusedAs 15 71 15 (onG (0x4300C0 ∷ 0 ∷ 0 ∷ 0 ∷ []) 0 0x10001 1)
+    -- bit 31 is reserved
+    ∷ refusedAs 15 71 15 (onG (0x4301B7 ∷ 0 ∷ 0 ∷ 0 ∷ []) 0x80010001 0 1)
+    -- the event word has the user, OS and enable bits
+    ∷ refusedAs 15 71 15 (onG (0x4100C0 ∷ 0 ∷ 0 ∷ 0 ∷ []) 0 0 1)
+    -- the global value has unusable and used bits, and no others
+    ∷ refusedAs 15 71 14 (onG (0 ∷ 0x4300C0 ∷ 0 ∷ 0 ∷ []) 0 0 2)
+    ∷ refusedAs 15 71 15 (onG (0x4300C0 ∷ 0 ∷ 0 ∷ 0 ∷ []) 0 0 0x100000001)
+    -- MM_CFG is 2^63 where a counter counts packets, and otherwise 0
+    ∷ refusedAs 15 83 15 (onS (0x400351 ∷ 0 ∷ 0 ∷ 0 ∷ []) 0x8000000000000000 5 6 1)
+    ∷ refusedAs 15 83 15 (onS (0x400000 ∷ 0 ∷ 0 ∷ 0 ∷ []) 0 5 6 1)
+    ∷ []
+
+pub record Examples : Type 0 where
+  -- each plan's write list, whole and in order
+  pub written : map writesOf plans ≡ map (λ (p : Plan). p .written) plans
+  -- what each reading tells
+  pub told-as : map (λ (e : AcceptedAs). toldBy (readingFor (e .given))) acceptances ≡ map tellsOf acceptances
+  -- the number of each refusal
+  pub numbered : map (λ (e : RefusedAs). answerNumber (readingFor (e .given) .answer)) refusals ≡ map (λ (e : RefusedAs). some (e .number)) refusals

@@ -1,0 +1,123 @@
+-- Register tables: addresses, and the bits of each layout (G: SDM volume 3, documents 001, 002; S: document 004, section 2.5).
+use mathlib.Core.List.{List, [], _∷_, _++_}
+use Prim.Native.Nat.{ℕ, zero, suc, _+_, _*_, _-_, _/_, _%_}
+use lib.Dec.{eqb}
+use Rattle.requests.specs.Choice.{pick}
+use Rattle.requests.specs.declared.Device.{Device}
+use Rattle.requests.specs.declared.Device.the-variants.{G, S}
+use Rattle.requests.specs.Bits.{rsp0Bits, rsp1Bits}
+use Rattle.requests.specs.Devices.{counterCount}
+use Rattle.layouts.specs.declared.Layout.{Layout}
+
+-- what f gives for each number below n, rising
+unfoldable pub tabulate : {A : Type 0} → ℕ → (ℕ → A) → List A
+tabulate zero f = []
+tabulate (suc k) f = tabulate k f ++ (f k ∷ [])
+
+-- ---- addresses
+
+-- G: IA32_PERF_GLOBAL_CTRL, IA32_PERFEVTSEL0, IA32_PMC0. S: S_MSR_PMON_GLOBAL_CTL, S_MSR_PMON_CTL0, S_MSR_PMON_CTR0
+unfoldable pub layoutOf : Device → Layout
+layoutOf G = record { global = 0x038F; control = 0x0186; counter = 0x00C1; step = 1 }
+layoutOf S = record { global = 0x0C40; control = 0x0C50; counter = 0x0C51; step = 2 }
+
+-- the control register of counter k
+unfoldable pub controlAt : Device → ℕ → ℕ
+controlAt d k = layoutOf d .control + layoutOf d .step * k
+
+-- its count
+unfoldable pub counterAt : Device → ℕ → ℕ
+counterAt d k = layoutOf d .counter + layoutOf d .step * k
+
+-- MSR_OFFCORE_RSP0
+unfoldable pub rsp0At : ℕ
+rsp0At = 0x01A6
+
+-- MSR_OFFCORE_RSP1
+unfoldable pub rsp1At : ℕ
+rsp1At = 0x01A7
+
+-- S_MSR_MM_CFG
+unfoldable pub mmCfgAt : ℕ
+mmCfgAt = 0x0E48
+
+-- S_MSR_MATCH
+unfoldable pub matchAt : ℕ
+matchAt = 0x0E49
+
+-- S_MSR_MASK
+unfoldable pub maskAt : ℕ
+maskAt = 0x0E4A
+
+-- the filter registers of the device
+unfoldable pub filtersAt : Device → List ℕ
+filtersAt G = rsp0At ∷ rsp1At ∷ []
+filtersAt S = mmCfgAt ∷ matchAt ∷ maskAt ∷ []
+
+-- ---- fields
+
+-- the bits from high down to low, as the manuals print a field
+unfoldable pub field : ℕ → ℕ → List ℕ
+field high low = tabulate (suc high - low) (λ k. low + k)
+
+-- what a control register has. G: event 7:0, unit mask 15:8, USR, OS, E, PC, INT 20:16, EN, INV, CMASK 31:22.
+-- S: ev_sel 7:0, umask 15:8, reset_occ_cnt 17, edge_detect 18, pmi_en 20, enable 22, invert 23, threshold 31:24
+unfoldable pub controlBits : Device → List ℕ
+controlBits G = field 7 0 ++ field 15 8 ++ field 20 16 ++ field 31 22
+controlBits S = field 7 0 ++ field 15 8 ++ field 18 17 ++ field 20 20 ++ field 22 22 ++ field 23 23 ++ field 31 24
+
+-- what the global control register has. G: general counters 3:0, fixed counters 34:32. S: ctr_en 3:0
+unfoldable pub globalBits : Device → List ℕ
+globalBits G = field 3 0 ++ field 34 32
+globalBits S = field 3 0
+
+-- MM_CFG: enable
+unfoldable pub mmEnable : ℕ
+mmEnable = 63
+
+-- ---- control words
+
+-- the bits that every event word has. G: USR 16, OS 17, EN 22. S: enable 22
+unfoldable pub enabled : Device → ℕ
+enabled G = 0x430000
+enabled S = 0x400000
+
+-- "The event word is 430000 + 100 × mask + code (all hex: user, OS and enable bits)", on S 400000 + 100 × mask + code
+unfoldable pub eventWord : Device → ℕ → ℕ → ℕ
+eventWord d c m = enabled d + 0x100 * m + c
+
+-- the code in a control word
+unfoldable pub codeOf : ℕ → ℕ
+codeOf w = w % 0x100
+
+-- the unit mask in a control word
+unfoldable pub maskOf : ℕ → ℕ
+maskOf w = w / 0x100 % 0x100
+
+-- the event of the RSP registers
+unfoldable pub offcoreCode : ℕ
+offcoreCode = 0xB7
+
+-- "Event B7 with unit mask 01 uses MSR_OFFCORE_RSP0, with 02 RSP1": the unit mask of RSP register i (0, or else 1)
+unfoldable pub rspMask : ℕ → ℕ
+rspMask i = pick (eqb i 0) 1 2
+
+-- the control word of a counter on RSP register i
+unfoldable pub rspWord : Device → ℕ → ℕ
+rspWord d i = eventWord d offcoreCode (rspMask i)
+
+-- packet: "Event code 0, unit mask 0"
+unfoldable pub packetWord : Device → ℕ
+packetWord d = eventWord d 0 0
+
+-- ---- reserved bits
+
+-- a register with the bits of its layout
+abbrev pub Register : Type 0
+Register = ℕ × List ℕ
+
+-- each register with reserved bits. (MATCH and MASK pass on what they are given, and counts are zeroed.)
+unfoldable pub registersOf : Device → List Register
+registersOf G =
+    (layoutOf G .global, globalBits G) ∷ (rsp0At, rsp0Bits) ∷ (rsp1At, rsp1Bits) ∷ tabulate (counterCount G) (λ k. (controlAt G k, controlBits G))
+registersOf S = (layoutOf S .global, globalBits S) ∷ (mmCfgAt, mmEnable ∷ []) ∷ tabulate (counterCount S) (λ k. (controlAt S k, controlBits S))

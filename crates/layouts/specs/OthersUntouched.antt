@@ -1,0 +1,28 @@
+-- "Every other counter belongs to somebody else. The filter registers belong wholly to the session."
+use mathlib.Core.Path.{_≡_}
+use mathlib.Core.List.{List, List·Memᴰ}
+use mathlib.Core.Bool.{true, false}
+use Prim.Native.Nat.{ℕ, _<_}
+use Rattle.requests.specs.declared.Setup.{Setup}
+use Rattle.requests.specs.declared.Request.{Request}
+use Rattle.requests.specs.Bits.{bit}
+use Rattle.requests.specs.Devices.{has, counterCount}
+use Rattle.plans.specs.declared.Place.{Place}
+use Rattle.plans.specs.Legal.{Legal, Usable}
+use Rattle.layouts.specs.Layout.{layoutOf, controlAt, counterAt, filtersAt}
+use Rattle.layouts.specs.Writes.{writes, apply}
+
+-- the registers that the session may write
+pub data Ours (s : Setup) : ℕ → Type 0 where
+  global : Ours s (layoutOf (s .device) .global)
+  filter : {a : ℕ} → List·Memᴰ a (filtersAt (s .device)) → Ours s a
+  control : {k : ℕ} → Usable s k → Ours s (controlAt (s .device) k)
+  counter : {k : ℕ} → Usable s k → Ours s (counterAt (s .device) k)
+
+pub record OthersUntouched : Type 0 where
+  -- every other register keeps its value
+  pub kept : (s : Setup) (rs : List Request) (ps : List Place) → Legal s rs ps
+      → (registers : ℕ → ℕ) (a : ℕ) → ¬ Ours s a → apply (writes s rs ps) registers a ≡ registers a
+  -- "with the bits of unusable counters": every value for the global control register has them
+  pub enabled : (s : Setup) (rs : List Request) (ps : List Place) → Legal s rs ps
+      → (v k : ℕ) → List·Memᴰ (layoutOf (s .device) .global, v) (writes s rs ps) → k < counterCount (s .device) → has (s .usable) k ≡ false → bit k v ≡ true

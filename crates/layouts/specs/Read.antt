@@ -1,0 +1,125 @@
+-- Document 01, the reader: what it answers.
+use mathlib.Core.Bool.{Bool, true, false, not}
+use mathlib.Core.Option.{none, some}
+use Prim.Native.Nat.{ℕ, zero, suc, _+_, _%_, _^_}
+use lib.Dec.{leb, eqb}
+use lib.ListN.{getD, replicate}
+use Rattle.requests.specs.declared.CounterSet.{CounterSet}
+use Rattle.requests.specs.declared.Device.{Device}
+use Rattle.requests.specs.declared.Device.the-variants.{G, S}
+use Rattle.requests.specs.declared.Opening.{Opening}
+use Rattle.requests.specs.declared.Setup.{Setup}
+use Rattle.requests.specs.declared.Request.the-variants.{Event, Offcore, Latency}
+use Rattle.requests.specs.declared.Refusal.{Refusal}
+use Rattle.requests.specs.declared.Refusal.the-variants.{BadOpening, NotLeftByPlan}
+use Rattle.requests.specs.declared.Answer.the-variants.{Accepted, Refused}
+use Rattle.requests.specs.Choice.{both, either, every, pick}
+use Rattle.requests.specs.Bits.{outstanding, latencyWord}
+use Rattle.requests.specs.Devices.{has, counterCount, capacity, setupOf}
+use Rattle.requests.specs.Checks.{formed}
+use Rattle.layouts.specs.Layout.{tabulate, mmEnable, eventWord, rspWord, packetWord, codeOf, maskOf}
+use Rattle.layouts.specs.Settings.{setFrom}
+use Rattle.layouts.specs.Writes.{unusable}
+use Rattle.layouts.specs.declared.FilterValues.{FilterValues}
+use Rattle.layouts.specs.declared.RegisterValues.{RegisterValues}
+use Rattle.layouts.specs.declared.FilterRead.{FilterRead}
+use Rattle.layouts.specs.declared.FilterRead.the-variants.{NoFilter, Rsp, MatchMask}
+use Rattle.layouts.specs.declared.CounterState.{CounterState}
+use Rattle.layouts.specs.declared.CounterState.the-variants.{NotOurs, Off, Counts}
+use Rattle.layouts.specs.declared.CounterRead.{CounterRead}
+use Rattle.layouts.specs.declared.Reading.{Reading}
+
+-- the control values that are looked at: 0 for a counter that is not usable
+unfoldable pub ours : Setup → RegisterValues → ℕ → ℕ
+ours s v k = pick (has (s .usable) k) (getD (v .control) k 0) 0
+
+-- how many of the numbers below n have the word
+unfoldable pub count : ℕ → (ℕ → ℕ) → ℕ → ℕ
+count zero f w = 0
+count (suc k) f w = count k f w + pick (eqb (f k) w) 1 0
+
+-- no counter: whether a word is well-formed does not depend on the allowed set
+abbrev pub noCounter : CounterSet
+noCounter = record { 0 = 0 }
+
+-- ---- which values some plan leaves
+
+-- the control word of a filter event: of an RSP register on G, of the match/mask register on S
+unfoldable pub filterWord : Device → ℕ → Bool
+filterWord G w = either (eqb w (rspWord G 0)) (eqb w (rspWord G 1))
+filterWord S w = eqb w (packetWord S)
+
+-- a control value: 0, or the word of a well-formed event or of a filter event
+unfoldable pub controlFits : Setup → ℕ → Bool
+controlFits s w =
+    either (eqb w 0)
+    (either (filterWord (s .device) w)
+    (both (eqb w (eventWord (s .device) (codeOf w) (maskOf w))) (formed s (Event (codeOf w) (maskOf w) noCounter))))
+
+-- RSP1 with n1 counters on it: "an unused RSP must be 0"
+unfoldable pub rsp1Fits : Setup → ℕ → ℕ → Bool
+rsp1Fits s n1 w1 = pick (eqb n1 0) (eqb w1 0) (formed s (Offcore w1 noCounter))
+
+-- "a latency word needs the matching type with bit 16 in RSP1, and at least as many counters on RSP1 as on RSP0"
+unfoldable pub latencyFits : Setup → ℕ → ℕ → ℕ → ℕ → Bool
+latencyFits s n0 n1 w0 w1 =
+    let t = w0 % 2 ^ outstanding in
+    both (eqb w0 (latencyWord 0 t)) (both (formed s (Latency t noCounter noCounter)) (both (eqb w1 (latencyWord 1 t)) (leb n0 n1)))
+
+-- RSP0 with n0 counters on it
+unfoldable pub rsp0Fits : Setup → ℕ → ℕ → ℕ → ℕ → Bool
+rsp0Fits s n0 n1 w0 w1 = pick (eqb n0 0) (eqb w0 0) (either (formed s (Offcore w0 noCounter)) (latencyFits s n0 n1 w0 w1))
+
+-- the filter values beside the control values f; MM_CFG is 2^63 where a counter counts packets, and otherwise 0
+unfoldable pub filtersFit : Setup → (ℕ → ℕ) → FilterValues → Bool
+filtersFit s f v =
+    let n = counterCount (s .device) in
+    elim (s .device) [
+      | G ↦ let n0 = count n f (rspWord G 0) in
+          let n1 = count n f (rspWord G 1) in
+          both (rsp1Fits s n1 (v .rsp1)) (rsp0Fits s n0 n1 (v .rsp0) (v .rsp1))
+      | S ↦ eqb (v .«mm_cfg») (pick (eqb (count n f (packetWord S)) 0) 0 (2 ^ mmEnable))
+    ]
+
+-- whether some plan leaves the values
+unfoldable pub accepts : Setup → RegisterValues → Bool
+accepts s v =
+    let n = counterCount (s .device) in
+    both (every n (λ k. controlFits s (ours s v k)))
+    (both (eqb (v .global) (unusable s + setFrom n 0 (λ k. not (eqb (ours s v k) 0))))
+    (filtersFit s (ours s v) (v .filters)))
+
+-- ---- what is told
+
+-- the filter of a control word
+unfoldable pub filterOf : Device → FilterValues → ℕ → FilterRead
+filterOf G v w = pick (eqb w (rspWord G 0)) (Rsp 0 (v .rsp0)) (pick (eqb w (rspWord G 1)) (Rsp 1 (v .rsp1)) NoFilter)
+filterOf S v w = pick (eqb w (packetWord S)) (MatchMask (v .«match_word») (v .«mask_word»)) NoFilter
+
+-- "off, or event with its filter register and words"
+unfoldable pub tell : Device → FilterValues → ℕ → CounterState
+tell d v w = pick (eqb w 0) Off (Counts (codeOf w) (maskOf w) (filterOf d v w))
+
+-- a counter's place in the answer
+abbrev pub cell : CounterState → CounterRead
+cell c = record { state = c }
+
+-- an accepted reading: each counter of the usable set, the others "not ours"
+unfoldable pub readingOf : Setup → RegisterValues → Reading
+readingOf s v =
+    record {
+      answer = Accepted;
+      counters = tabulate capacity (λ k. cell (pick (has (s .usable) k) (tell (s .device) (v .filters) (ours s v k)) NotOurs));
+    }
+
+-- a refused reader tells nothing of any counter
+unfoldable pub refusedReading : Refusal → Reading
+refusedReading x = record { answer = Refused x; counters = replicate capacity (cell NotOurs) }
+
+-- the reader's answer
+unfoldable pub readOf : Opening → RegisterValues → Reading
+readOf o v =
+    elim (setupOf o) [
+      | none ↦ refusedReading BadOpening
+      | some s ↦ elim (accepts s v) [ true ↦ readingOf s v | false ↦ refusedReading NotLeftByPlan ]
+    ]

@@ -1,0 +1,88 @@
+-- Document 01, 'Writes, in order'.
+use mathlib.Core.List.{List, [], _∷_, _++_}
+use mathlib.Core.Bool.{Bool, true, false}
+use Prim.Native.Nat.{ℕ, zero, suc, _+_, _*_, _-_, _%_, _^_}
+use lib.Dec.{eqb}
+use lib.ListN.{length, getD, drop, replicate}
+use Rattle.requests.specs.declared.CounterSet.{CounterSet}
+use Rattle.requests.specs.declared.Device.{Device}
+use Rattle.requests.specs.declared.Device.the-variants.{G, S}
+use Rattle.requests.specs.declared.Setup.{Setup}
+use Rattle.requests.specs.declared.Request.{Request}
+use Rattle.requests.specs.Choice.{pick}
+use Rattle.requests.specs.Devices.{has, counterCount, allCounters, capacity}
+use Rattle.plans.specs.declared.Place.{Place}
+use Rattle.layouts.specs.Layout.{layoutOf, rsp0At, rsp1At, mmCfgAt, matchAt, maskAt, mmEnable}
+use Rattle.layouts.specs.Settings.{settingsOf}
+use Rattle.layouts.specs.declared.Settings.{Settings}
+
+-- an address and a value
+abbrev pub Write : Type 0
+Write = ℕ × ℕ
+
+-- one write, or none
+abbrev pub row : Bool → ℕ → ℕ → List Write
+row true address value = (address, value) ∷ []
+row false address value = []
+
+-- the writes of values to base + step * k for the counters k below n of the set, rising
+unfoldable pub rows : ℕ → CounterSet → ℕ → ℕ → List ℕ → List Write
+rows zero s base step values = []
+rows (suc k) s base step values = rows k s base step values ++ row (has s k) (base + step * k) (getD values k 0)
+
+-- a 0 for each counter
+unfoldable pub zeros : List ℕ
+zeros = replicate capacity 0
+
+-- the bits of unusable counters
+unfoldable pub unusable : Setup → ℕ
+unusable s = allCounters (s .device) - s .usable .0 % 2 ^ counterCount (s .device)
+
+-- "01A6 then 01A7, 0 where unused"
+unfoldable pub offcoreWrites : ℕ → ℕ → List Write
+offcoreWrites w v = (rsp0At, w) ∷ (rsp1At, v) ∷ []
+
+-- "if a packet request is taken, MM_CFG = 0, MATCH, MASK, MM_CFG = 2^63, otherwise MM_CFG = 0 alone"
+unfoldable pub packetWrites : Bool → ℕ → ℕ → List Write
+packetWrites true x y = (mmCfgAt, 0) ∷ (matchAt, x) ∷ (maskAt, y) ∷ (mmCfgAt, 2 ^ mmEnable) ∷ []
+packetWrites false x y = (mmCfgAt, 0) ∷ []
+
+-- the writes of the filter registers
+unfoldable pub filterWrites : Device → Settings → List Write
+filterWrites G t = offcoreWrites (t .rsp0) (t .rsp1)
+filterWrites S t = packetWrites (t .packets) (t .«match_word») (t .«mask_word»)
+
+-- the list for register values: global control with the bits of unusable counters; control 0 for usable k; the filter registers;
+-- count 0 for used k; control for used k; global control with unusable and used bits
+unfoldable pub writesFor : Setup → Settings → List Write
+writesFor s t =
+    let n = counterCount (s .device) in
+    let l = layoutOf (s .device) in
+    ((l .global, unusable s) ∷ [])
+    ++ rows n (s .usable) (l .control) (l .step) zeros
+    ++ filterWrites (s .device) t
+    ++ rows n (t .used) (l .counter) (l .step) zeros
+    ++ rows n (t .used) (l .control) (l .step) (t .words)
+    ++ ((l .global, unusable s + t .used .0 % 2 ^ n) ∷ [])
+
+-- the write list of a plan
+unfoldable pub writes : Setup → List Request → List Place → List Write
+writes s rs ps = writesFor s (settingsOf (s .device) rs ps)
+
+-- "address then value"
+unfoldable pub flat : List Write → List ℕ
+flat [] = []
+flat (w ∷ ws) = w .0 ∷ w .1 ∷ flat ws
+
+-- what a slice then holds: "numbers past the list stay"
+unfoldable pub filled : List Write → List ℕ → List ℕ
+filled ws out = flat ws ++ drop (2 * length ws) out
+
+-- registers after one write
+abbrev pub store : Write → (ℕ → ℕ) → ℕ → ℕ
+store w r a = pick (eqb (w .0) a) (w .1) (r a)
+
+-- registers after a list of writes
+unfoldable pub apply : List Write → (ℕ → ℕ) → ℕ → ℕ
+apply [] r = r
+apply (w ∷ ws) r = apply ws (store w r)

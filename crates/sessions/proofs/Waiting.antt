@@ -1,0 +1,93 @@
+-- Demand 3's bound, of the plain queue alone, whatever the queue's limit. Assumes nothing.
+--     progress    the number of requests ahead of an entry is a rank: no call raises it, and every completed turn that does not take the entry lowers it
+--     bound       so an entry with p ahead is dropped, or taken by one of the first p + 1 turns
+use mathlib.Core.Path.{_≡_, refl, ap, sym, _∙_}
+use mathlib.Core.Logic.{_⊎_, inl, inr}
+use mathlib.Core.List.{List, [], _∷_, _++_, append-assoc, List·Memᴰ, List·Memᴰ·head}
+use mathlib.Core.Bool.{Bool, true, false}
+use mathlib.Core.Option.{Option, none, some}
+use Prim.Native.Nat.{ℕ, suc, _+_, _≤_}
+use native.Mathlib.Omega.{arith}
+use lib.Dec.{eqb}
+use lib.ListN.{length}
+use borrow.Author.Tests.{eqb-true, eqb-false, ne-eqb}
+use Rattle.requests.specs.declared.Setup.{Setup}
+use Rattle.requests.specs.declared.Entry.{Entry}
+use Rattle.requests.specs.declared.Refusal.{Refusal}
+use Rattle.sessions.specs.Turns.{taken, passed}
+use Rattle.sessions.specs.Calls.{Call, Open, Add, Drop, Turn, Plain, opened}
+use Rattle.sessions.specs.Table.{refusal}
+use Rattle.sessions.specs.Plain.{removed, change, step, completed, dropsOf}
+use Rattle.sessions.specs.Sound.{Sound}
+use Rattle.sessions.proofs.Steps.{step-accepted, step-refused, drops-refused}
+use Rattle.sessions.proofs.Removed.{length-removed, removed-around}
+use Rattle.sessions.proofs.SoundKept.{sound-step}
+use Rattle.sessions.proofs.Advance.{Nearer, advance}
+use Rattle.sessions.proofs.TurnsAt.{TurnAt, turnsAt, turns-refused, turn-accepted}
+use Rattle.sessions.proofs.Rank.{dropped, served, stays}
+use Rattle.sessions.proofs.Settled.{ProgressBy, Settled, settled}
+
+module _ (limit : ℕ) (e : Entry) where
+  -- the entry waits in a sound queue with n requests ahead of it
+  pub record Ahead (p : Plain) (n : ℕ) : Type 0 where
+    pub setup : Setup
+    pub ahead : List Entry
+    pub behind : List Entry
+    pub is : p ≡ opened setup (ahead ++ e ∷ behind)
+    pub sound : Sound limit setup (ahead ++ e ∷ behind)
+    pub rank : length ahead ≡ n
+
+  module _ (s : Setup) (ahead behind : List Entry) (sound : Sound limit s (ahead ++ e ∷ behind)) where
+    abbrev here : Plain
+    here = opened s (ahead ++ e ∷ behind)
+
+    -- the entry waits on, with those of `nearer` before it
+    still : (c : Call) (nearer later : List Entry) → step limit here c ≡ opened s (nearer ++ e ∷ later)
+        → length (turnsAt limit here c) + length nearer ≤ length ahead → dropsOf limit (e .id) here c ≡ 0 → ProgressBy limit e Ahead here c (length ahead)
+    still c nearer later next fewer keeps =
+        stays (length nearer) keeps
+        (record { setup = s; ahead = nearer; behind = later; is = next; sound = rw next at (sound-step limit here c sound); rank = refl })
+        fewer
+
+    by-turn : (room : ℕ) → refusal limit here (Turn room) ≡ none → List·Memᴰ e (taken s (ahead ++ e ∷ behind)) ⊎ Nearer s ahead e behind
+        → ProgressBy limit e Ahead here (Turn room) (length ahead)
+    unfolding change dropsOf
+    by-turn room h (inl m) =
+        let t : TurnAt = record { setup = s; queue = ahead ++ e ∷ behind } in
+        served (record { turn = t; member = rw (turn-accepted limit s (ahead ++ e ∷ behind) room h) (List·Memᴰ·head refl); serves = record { sound = sound; member = m } })
+    by-turn room h (inr n) =
+        still (Turn room) (passed s ahead) (n .more) (step-accepted limit here (Turn room) h ∙ ap (opened s) (n .next))
+        (rw (turn-accepted limit s (ahead ++ e ∷ behind) room h) (omega (arith, n .fewer)))
+        refl
+
+    accepted : (c : Call) → refusal limit here c ≡ none → ProgressBy limit e Ahead here c (length ahead)
+    unfolding change turnsAt dropsOf
+    accepted (Open o) h = still (Open o) ahead behind (step-accepted limit here (Open o) h) (omega arith) refl
+    accepted (Add id r) h =
+        still (Add id r) ahead (behind ++ record { id = id; request = r } ∷ [])
+        (step-accepted limit here (Add id r) h ∙ ap (opened s) (append-assoc ahead (e ∷ behind) (record { id = id; request = r } ∷ [])))
+        (omega arith)
+        refl
+    accepted (Drop id) h = go (eqb id (e .id)) refl
+      where
+        go : (b : Bool) → eqb id (e .id) ≡ b → ProgressBy limit e Ahead here (Drop id) (length ahead)
+        go true k = dropped (ap Drop (eqb-true id (e .id) k), h)
+        go false k =
+            still (Drop id) (removed id ahead) (removed id behind)
+            (step-accepted limit here (Drop id) h ∙ ap (opened s) (removed-around id ahead e behind k))
+            (omega (arith, length-removed id ahead))
+            (rw (h, ne-eqb (e .id) id (λ same. eqb-false id (e .id) k (sym same))))
+    accepted (Turn room) h = by-turn room h (advance s ahead e behind (sound .alone))
+
+    progress-here : (c : Call) → ProgressBy limit e Ahead here c (length ahead)
+    progress-here c = go (refusal limit here c) refl
+      where
+        go : (x : Option Refusal) → refusal limit here c ≡ x → ProgressBy limit e Ahead here c (length ahead)
+        go none h = accepted c h
+        go (some x) h = still c ahead behind (step-refused limit here c x h) (omega (arith, turns-refused limit here c x h)) (drops-refused limit (e .id) here c x h)
+
+  progress : (p : Plain) (c : Call) (n : ℕ) → Ahead p n → ProgressBy limit e Ahead p c n
+  progress p c n w = rw (w .is, ← w .rank) (progress-here (w .setup) (w .ahead) (w .behind) (w .sound) c)
+
+  pub bound : (after : List Call) (p : Plain) (n : ℕ) → Ahead p n → suc n ≤ completed limit p after → Settled limit e p after n
+  bound = settled limit e Ahead progress

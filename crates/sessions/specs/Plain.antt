@@ -1,0 +1,67 @@
+-- The plain queue: "A call that the refusal table refuses in that state leaves it as it is. Every other call is accepted and changes it".
+use mathlib.Core.List.{List, [], _∷_, _++_}
+use mathlib.Core.Option.{Option, none, some}
+use Prim.Native.Nat.{ℕ, _+_}
+use lib.Dec.{eqb}
+use Rattle.requests.specs.declared.Entry.{Entry}
+use Rattle.requests.specs.declared.Refusal.{Refusal}
+use Rattle.requests.specs.Choice.{pick}
+use Rattle.requests.specs.Devices.{setupOf}
+use Rattle.sessions.specs.Turns.{turned}
+use Rattle.sessions.specs.Calls.{Call, Open, Add, Drop, Turn, Plain, notOpen, opened}
+use Rattle.sessions.specs.Table.{refusal}
+
+-- "drop: an id. The others keep their order."
+unfoldable pub removed : ℕ → List Entry → List Entry
+removed id [] = []
+removed id (e ∷ es) = pick (eqb id (e .id)) (removed id es) (e ∷ removed id es)
+
+-- what an accepted call makes of the state; no other call of a state is accepted
+unfoldable pub change : Plain → Call → Plain
+change notOpen (Open o) = elim (setupOf o) [ none ↦ notOpen | some s ↦ opened s [] ]
+change notOpen (Add id r) = notOpen
+change notOpen (Drop id) = notOpen
+change notOpen (Turn room) = notOpen
+change (opened s q) (Open o) = opened s q
+change (opened s q) (Add id r) = opened s (q ++ record { id = id; request = r } ∷ [])
+change (opened s q) (Drop id) = opened s (removed id q)
+change (opened s q) (Turn room) = opened s (turned s q)
+
+-- the first of two where a call is refused, the second where it is accepted
+abbrev pub unlessRefused : {A : Type 0} → Option Refusal → A → A → A
+unlessRefused none old new = new
+unlessRefused (some x) old new = old
+
+module _ (limit : ℕ) where
+  -- one call
+  unfoldable pub step : Plain → Call → Plain
+  step p c = unlessRefused (refusal limit p c) p (change p c)
+
+  -- the state that a list of calls leaves
+  unfoldable pub run : Plain → List Call → Plain
+  run p [] = p
+  run p (c ∷ cs) = run (step p c) cs
+
+  -- how many turns the call completes: "A turn is completed when it is accepted."
+  unfoldable pub completes : Plain → Call → ℕ
+  completes p (Open o) = 0
+  completes p (Add id r) = 0
+  completes p (Drop id) = 0
+  completes p (Turn room) = unlessRefused (refusal limit p (Turn room)) 0 1
+
+  -- how many turns a list of calls completes
+  unfoldable pub completed : Plain → List Call → ℕ
+  completed p [] = 0
+  completed p (c ∷ cs) = completes p c + completed (step p c) cs
+
+  -- how often the call drops the id: "It is dropped by an accepted drop of its id."
+  unfoldable pub dropsOf : ℕ → Plain → Call → ℕ
+  dropsOf id p (Open o) = 0
+  dropsOf id p (Add other r) = 0
+  dropsOf id p (Drop other) = unlessRefused (refusal limit p (Drop other)) 0 (pick (eqb id other) 1 0)
+  dropsOf id p (Turn room) = 0
+
+  -- how often a list of calls drops the id
+  unfoldable pub drops : ℕ → Plain → List Call → ℕ
+  drops id p [] = 0
+  drops id p (c ∷ cs) = dropsOf id p c + drops id (step p c) cs

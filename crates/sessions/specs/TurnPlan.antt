@@ -1,0 +1,55 @@
+-- Demand 2 of every accepted turn: its plan is the first legal plan of the requests taken, and its writes are that plan's.
+use mathlib.Core.Path.{_≡_}
+use mathlib.Core.List.{List, List·Memᴰ}
+use mathlib.Core.Bool.{true, false}
+use Prim.Native.Nat.{ℕ, _*_, _≤_, _<_}
+use lib.ListN.{length}
+use Rattle.requests.specs.declared.Setup.{Setup}
+use Rattle.requests.specs.declared.Entry.{Entry}
+use Rattle.requests.specs.declared.Answer.the-variants.{Accepted}
+use Rattle.requests.specs.Bits.{bit}
+use Rattle.requests.specs.Devices.{has, counterCount}
+use Rattle.plans.specs.declared.Place.{Place}
+use Rattle.plans.specs.Lists.{All}
+use Rattle.plans.specs.Order.{First}
+use Rattle.layouts.specs.Layout.{layoutOf}
+use Rattle.layouts.specs.Writes.{writes, filled, apply}
+use Rattle.layouts.specs.NoReservedBit.{Clean}
+use Rattle.layouts.specs.OthersUntouched.{Ours}
+use Rattle.layouts.specs.RoundTrip.{ReadBack}
+use Rattle.sessions.specs.Turns.{requestsOf, taken, turned, assign}
+use Rattle.sessions.specs.Calls.{Call, opened}
+use Rattle.sessions.specs.Sessions.{plainOf, turnOf, turnSlice, planOf, sessionAfter, queueAfter}
+use Rattle.sessions.specs.declared.Session.{Session}
+
+-- a turn of the session `before`, with the queue q, that has filled the slice
+pub record TurnDone (s : Setup) (q : List Entry) (before : Session) (slice : List ℕ) : Type 0 where
+  -- "A plan gives each request its counter": the first legal plan of those taken, in queue order
+  pub places : List Place
+  pub first : First s (requestsOf (taken s q)) places
+  -- the plan answered: "in the order taken", each id with its place
+  pub plan : planOf (turnOf before (length slice)) ≡ assign (taken s q) places
+  -- the number of writes is the length of the defined list, and the list stands in the slice; "numbers past the list stay"
+  pub count : turnOf before (length slice) .writes ≡ length (writes s (requestsOf (taken s q)) places)
+  pub room : 2 * length (writes s (requestsOf (taken s q)) places) ≤ length slice
+  pub list : turnSlice before slice ≡ filled (writes s (requestsOf (taken s q)) places) slice
+  -- no reserved bit is set, nobody else's register is touched, and every value for the global control register enables the counters of others
+  pub clean : All (Clean s) (writes s (requestsOf (taken s q)) places)
+  pub others : (registers : ℕ → ℕ) (a : ℕ) → ¬ Ours s a → apply (writes s (requestsOf (taken s q)) places) registers a ≡ registers a
+  pub enabled : (v k : ℕ) → List·Memᴰ (layoutOf (s .device) .global, v) (writes s (requestsOf (taken s q)) places) → k < counterCount (s .device)
+      → has (s .usable) k ≡ false → bit k v ≡ true
+  -- "applied to any registers and read, give that turn's plan counter by counter"
+  pub read : (registers : ℕ → ℕ) → ReadBack s (requestsOf (taken s q)) places (writes s (requestsOf (taken s q)) places) registers
+  -- the queue afterwards
+  pub next : plainOf (turnOf before (length slice) .session) ≡ opened s (turned s q)
+
+-- every accepted turn of a session that calls have left, whatever slice it is given
+abbrev pub TurnPlan : Type 0
+TurnPlan =
+    (session : Session)
+    → session .opened ≡ false
+    → (calls : List Call) (s : Setup) (q : List Entry)
+    → queueAfter calls ≡ opened s q
+    → (slice : List ℕ)
+    → turnOf (sessionAfter session calls) (length slice) .answer ≡ Accepted
+    → TurnDone s q (sessionAfter session calls) slice
