@@ -15,10 +15,6 @@ pub requests-next : (es : List Entry) (e : Entry) → requestsOf (es ++ (e ∷ [
 unfolding requestsOf
 requests-next es e = map-append _ es (e ∷ [])
 
-pub requests-length : (es : List Entry) → length (requestsOf es) ≡ length es
-unfolding requestsOf
-requests-length es = length-map es _
-
 pub places-next : (gs : List Given) (g : Given) → placesIn (gs ++ (g ∷ [])) ≡ placesIn gs ++ (g .place ∷ [])
 unfolding placesIn
 places-next gs g = map-append _ gs (g ∷ [])

@@ -1,8 +1,6 @@
-pub mod Windows
 pub mod Arrays
 pub mod Queues
 pub mod Assigning
-pub mod TableAnswers
 pub mod Searching
 pub mod Selecting
 pub mod Turning

@@ -13,7 +13,7 @@ use Rattle.sessions.specs.Calls.{waits}
 use Rattle.sessions.specs.Plain.{removed}
 use Rattle.sessions.specs.Sessions.{queueLimit, vacant, padded}
 use Rattle.planner.proofs.Arrays.{array-push}
-use Rattle.planner.proofs.Windows.{window-past, window-step}
+use Rattle.requests.proofs.Windows.{window-past, window-step}
 
 -- ---- whether an id waits
 

@@ -25,7 +25,8 @@ use Rattle.sessions.specs.Sessions.{vacant, padded}
 use Rattle.planner.specs.Selections.{inArray, Searched, selectionOf}
 use Rattle.planner.proofs.Arrays.{array-push}
 use Rattle.planner.proofs.Queues.{padded-push}
-use Rattle.planner.proofs.Assigning.{requests-next, requests-length}
+use Rattle.planner.proofs.Assigning.{requests-next}
+use Rattle.sessions.proofs.TakenPlan.{requests-length}
 use Rattle.sessions.proofs.Takes.{taking}
 use Rattle.planner.proofs.Searching.{found-plan, found-none}
 

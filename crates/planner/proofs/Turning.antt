@@ -18,7 +18,6 @@ use Rattle.requests.specs.Choice.{pick}
 use Rattle.requests.specs.Refusals.{answerFor}
 use Rattle.requests.specs.Devices.{capacity}
 use Rattle.plans.specs.Found.{give, given}
-use Rattle.plans.proofs.PartsHold.{parts}
 use Rattle.plans.proofs.PlanLengthHolds.{plan-length}
 use Rattle.layouts.specs.declared.WriteAnswer.the-variants.{Written, TooShort}
 use Rattle.layouts.specs.declared.Settings.{Settings}
@@ -33,9 +32,9 @@ use Rattle.planner.specs.Selections.{placesIn, takenIn, placesTaken, pas
 use Rattle.planner.specs.declared.Selection.{Selection}
 use Rattle.sessions.specs.declared.Session.{Session}
 use Rattle.planner.proofs.Arrays.{array-take}
-use Rattle.planner.proofs.Assigning.{requests-length, places-given}
-use Rattle.sessions.proofs.TakenPlan.{taken-first}
-use Rattle.planner.proofs.TableAnswers.{plain-closed, plain-opened, turn-closed, turn-short, turn-accepted}
+use Rattle.planner.proofs.Assigning.{places-given}
+use Rattle.sessions.proofs.TakenPlan.{taken-first, requests-length, taken-few}
+use Rattle.sessions.proofs.TableAnswers.{plain-closed, plain-opened, turn-closed, turn-short, turn-accepted}
 
 -- ---- what is selected
 
@@ -80,9 +79,7 @@ module _ (s : Setup) (q : List Entry) where
 
   pub selection-few : selectionOf s q .count ≤ 8
   unfolding selectionOf capacity
-  selection-few =
-      let m = parts .at-most s (requestsOf (taken s q)) (placesOf s (taken s q), taken-first s q .legal) in
-      omega (arith, requests-length (taken s q), plan-length .usable-at-most s, plan-length .device-at-most (s .device))
+  selection-few = taken-few s q
 
   selection-all : selectionOf s q .rest + selectionOf s q .count ≡ length q
   unfolding selectionOf taken passed

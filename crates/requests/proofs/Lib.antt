@@ -3,6 +3,7 @@ pub mod Words
 pub mod BitLists
 pub mod MaskTests
 pub mod Openings
+pub mod OpeningsTaken
 pub mod Lookups
 pub mod Roles
 pub mod FirstHolding
@@ -10,3 +11,4 @@ pub mod ExamplesHold
 pub mod Passes
 pub mod WellFormed
 pub mod Sizes
+pub mod Windows

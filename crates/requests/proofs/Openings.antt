@@ -40,10 +40,10 @@ abbrev pub openedOn : Device → CounterSet → Opened
 openedOn d u = pick (usableSet d u) (With (record { device = d; usable = u })) Nothing
 
 -- the setup of a device with a usable set
-abbrev setupOn : Device → CounterSet → Bool → Option Setup
+abbrev pub setupOn : Device → CounterSet → Bool → Option Setup
 setupOn d u b = pick {A = Option Setup} b (some (record { device = d; usable = u })) none
 
-setup-on : (o : Opening) (d : Device) → deviceOf (o .device) ≡ some d → setupOf o ≡ setupOn d (o .usable) (usableSet d (o .usable))
+pub setup-on : (o : Opening) (d : Device) → deviceOf (o .device) ≡ some d → setupOf o ≡ setupOn d (o .usable) (usableSet d (o .usable))
 unfolding setupOf
 setup-on o d e = rw (e, setupOf) (go (usableSet d (o .usable)))
   where
@@ -68,7 +68,7 @@ opened-nothing o e =
     ap openedAs refused
 
 -- the letter that names a device is its own
-letter-is : (letter : ℕ) (d : Device) → deviceOf letter ≡ some d → letterOf d ≡ letter
+pub letter-is : (letter : ℕ) (d : Device) → deviceOf letter ≡ some d → letterOf d ≡ letter
 unfolding deviceOf
 letter-is letter d e = go (eqb letter (letterOf G)) (eqb letter (letterOf S)) refl refl
   where

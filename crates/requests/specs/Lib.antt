@@ -3,6 +3,7 @@ pub mod Refusals
 pub mod Bits
 pub mod Masks
 pub mod Devices
+pub mod Openings
 pub mod Catalogue
 pub mod Lookup
 pub mod Checks

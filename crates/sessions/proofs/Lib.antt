@@ -7,6 +7,7 @@ pub mod TakenPlan
 pub mod Fair
 pub mod Conditions
 pub mod Rows
+pub mod TableAnswers
 pub mod Rank
 pub mod Rearranged
 pub mod Removed

@@ -1,17 +1,24 @@
 -- The plan of those that a turn takes is their first legal plan. Assumes nothing.
 --     taken-fit      those taken have a plan
 --     taken-first    so theirs is the first legal one
+--     taken-few      so they are no more than arrays have room for
 use mathlib.Core.Path.{_≡_, refl, ap, sym, subst, _∙_}
 use mathlib.Core.List.{List, [], _∷_, _++_, append-nil, append-assoc}
 use mathlib.Core.Bool.{Bool, true, false}
 use mathlib.Core.Option.{Option, none, some}
+use Prim.Native.Nat.{_≤_}
+use native.Mathlib.Omega.{arith}
+use lib.ListN.{length, length-map}
 use Rattle.requests.specs.declared.Setup.{Setup}
 use Rattle.requests.specs.declared.Request.{Request}
 use Rattle.requests.specs.declared.Entry.{Entry}
+use Rattle.requests.specs.Devices.{capacity}
 use Rattle.plans.specs.declared.Place.{Place}
 use Rattle.plans.specs.Order.{First}
 use Rattle.plans.specs.Search.{planIn, firstPlan, hasPlan}
 use Rattle.plans.proofs.FirstFound.{first-plan}
+use Rattle.plans.proofs.PartsHold.{parts}
+use Rattle.plans.proofs.PlanLengthHolds.{plan-length}
 use Rattle.sessions.specs.Choose.{takenAfter}
 use Rattle.sessions.specs.Turns.{requestsOf, fits, taken, placesOf}
 use Rattle.sessions.proofs.Tests.{false-true}
@@ -61,3 +68,12 @@ taken-fit s q = kept-fits (fits s) [] q (none-fits s)
 
 pub taken-first : (s : Setup) (q : List Entry) → First s (requestsOf (taken s q)) (placesOf s (taken s q))
 taken-first s q = first-places s (taken s q) (taken-fit s q)
+
+pub requests-length : (es : List Entry) → length (requestsOf es) ≡ length es
+unfolding requestsOf
+requests-length es = length-map es _
+
+pub taken-few : (s : Setup) (q : List Entry) → length (taken s q) ≤ capacity
+taken-few s q =
+    let m = parts .at-most s (requestsOf (taken s q)) (placesOf s (taken s q), taken-first s q .legal) in
+    omega (arith, requests-length (taken s q), plan-length .usable-at-most s, plan-length .device-at-most (s .device))

@@ -6,8 +6,8 @@ use native.Mathlib.Omega.{arith}
 use lib.ListN.{length, length-take}
 use Rattle.sessions.specs.Calls.{Add}
 use Rattle.sessions.specs.Sessions.{queued, sessionOf, refusedBy, addOf}
-use Rattle.planner.proofs.Windows.{length-mapped}
-use Rattle.planner.proofs.TableAnswers.{answered-refused, answered-accepted, add-room}
+use Rattle.requests.proofs.Windows.{length-mapped}
+use Rattle.sessions.proofs.TableAnswers.{answered-refused, answered-accepted, add-room}
 use Rattle.planner.proofs.add.add.Statement.{statement}
 use Rattle.planner.proofs.add.add.Tie as tie
 

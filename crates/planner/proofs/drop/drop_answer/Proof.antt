@@ -9,7 +9,7 @@ use Rattle.requests.specs.Refusals.{answerFor}
 use Rattle.sessions.specs.Calls.{Drop, waits}
 use Rattle.sessions.specs.Table.{outsideIds}
 use Rattle.sessions.specs.Sessions.{queueLimit, queued}
-use Rattle.planner.proofs.TableAnswers.{drop-closed, drop-bad-id, drop-not-waiting, drop-accepted, answer-closed, answer-opened}
+use Rattle.sessions.proofs.TableAnswers.{drop-closed, drop-bad-id, drop-not-waiting, drop-accepted, answer-closed, answer-opened}
 use Rattle.planner.proofs.drop.drop_answer.Statement.{statement}
 use Rattle.planner.proofs.drop.drop_answer.Tie as tie
 

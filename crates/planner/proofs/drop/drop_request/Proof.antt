@@ -3,7 +3,7 @@ use borrow.Author.Needs.{needs}
 use Rattle.sessions.specs.Calls.{Drop}
 use Rattle.sessions.specs.Plain.{removed}
 use Rattle.sessions.specs.Sessions.{queued, sessionOf, refusedBy, dropOf}
-use Rattle.planner.proofs.TableAnswers.{answered-refused, answered-accepted}
+use Rattle.sessions.proofs.TableAnswers.{answered-refused, answered-accepted}
 use Rattle.planner.proofs.drop.drop_request.Statement.{statement}
 use Rattle.planner.proofs.drop.drop_request.Tie as tie
 

@@ -1,7 +1,7 @@
 -- `planner::open::open` is `openOf`: a law for each return, by the tests that led there.
 use mathlib.Core.Path.{sym, _∙_}
 use borrow.Author.Needs.{needs}
-use Rattle.planner.proofs.TableAnswers.{open-order, open-refused, open-with}
+use Rattle.sessions.proofs.TableAnswers.{open-order, open-refused, open-with}
 use Rattle.planner.proofs.open.open.Statement.{statement}
 use Rattle.planner.proofs.open.open.Tie as tie
 

@@ -5,7 +5,7 @@ use borrow.Author.Needs.{needs}
 use native.Mathlib.Omega.{arith}
 use lib.ListN.{length, take, length-take}
 use Rattle.sessions.specs.Sessions.{padded}
-use Rattle.planner.proofs.Windows.{take-next, take-min}
+use Rattle.requests.proofs.Windows.{take-next, take-min}
 use Rattle.planner.proofs.Queues.{padded-none, padded-push}
 use Rattle.planner.proofs.queue.padded.Statement.{statement}
 use Rattle.planner.proofs.queue.padded.Tie as tie

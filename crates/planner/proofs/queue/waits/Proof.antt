@@ -7,7 +7,7 @@ use native.Mathlib.Omega.{arith}
 use lib.ListN.{length, take, drop}
 use Rattle.sessions.specs.Calls.{waits}
 use Rattle.sessions.specs.Sessions.{queued}
-use Rattle.planner.proofs.Windows.{length-mapped}
+use Rattle.requests.proofs.Windows.{length-mapped}
 use Rattle.planner.proofs.Queues.{waits-past, waits-here, waits-later}
 use Rattle.planner.proofs.queue.waits.Statement.{statement}
 use Rattle.planner.proofs.queue.waits.Tie as tie

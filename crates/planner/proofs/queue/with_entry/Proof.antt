@@ -6,7 +6,7 @@ use borrow.Author.Needs.{needs}
 use native.Mathlib.Omega.{arith}
 use lib.ListN.{length, take, length-append, length-take}
 use Rattle.sessions.specs.Sessions.{queued, sessionOf}
-use Rattle.planner.proofs.Windows.{length-mapped}
+use Rattle.requests.proofs.Windows.{length-mapped}
 use Rattle.planner.proofs.Queues.{padded-push}
 use Rattle.planner.proofs.queue.with_entry.Statement.{statement}
 use Rattle.planner.proofs.queue.with_entry.Tie as tie

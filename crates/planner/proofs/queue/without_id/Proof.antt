@@ -8,7 +8,7 @@ use native.Mathlib.Omega.{arith}
 use lib.ListN.{length, take, getD, length-append}
 use Rattle.sessions.specs.Plain.{removed}
 use Rattle.sessions.specs.Sessions.{queued, padded, sessionOf}
-use Rattle.planner.proofs.Windows.{length-mapped, take-next, take-min}
+use Rattle.requests.proofs.Windows.{length-mapped, take-next, take-min}
 use Rattle.planner.proofs.Queues.{padded-none, padded-push, removed-same, removed-other}
 use Rattle.planner.proofs.queue.without_id.Statement.{statement}
 use Rattle.planner.proofs.queue.without_id.Tie as tie

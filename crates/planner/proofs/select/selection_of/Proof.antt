@@ -8,7 +8,7 @@ use lib.ListN.{length, take, getD}
 use Rattle.requests.specs.Devices.{capacity}
 use Rattle.sessions.specs.Sessions.{vacant}
 use Rattle.planner.specs.Selections.{selectionOf}
-use Rattle.planner.proofs.Windows.{take-next, take-min}
+use Rattle.requests.proofs.Windows.{take-next, take-min}
 use Rattle.planner.proofs.Queues.{padded-none}
 use Rattle.planner.proofs.Selecting.{Selected, selected-none, selected-takes, selected-passes, selected-all, taken-room, taken-few}
 use Rattle.planner.proofs.select.selection_of.Statement.{statement}

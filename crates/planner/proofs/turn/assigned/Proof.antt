@@ -12,7 +12,7 @@ use Rattle.plans.specs.Found.{nothing}
 use Rattle.sessions.specs.Turns.{assign}
 use Rattle.sessions.specs.Sessions.{vacant, unassigned}
 use Rattle.planner.specs.Selections.{inArray, placesIn}
-use Rattle.planner.proofs.Windows.{length-mapped, take-next}
+use Rattle.requests.proofs.Windows.{length-mapped, take-next}
 use Rattle.planner.proofs.Arrays.{array-push}
 use Rattle.planner.proofs.Assigning.{places-next, places-length, assign-next, assign-length}
 use Rattle.planner.proofs.turn.assigned.Statement.{statement}

@@ -10,7 +10,7 @@ use lib.ListN.{length, take, getD, length-set}
 use lib.Seq.{take-suc-set}
 use Rattle.sessions.specs.Turns.{requestsOf}
 use Rattle.sessions.specs.Sessions.{vacant}
-use Rattle.planner.proofs.Windows.{length-mapped, take-next}
+use Rattle.requests.proofs.Windows.{length-mapped, take-next}
 use Rattle.planner.proofs.Assigning.{requests-next}
 use Rattle.planner.proofs.turn.requests_of.Statement.{statement}
 use Rattle.planner.proofs.turn.requests_of.Tie as tie

@@ -9,7 +9,7 @@ use lib.ListN.{length, take, getD, length-append, length-take}
 use lib.Seq.{length-take-le}
 use Rattle.sessions.specs.Sessions.{vacant, padded, sessionOf}
 use Rattle.planner.specs.Selections.{passedIn, takenIn}
-use Rattle.planner.proofs.Windows.{length-mapped, take-next}
+use Rattle.requests.proofs.Windows.{length-mapped, take-next}
 use Rattle.planner.proofs.Queues.{padded-none, padded-push}
 use Rattle.planner.proofs.turn.requeued.Statement.{statement}
 use Rattle.planner.proofs.turn.requeued.Tie as tie

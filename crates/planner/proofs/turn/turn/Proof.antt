@@ -9,7 +9,7 @@ use Rattle.layouts.specs.Slices.{Wrote}
 use Rattle.sessions.specs.Turns.{taken, turned, writesOf}
 use Rattle.sessions.specs.Sessions.{queued}
 use Rattle.planner.specs.Selections.{selectionOf}
-use Rattle.planner.proofs.Windows.{length-mapped}
+use Rattle.requests.proofs.Windows.{length-mapped}
 use Rattle.planner.proofs.Turning.{selection-taken, selection-passed, selection-places, selection-few, selection-within, selection-writes, turn-order, turn-refused, turn-written}
 use Rattle.planner.proofs.turn.turn.Statement.{statement}
 use Rattle.planner.proofs.turn.turn.Tie as tie

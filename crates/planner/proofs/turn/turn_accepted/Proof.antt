@@ -8,7 +8,7 @@ use lib.Seq.{length-take-le}
 use Rattle.sessions.specs.Turns.{assign}
 use Rattle.sessions.specs.Sessions.{turnAnswer}
 use Rattle.planner.specs.Selections.{takenIn, placesTaken}
-use Rattle.planner.proofs.Windows.{length-mapped}
+use Rattle.requests.proofs.Windows.{length-mapped}
 use Rattle.planner.proofs.Assigning.{places-length, assign-length}
 use Rattle.planner.proofs.turn.turn_accepted.Statement.{statement}
 use Rattle.planner.proofs.turn.turn_accepted.Tie as tie

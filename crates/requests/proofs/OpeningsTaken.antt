@@ -1,0 +1,76 @@
+-- Which openings are taken: those of a device's letter with a set of its counters, by the cases of the letter and of the test of the set.
+use mathlib.Core.Path.{_≡_, refl, ap, sym, _∙_}
+use mathlib.Core.Bool.{Bool, true, false}
+use mathlib.Core.Option.{Option, none, some, Option·none-ne-some, Option·some-injective}
+use Prim.Native.Nat.{ℕ, _≤_}
+use lib.Dec.{ltb, leb}
+use borrow.Author.Tests.{lt-ltb, le-leb, ltb-true, leb-true, eq-eqb, ne-eqb}
+use Rattle.requests.specs.Choice.{both}
+use Rattle.requests.specs.Devices.{counterCount, allCounters, letterOf, deviceOf, usableSet, setupOf, openingOf}
+use Rattle.requests.specs.Openings.{Opens, Openings}
+use Rattle.requests.specs.declared.CounterSet.{CounterSet}
+use Rattle.requests.specs.declared.Device.{Device}
+use Rattle.requests.specs.declared.Device.the-variants.{G, S}
+use Rattle.requests.specs.declared.Opening.{Opening}
+use Rattle.requests.specs.declared.Setup.{Setup}
+use Rattle.requests.proofs.Openings.{setup-on, opening-is}
+use Rattle.requests.proofs.Tests.{both-parts}
+
+-- the letter of a device names it
+letter-names : (d : Device) → deviceOf (letterOf d) ≡ some d
+unfolding deviceOf letterOf
+letter-names G = refl
+letter-names S = refl
+
+-- the test of a usable set, both ways
+set-tested : (d : Device) (u : CounterSet) → 1 ≤ u .0 → u .0 ≤ allCounters d → usableSet d u ≡ true
+unfolding usableSet both
+set-tested d u h k = rw (lt-ltb 0 (u .0) h, le-leb (u .0) (allCounters d) k)
+
+set-bounds : (d : Device) (u : CounterSet) → usableSet d u ≡ true → (1 ≤ u .0) × (u .0 ≤ allCounters d)
+unfolding usableSet
+set-bounds d u h =
+    let parts = both-parts (ltb 0 (u .0)) (leb (u .0) (allCounters d)) h in
+    (ltb-true 0 (u .0) (parts .0), leb-true (u .0) (allCounters d) (parts .1))
+
+taken : (o : Opening) (s : Setup) → Opens o s → setupOf o ≡ some s
+taken o s h =
+    let named : deviceOf (o .device) ≡ some (s .device) = ap deviceOf (h .device) ∙ letter-names (s .device) in
+    setup-on o (s .device) named ∙ rw (set-tested (s .device) (o .usable) (h .at-least) (h .at-most), h .usable)
+
+-- an opening that is taken has a set of the device's counters
+bounds : (o : Opening) (s : Setup) → setupOf o ≡ some s → (1 ≤ s .usable .0) × (s .usable .0 ≤ allCounters (s .device))
+unfolding setupOf
+bounds o s e = go (deviceOf (o .device)) refl
+  where
+    tested : (d : Device) → deviceOf (o .device) ≡ some d → (b : Bool) → usableSet d (o .usable) ≡ b → (1 ≤ s .usable .0) × (s .usable .0 ≤ allCounters (s .device))
+    tested d h true k =
+        let is : record { device = d; usable = o .usable } ≡ s = Option·some-injective (record { device = d; usable = o .usable }) s (rw (h, k, setupOf) at e) in
+        rw (← is) (set-bounds d (o .usable) k)
+    tested d h false k = absurd (Option·none-ne-some s (rw (h, k, setupOf) at e))
+
+    go : (x : Option Device) → deviceOf (o .device) ≡ x → (1 ≤ s .usable .0) × (s .usable .0 ≤ allCounters (s .device))
+    go none h = absurd (Option·none-ne-some s (rw (h, setupOf) at e))
+    go (some d) h = tested d h (usableSet d (o .usable)) refl
+
+only : (o : Opening) (s : Setup) → setupOf o ≡ some s → Opens o s
+unfolding openingOf
+only o s e =
+    let is = opening-is o s e in
+    let within = bounds o s e in
+    rw (← is) (record { device = refl; usable = refl; at-least = within .0; at-most = within .1 })
+
+refused : (o : Opening) → ((s : Setup) → ¬ Opens o s) → setupOf o ≡ none
+refused o none-opens = go (setupOf o) refl
+  where
+    go : (x : Option Setup) → setupOf o ≡ x → setupOf o ≡ none
+    go none h = h
+    go (some s) h = absurd (none-opens s (only o s h))
+
+fifteen : (d : Device) → allCounters d ≡ 15
+unfolding allCounters counterCount
+fifteen G = refl
+fifteen S = refl
+
+pub openings : Openings
+openings = record { taken = taken; only = only; refused = refused; fifteen = fifteen }
