@@ -1,0 +1,155 @@
+-- A text that is read format by format, and gives a record, has exactly the fields that the record's values spell. Assumes nothing.
+use mathlib.Core.Path.{_≡_, refl, ap₂, sym, _∙_}
+use mathlib.Core.Bool.{Bool, true, false}
+use mathlib.Core.List.{List, [], _∷_}
+use Prim.Native.Nat.{ℕ, suc, _+_}
+use native.Mathlib.Omega.{arith}
+use lib.Dec.{eqb}
+use lib.ListN.{length, drop, drop-of-length-le}
+use lib.Seq.{drop-cons}
+use borrow.Author.Tests.{eqb-true}
+use Rattle.requests.specs.declared.Device.{Device}
+use Rattle.requests.specs.declared.Device.the-variants.{G, S}
+use Rattle.requests.specs.Choice.{pick, both}
+use Rattle.requests.specs.Devices.{letterOf}
+use Rattle.requests.proofs.Tests.{true-not-false, both-parts}
+use Rattle.records.specs.Text.{hexText, decimalText}
+use Rattle.records.specs.Records.{Decimal, Hex}
+use Rattle.records.specs.Fields.{fields, fieldAt, sameBytes}
+use Rattle.records.specs.Numbers.{decimalOf, hexOf}
+use Rattle.records.specs.Verbs.{withNumber, withDevice, ended}
+use Rattle.records.specs.declared.Number.{Number}
+use Rattle.records.specs.declared.Number.the-variants.{Value, Bad}
+use Rattle.records.specs.declared.Record.{Record}
+use Rattle.records.specs.declared.Parsed.{Parsed}
+use Rattle.records.specs.declared.Parsed.the-variants.{Line, Fault}
+use Rattle.records.proofs.Outcomes.{fault-not-line}
+use Rattle.records.proofs.Decimals.{decimal-only}
+use Rattle.records.proofs.Hexes.{hex-only}
+
+-- how a field is spelled
+pub data Format : Type 0 where
+  decimal : Format
+  hex : ℕ → Format
+  letter : Format
+
+-- what it holds
+abbrev pub Held : Format → Type 0
+Held decimal = ℕ
+Held (hex w) = ℕ
+Held letter = Device
+
+-- what fits it
+abbrev pub Fit : (f : Format) → Held f → Type 0
+Fit decimal n = Decimal n
+Fit (hex w) n = Hex w n
+Fit letter d = Unit {0}
+
+-- its text
+abbrev pub spelled : (f : Format) → Held f → List ℕ
+spelled decimal n = decimalText n
+spelled (hex w) n = hexText w n
+spelled letter d = letterOf d ∷ []
+
+-- what follows it, or the field at fault
+abbrev pub given : (f : Format) → List ℕ → ℕ → (Held f → Parsed) → Parsed
+given decimal x k next = withNumber (decimalOf x) k next
+given (hex w) x k next = withNumber (hexOf w x) k next
+given letter x k next = withDevice x k next
+
+-- what fields of these formats hold
+abbrev pub Values : List Format → Type 0
+Values [] = Unit {0}
+Values (f ∷ fs) = Held f × Values fs
+
+-- all of it fits
+abbrev pub AllFit : (fs : List Format) → Values fs → Type 0
+AllFit [] v = Unit {0}
+AllFit (f ∷ fs) v = Fit f (v .0) × AllFit fs (v .1)
+
+-- their texts
+abbrev pub texts : (fs : List Format) → Values fs → List (List ℕ)
+texts [] v = []
+texts (f ∷ fs) v = spelled f (v .0) ∷ texts fs (v .1)
+
+-- the record that the fields from k on give
+abbrev pub readFrom : (fs : List Format) → List ℕ → Bool → ℕ → (Values fs → Record) → Parsed
+readFrom [] t closed k made = ended t closed k (made tt)
+readFrom (f ∷ fs) t closed k made = given f (fieldAt t k) k (λ x. readFrom fs t closed (suc k) (λ v. made (x, v)))
+
+-- equal runs of bytes
+pub same-bytes : (f g : List ℕ) → sameBytes f g ≡ true → f ≡ g
+unfolding sameBytes
+same-bytes [] [] e = refl
+same-bytes [] (b ∷ g) e = absurd (true-not-false (sym e))
+same-bytes (a ∷ f) [] e = absurd (true-not-false (sym e))
+same-bytes (a ∷ f) (b ∷ g) e = go (eqb a b) refl e (same-bytes f g)
+  where
+    go : (t : Bool) → eqb a b ≡ t → pick t (sameBytes f g) false ≡ true → (sameBytes f g ≡ true → f ≡ g) → a ∷ f ≡ b ∷ g
+    go true p q ih = ap₂ _∷_ (eqb-true a b p) (ih q)
+    go false p q ih = absurd (true-not-false (sym q))
+
+-- a number was there
+number-only : (x : Number) (k : ℕ) (next : ℕ → Parsed) (r : Record) → withNumber x k next ≡ Line r → (n : ℕ) × (x ≡ Value n) × (next n ≡ Line r)
+number-only (Value n) k next r e = (n, refl, e)
+number-only Bad k next r e = absurd (fault-not-line k r e)
+
+-- a letter was there
+letter-only : (x : List ℕ) (k : ℕ) (next : Device → Parsed) (r : Record) → withDevice x k next ≡ Line r
+    → (d : Device) × (x ≡ letterOf d ∷ []) × (next d ≡ Line r)
+letter-only x k next r e = go (sameBytes x (letterOf G ∷ [])) refl (sameBytes x (letterOf S ∷ [])) refl e
+  where
+    go : (g : Bool) → sameBytes x (letterOf G ∷ []) ≡ g → (s : Bool) → sameBytes x (letterOf S ∷ []) ≡ s
+        → pick g (next G) (pick s (next S) (Fault k)) ≡ Line r → (d : Device) × (x ≡ letterOf d ∷ []) × (next d ≡ Line r)
+    go true p s q e = (G, same-bytes x (letterOf G ∷ []) p, e)
+    go false p true q e = (S, same-bytes x (letterOf S ∷ []) q, e)
+    go false p false q e = absurd (fault-not-line k r e)
+
+-- a field that is read is the text of what it holds
+given-only : (f : Format) (x : List ℕ) (k : ℕ) (next : Held f → Parsed) (r : Record) → given f x k next ≡ Line r
+    → (v : Held f) × Fit f v × (x ≡ spelled f v) × (next v ≡ Line r)
+given-only decimal x k next r e =
+    let (n, value, rest) = number-only (decimalOf x) k next r e in
+    let told = decimal-only x n value in
+    (n, told .0, told .1, rest)
+given-only (hex w) x k next r e =
+    let (n, value, rest) = number-only (hexOf w x) k next r e in
+    let told = hex-only w x n value in
+    (n, told .0, told .1, rest)
+given-only letter x k next r e = let (d, is, rest) = letter-only x k next r e in (d, tt, is, rest)
+
+-- nothing follows
+ended-only : (t : List ℕ) (closed : Bool) (n : ℕ) (s r : Record) → ended t closed n s ≡ Line r → (closed ≡ true) × (length (fields t) ≡ n) × (r ≡ s)
+ended-only t closed n s r e = go (both closed (eqb (length (fields t)) n)) refl e
+  where
+    go : (b : Bool) → both closed (eqb (length (fields t)) n) ≡ b → pick b (Line s) (Fault n) ≡ Line r
+        → (closed ≡ true) × (length (fields t) ≡ n) × (r ≡ s)
+    go true p q = let (c, l) = both-parts closed (eqb (length (fields t)) n) p in (c, eqb-true (length (fields t)) n l, (cc))
+    go false p q = absurd (fault-not-line n r q)
+
+-- what a record says of the fields from k on
+pub record Rest (fs : List Format) (t : List ℕ) (closed : Bool) (k : ℕ) (made : Values fs → Record) (r : Record) : Type 0 where
+  pub values : Values fs
+  pub fit : AllFit fs values
+  pub is : r ≡ made values
+  pub newline-read : closed ≡ true
+  pub count : length (fields t) ≡ k + length fs
+  pub spells : drop k (fields t) ≡ texts fs values
+
+-- a record that is given says so
+pub read-only : (fs : List Format) (t : List ℕ) (closed : Bool) (k : ℕ) (made : Values fs → Record) (r : Record) → readFrom fs t closed k made ≡ Line r
+    → Rest fs t closed k made r
+read-only [] t closed k made r e =
+    let (c, l, is) = ended-only t closed k (made tt) r e in
+    record { values = tt; fit = tt; is = is; newline-read = c; count = omega arith; spells = drop-of-length-le (fields t) {i = k} (omega arith) }
+read-only (f ∷ fs) t closed k made r e =
+    let (x, fits, spelling, next) = given-only f (fieldAt t k) k (λ x. readFrom fs t closed (suc k) (λ v. made (x, v))) r e in
+    let rest : Rest fs t closed (suc k) (λ v. made (x, v)) r = read-only fs t closed (suc k) (λ v. made (x, v)) r next in
+    record {
+      values = (x, rest .values);
+      fit = (fits, rest .fit);
+      is = rest .is;
+      newline-read = rest .newline-read;
+      count = omega (arith, rest .count);
+      spells = drop-cons (fields t) k [] (omega (arith, rest .count)) ∙ ap₂ _∷_ spelling (rest .spells);
+    }

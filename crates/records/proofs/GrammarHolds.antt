@@ -1,0 +1,38 @@
+-- A line is a record exactly when it is that record's text. Assumes nothing.
+use mathlib.Core.Path.{_≡_, refl, ap, sym, _∙_}
+use mathlib.Core.List.{List}
+use Prim.Native.Nat.{ℕ}
+use Rattle.records.specs.Text.{lineOf}
+use Rattle.records.specs.Records.{recordText}
+use Rattle.records.specs.Parse.{isClosed, parseLine}
+use Rattle.records.specs.Grammar.{IsText, Grammar}
+use Rattle.records.specs.declared.Record.{Record}
+use Rattle.records.specs.declared.Parsed.{Parsed}
+use Rattle.records.specs.declared.Parsed.the-variants.{Line, Fault}
+use Rattle.records.proofs.Tabs.{line-of-fields}
+use Rattle.records.proofs.Closings.{closed-reads, textOf, record-only, closed-only}
+use Rattle.records.proofs.Reading.{fields-read}
+use Rattle.records.proofs.ReadBack.{Told, record-tells}
+use Rattle.records.proofs.Texts.{TextOf, record-written}
+
+-- a record's text is read as the record
+text-parsed : (line : List ℕ) (r : Record) → IsText line r → parseLine line ≡ Line r
+text-parsed line r (fits, is) =
+    let w : TextOf r = record-written r fits in
+    rw (is, w .line) (closed-reads (w .text) (w .fits-line) ∙ fields-read (w .text) r fits (w .parts))
+
+-- and nothing else is
+text-only : (line : List ℕ) (r : Record) → parseLine line ≡ Line r → IsText line r
+unfolding recordText
+text-only line r e =
+    let (within, given) = record-only line r e in
+    let told : Told (textOf line) (isClosed line) r = record-tells (textOf line) (isClosed line) r given in
+    (told .fits, closed-only line (told .newline-read) within ∙ sym (line-of-fields (textOf line)) ∙ ap lineOf (told .parts))
+
+-- the statement
+pub grammar : Grammar
+grammar = record { parsed = text-parsed; only = text-only; other = λ line no-text. go line no-text (parseLine line) refl }
+  where
+    go : (line : List ℕ) → ((r : Record) → ¬ IsText line r) → (p : Parsed) → parseLine line ≡ p → (k : ℕ) × (parseLine line ≡ Fault k)
+    go line no-text (Line r) e = absurd (no-text r (text-only line r e))
+    go line no-text (Fault k) e = (k, e)

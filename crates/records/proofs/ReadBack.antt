@@ -1,0 +1,84 @@
+-- A text that gives a record has that record's fields, with their numbers in range: each verb is read by formats, and the verbs by their table. Assumes nothing.
+use mathlib.Core.Path.{_≡_, refl, ap, ap₂, sym, _∙_}
+use mathlib.Core.Bool.{Bool, true, false}
+use mathlib.Core.List.{List, [], _∷_}
+use mathlib.Core.Option.{Option, none, some}
+use Prim.Native.Nat.{ℕ}
+use Prim.Native.String.{String}
+use native.Mathlib.Omega.{arith}
+use lib.ListN.{drop}
+use lib.Seq.{drop-cons}
+use Rattle.requests.specs.declared.Request.the-variants.{Event, Packet, Offcore, Latency}
+use Rattle.requests.specs.Choice.{Row, firstHolding}
+use Rattle.records.specs.Text.{bytes}
+use Rattle.records.specs.Records.{addFields, recordFields, Fits}
+use Rattle.records.specs.Fields.{fields, fieldAt}
+use Rattle.records.specs.Verbs.{setOf, openLine, eventLine, packetLine, offcoreLine, latencyLine, dropLine, turnLine, hasVerb, verbs, recordOf}
+use Rattle.records.specs.declared.Record.{Record}
+use Rattle.records.specs.declared.Record.the-variants.{Open, Add, Drop, Turn}
+use Rattle.records.specs.declared.Parsed.{Parsed}
+use Rattle.records.specs.declared.Parsed.the-variants.{Line, Fault}
+use Rattle.records.proofs.Outcomes.{fault-not-line}
+use Rattle.records.proofs.Formats.{Format, decimal, hex, letter, Values, AllFit, texts, readFrom, Rest, read-only, same-bytes}
+
+-- what a record tells of the text that gives it
+pub record Told (t : List ℕ) (closed : Bool) (r : Record) : Type 0 where
+  pub newline-read : closed ≡ true
+  pub fits : Fits r
+  pub parts : fields t ≡ recordFields r
+
+-- a verb that is read by formats tells so
+module _ (word : String) (fs : List Format) (made : Values fs → Record) (fits : (v : Values fs) → AllFit fs v → Fits (made v))
+    (same : (v : Values fs) → recordFields (made v) ≡ bytes word ∷ texts fs v) where
+  verb-only : (t : List ℕ) → hasVerb t word ≡ true → (closed : Bool) (r : Record) → readFrom fs t closed 1 made ≡ Line r → Told t closed r
+  unfolding hasVerb
+  verb-only t verb closed r e =
+      let rest : Rest fs t closed 1 made r = read-only fs t closed 1 made r e in
+      let first : fieldAt t 0 ≡ bytes word = same-bytes (fieldAt t 0) (bytes word) verb in
+      let parts : fields t ≡ bytes word ∷ texts fs (rest .values) = drop-cons (fields t) 0 [] (omega (arith, rest .count)) ∙ ap₂ _∷_ first (rest .spells) in
+      record {
+        newline-read = rest .newline-read;
+        fits = rw (rest .is) (fits (rest .values) (rest .fit));
+        parts = parts ∙ sym (same (rest .values)) ∙ ap recordFields (sym (rest .is));
+      }
+
+-- what every row of a table has that holds
+data Rows {A : Type 0} (P : A → Type 0) : List (Row A) → Type 0 where
+  last : Rows P []
+  row : {b : Bool} {a : A} {rows : List (Row A)} → (b ≡ true → P a) → Rows P rows → Rows P ((b, a) ∷ rows)
+
+-- the first one has it
+first-row : {A : Type 0} {P : A → Type 0} {rows : List (Row A)} → Rows P rows → (a : A) → firstHolding rows ≡ some a → P a
+unfolding firstHolding
+first-row last a e = let z : _≡_ {A = ℕ} 0 1 = cc in absurd (omega arith)
+first-row {P = P} (row {b = true} {a = b} p ps) a e = let is : b ≡ a = cc in rw is at (p refl)
+first-row (row {b = false} p ps) a e = first-row ps a e
+
+-- each verb tells so
+verb-rows : (t : List ℕ) → Rows (λ read. (closed : Bool) (r : Record) → read t closed ≡ Line r → Told t closed r) (verbs t)
+unfolding verbs openLine eventLine packetLine offcoreLine latencyLine dropLine turnLine recordFields addFields
+verb-rows t =
+    row (verb-only "open" (letter ∷ decimal ∷ []) (λ v. Open (v .0) (setOf (v .1 .0))) (λ v h. h .1 .0) (λ v. refl) t)
+    (row (verb-only "event" (decimal ∷ hex 2 ∷ hex 2 ∷ decimal ∷ [])
+    (λ v. Add (v .0) (Event (v .1 .0) (v .1 .1 .0) (setOf (v .1 .1 .1 .0)))) (λ v h. four h) (λ v. refl) t)
+    (row (verb-only "packet" (decimal ∷ hex 16 ∷ hex 16 ∷ decimal ∷ [])
+    (λ v. Add (v .0) (Packet (v .1 .0) (v .1 .1 .0) (setOf (v .1 .1 .1 .0)))) (λ v h. four h) (λ v. refl) t)
+    (row (verb-only "offcore" (decimal ∷ hex 16 ∷ decimal ∷ [])
+    (λ v. Add (v .0) (Offcore (v .1 .0) (setOf (v .1 .1 .0)))) (λ v h. (h .0, h .1 .0, h .1 .1 .0)) (λ v. refl) t)
+    (row (verb-only "latency" (decimal ∷ hex 4 ∷ decimal ∷ decimal ∷ [])
+    (λ v. Add (v .0) (Latency (v .1 .0) (setOf (v .1 .1 .0)) (setOf (v .1 .1 .1 .0)))) (λ v h. four h) (λ v. refl) t)
+    (row (verb-only "drop" (decimal ∷ []) (λ v. Drop (v .0)) (λ v h. h .0) (λ v. refl) t)
+    (row (verb-only "turn" [] (λ v. Turn) (λ v h. tt) (λ v. refl) t)
+    last))))))
+  where
+    four : {A B C D : Type 0} → A × (B × (C × (D × Unit {0}))) → A × B × C × D
+    four h = (h .0, h .1 .0, h .1 .1 .0, h .1 .1 .1 .0)
+
+-- a text that gives a record has its fields
+pub record-tells : (t : List ℕ) (closed : Bool) (r : Record) → recordOf t closed ≡ Line r → Told t closed r
+unfolding recordOf
+record-tells t closed r e = go (firstHolding (verbs t)) refl e
+  where
+    go : (o : Option (List ℕ → Bool → Parsed)) → firstHolding (verbs t) ≡ o → elim o [ none ↦ Fault 0 | some read ↦ read t closed ] ≡ Line r → Told t closed r
+    go none p q = absurd (fault-not-line 0 r q)
+    go (some read) p q = first-row (verb-rows t) read p closed r q

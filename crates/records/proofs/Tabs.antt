@@ -1,0 +1,126 @@
+-- Fields without tabs, written as a line, are the fields of its text; and a text is its fields written as a line. Assumes nothing.
+use mathlib.Core.Path.{_≡_, refl, ap, sym, _∙_}
+use mathlib.Core.Bool.{Bool, true, false}
+use mathlib.Core.List.{List, [], _∷_, _++_, append-assoc}
+use Prim.Native.Nat.{ℕ, _+_, _*_, _<_, _≤_}
+use native.Mathlib.Omega.{arith}
+use lib.Dec.{ltb, eqb}
+use lib.ListN.{length, length-append}
+use borrow.Author.Tests.{ltb-true, eqb-true, ne-eqb}
+use Rattle.requests.specs.Choice.{pick}
+use Rattle.requests.proofs.Tests.{true-not-false}
+use Rattle.records.specs.Text.{tab, newline, lineOf}
+use Rattle.records.specs.Fields.{onto, fields}
+use Rattle.records.specs.Numbers.{digitOf, numberFrom}
+use Rattle.records.specs.declared.Number.the-variants.{Value}
+use Rattle.records.proofs.Outcomes.{read-where}
+
+-- whether a run of bytes has no tab
+unfoldable pub tabFree : List ℕ → Bool
+tabFree [] = true
+tabFree (b ∷ f) = pick (eqb b tab) false (tabFree f)
+
+-- a tab is no digit
+tab-digit : digitOf tab ≡ 16
+unfolding digitOf tab
+tab-digit = refl
+
+-- a numeral has no tab
+pub numeral-free : (base n : ℕ) (f : List ℕ) (m : ℕ) → base ≤ 16 → numberFrom base n f ≡ Value m → tabFree f ≡ true
+unfolding numberFrom tabFree
+numeral-free base n [] m most e = refl
+numeral-free base n (b ∷ f) m most e =
+    let (digit, value) = read-where (ltb (digitOf b) base) (numberFrom base (n * base + digitOf b) f) m e in
+    rw (ne-eqb b tab (other (ltb-true (digitOf b) base digit))) (numeral-free base (n * base + digitOf b) f m most value)
+  where
+    other : digitOf b < base → ¬ (b ≡ tab)
+    other h is = let below : digitOf tab < base = rw is at h in omega (arith, tab-digit)
+
+-- a first byte and others, none a tab
+record Free (b : ℕ) (f : List ℕ) : Type 0 where
+  first : eqb b tab ≡ false
+  others : tabFree f ≡ true
+
+-- a field with no tab has none at any place
+free-parts : (b : ℕ) (f : List ℕ) → tabFree (b ∷ f) ≡ true → Free b f
+unfolding tabFree
+free-parts b f e = go (eqb b tab) refl e
+  where
+    go : (t : Bool) → eqb b tab ≡ t → pick t false (tabFree f) ≡ true → Free b f
+    go true p q = absurd (true-not-false (sym q))
+    go false p q = record { first = p; others = q }
+
+-- it is one field alone
+pub one-field : (f : List ℕ) → tabFree f ≡ true → fields f ≡ f ∷ []
+unfolding fields
+one-field [] h = refl
+one-field (b ∷ f) h = let s : Free b f = free-parts b f h in rw (s .first, one-field f (s .others))
+
+-- and the first one before a tab
+pub first-field : (f t : List ℕ) → tabFree f ≡ true → fields (f ++ tab ∷ t) ≡ f ∷ fields t
+unfolding fields tab
+first-field [] t h = refl
+first-field (b ∷ f) t h = let s : Free b f = free-parts b f h in rw (s .first, first-field f t (s .others))
+
+-- a field that a record may hold after its verb
+pub record Plain (f : List ℕ) : Type 0 where
+  pub free : tabFree f ≡ true
+  pub short : length f ≤ 16
+
+-- fields that are all so
+pub data Plains : List (List ℕ) → Type 0 where
+  none : Plains []
+  more : {f : List ℕ} {fs : List (List ℕ)} → Plain f → Plains fs → Plains (f ∷ fs)
+
+-- the text of a line with these fields
+pub record Written (f : List ℕ) (fs : List (List ℕ)) : Type 0 where
+  pub text : List ℕ
+  pub line : lineOf (f ∷ fs) ≡ text ++ newline ∷ []
+  pub parts : fields text ≡ f ∷ fs
+  pub size : length text ≤ length f + 17 * length fs
+
+-- every such line has one
+pub written : (f : List ℕ) (fs : List (List ℕ)) → tabFree f ≡ true → Plains fs → Written f fs
+unfolding lineOf
+written f [] h none = record { text = f; line = refl; parts = one-field f h; size = omega arith }
+written f (g ∷ fs) h (more p ps) =
+    let w : Written g fs = written g fs (p .free) ps in
+    record {
+      text = f ++ tab ∷ w .text;
+      line = rw (w .line, append-assoc);
+      parts = first-field f (w .text) h ∙ ap (λ (gs : List (List ℕ)). f ∷ gs) (w .parts);
+      size = simp length-append (omega (arith, w .size, p .short));
+    }
+
+-- a text has a field
+some-field : (t : List ℕ) → (f : List ℕ) × (fs : List (List ℕ)) × (fields t ≡ f ∷ fs)
+unfolding fields
+some-field [] = ([], [], refl)
+some-field (b ∷ t) = go (eqb b tab) (some-field t)
+  where
+    go : (x : Bool) → (f : List ℕ) × (fs : List (List ℕ)) × (fields t ≡ f ∷ fs)
+        → (f : List ℕ) × (fs : List (List ℕ)) × (pick x ([] ∷ fields t) (onto b (fields t)) ≡ f ∷ fs)
+    go true s = ([], fields t, refl)
+    go false (f, fs, e) = (b ∷ f, fs, rw e)
+
+-- a byte before the first field
+line-onto : (b : ℕ) (f : List ℕ) (fs : List (List ℕ)) → lineOf (onto b (f ∷ fs)) ≡ b ∷ lineOf (f ∷ fs)
+unfolding lineOf
+line-onto b f [] = refl
+line-onto b f (g ∷ fs) = refl
+
+-- a byte before the text, tab or not
+line-more : (b : ℕ) (f : List ℕ) (fs : List (List ℕ)) (l : List ℕ) (x : Bool) → eqb b tab ≡ x → lineOf (f ∷ fs) ≡ l
+    → lineOf (pick x ([] ∷ f ∷ fs) (onto b (f ∷ fs))) ≡ b ∷ l
+unfolding lineOf
+line-more b f fs l true p e = rw (e, eqb-true b tab p)
+line-more b f fs l false p e = line-onto b f fs ∙ ap (λ (k : List ℕ). b ∷ k) e
+
+-- a text, closed by a newline, is the line of its fields
+pub line-of-fields : (t : List ℕ) → lineOf (fields t) ≡ t ++ newline ∷ []
+unfolding fields lineOf
+line-of-fields [] = refl
+line-of-fields (b ∷ t) = go (some-field t) (line-of-fields t)
+  where
+    go : (f : List ℕ) × (fs : List (List ℕ)) × (fields t ≡ f ∷ fs) → lineOf (fields t) ≡ t ++ newline ∷ [] → lineOf (fields (b ∷ t)) ≡ b ∷ t ++ newline ∷ []
+    go (f, fs, e) ih = rw e (line-more b f fs (t ++ newline ∷ []) (eqb b tab) refl (rw e at ih))

@@ -1,0 +1,38 @@
+-- Document 01, 'Lines': what number a field spells.
+use mathlib.Core.Bool.{Bool}
+use mathlib.Core.List.{List, [], _∷_}
+use Prim.Native.Nat.{ℕ, _+_, _*_, _-_}
+use lib.ListN.{length, getD}
+use lib.Dec.{ltb, eqb}
+use Rattle.requests.specs.Choice.{both, pick}
+use Rattle.records.specs.declared.Number.{Number}
+use Rattle.records.specs.declared.Number.the-variants.{Value, Bad}
+
+-- the value of a digit 0 to 9 or A to F, and 16 for any other byte
+unfoldable pub digitOf : ℕ → ℕ
+digitOf b =
+    pick (ltb b 48) 16
+    (pick (ltb b 58) (b - 48)
+    (pick (ltb b 65) 16
+    (pick (ltb b 71) (b - 55) 16)))
+
+-- the number that digits spell after those that gave n
+unfoldable pub numberFrom : ℕ → ℕ → List ℕ → Number
+numberFrom base n [] = Value n
+numberFrom base n (b ∷ bs) = pick (ltb (digitOf b) base) (numberFrom base (n * base + digitOf b) bs) Bad
+
+-- a 0 before another digit
+abbrev pub leadingZero : List ℕ → Bool
+leadingZero f = both (ltb 1 (length f)) (eqb (getD f 0 0) 48)
+
+-- "Decimals have no leading zero (0 itself is fine) and at most 5 digits."
+unfoldable pub decimalOf : List ℕ → Number
+decimalOf f =
+    pick (eqb (length f) 0) Bad
+    (pick (ltb 5 (length f)) Bad
+    (pick (leadingZero f) Bad
+    (numberFrom 10 0 f)))
+
+-- "Hex is upper case of the exact width shown."
+unfoldable pub hexOf : ℕ → List ℕ → Number
+hexOf w f = pick (eqb (length f) w) (numberFrom 16 0 f) Bad

@@ -1,0 +1,37 @@
+-- Document 01, 'Lines': what a line of bytes is.
+use mathlib.Core.Bool.{Bool, true, false}
+use mathlib.Core.List.{List}
+use Prim.Native.Nat.{ℕ, _-_}
+use lib.ListN.{length, getD, take}
+use lib.Dec.{ltb, eqb}
+use Rattle.requests.specs.Choice.{pick}
+use Rattle.records.specs.Text.{newline}
+use Rattle.records.specs.Fields.{fields}
+use Rattle.records.specs.Verbs.{recordOf}
+use Rattle.records.specs.declared.Parsed.{Parsed}
+use Rattle.records.specs.declared.Parsed.the-variants.{Line, Fault}
+
+-- "at most 80 bytes"
+unfoldable pub longest : ℕ
+longest = 80
+
+-- no record where the line is longer; at fault is then the field after the last
+unfoldable pub tooLong : Parsed → ℕ → Parsed
+tooLong (Line r) n = Fault n
+tooLong (Fault k) n = Fault k
+
+-- what a text is, closed by a newline or not, whole or the first 80 bytes of a longer one
+unfoldable pub parseText : List ℕ → Bool → Bool → Parsed
+parseText t closed long = elim long [ true ↦ tooLong (recordOf t closed) (length (fields t)) | false ↦ recordOf t closed ]
+
+-- whether the line ends with a newline
+unfoldable pub isClosed : List ℕ → Bool
+isClosed line = eqb (getD line (length line - 1) 0) newline
+
+-- the number of its bytes without it
+unfoldable pub textLength : List ℕ → ℕ
+textLength line = pick (isClosed line) (length line - 1) (length line)
+
+-- what a line is
+unfoldable pub parseLine : List ℕ → Parsed
+parseLine line = parseText (take longest (take (textLength line) line)) (isClosed line) (ltb longest (textLength line))

@@ -1,0 +1,49 @@
+-- Document 01, 'Lines': the records, and the text of each.
+use mathlib.Core.List.{List, [], _∷_}
+use Prim.Native.Nat.{ℕ, _^_, _<_}
+use Rattle.requests.specs.declared.Request.{Request}
+use Rattle.requests.specs.declared.Request.the-variants.{Event, Packet, Offcore, Latency}
+use Rattle.requests.specs.Devices.{letterOf}
+use Rattle.records.specs.Text.{bytes, hexText, decimalText, lineOf}
+use Rattle.records.specs.declared.Record.{Record}
+use Rattle.records.specs.declared.Record.the-variants.{Open, Add, Drop, Turn}
+
+-- the fields of a record that adds a request
+unfoldable pub addFields : ℕ → Request → List (List ℕ)
+addFields id (Event c m a) = bytes "event" ∷ decimalText id ∷ hexText 2 c ∷ hexText 2 m ∷ decimalText (a .0) ∷ []
+addFields id (Packet x y a) = bytes "packet" ∷ decimalText id ∷ hexText 16 x ∷ hexText 16 y ∷ decimalText (a .0) ∷ []
+addFields id (Offcore w a) = bytes "offcore" ∷ decimalText id ∷ hexText 16 w ∷ decimalText (a .0) ∷ []
+addFields id (Latency t a b) = bytes "latency" ∷ decimalText id ∷ hexText 4 t ∷ decimalText (a .0) ∷ decimalText (b .0) ∷ []
+
+-- the fields of a record
+unfoldable pub recordFields : Record → List (List ℕ)
+recordFields (Open d u) = bytes "open" ∷ (letterOf d ∷ []) ∷ decimalText (u .0) ∷ []
+recordFields (Add id r) = addFields id r
+recordFields (Drop id) = bytes "drop" ∷ decimalText id ∷ []
+recordFields Turn = bytes "turn" ∷ []
+
+-- its text
+unfoldable pub recordText : Record → List ℕ
+recordText r = lineOf (recordFields r)
+
+-- "at most 5 digits"
+abbrev pub Decimal : ℕ → Type 0
+Decimal n = n < 10 ^ 5
+
+-- hex "of the exact width"
+abbrev pub Hex : ℕ → ℕ → Type 0
+Hex w n = n < 16 ^ w
+
+-- the numbers of a record that adds a request fit their fields
+abbrev pub AddFits : ℕ → Request → Type 0
+AddFits id (Event c m a) = Decimal id × Hex 2 c × Hex 2 m × Decimal (a .0)
+AddFits id (Packet x y a) = Decimal id × Hex 16 x × Hex 16 y × Decimal (a .0)
+AddFits id (Offcore w a) = Decimal id × Hex 16 w × Decimal (a .0)
+AddFits id (Latency t a b) = Decimal id × Hex 4 t × Decimal (a .0) × Decimal (b .0)
+
+-- the numbers of a record fit their fields
+abbrev pub Fits : Record → Type 0
+Fits (Open d u) = Decimal (u .0)
+Fits (Add id r) = AddFits id r
+Fits (Drop id) = Decimal id
+Fits Turn = Unit {0}

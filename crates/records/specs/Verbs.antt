@@ -1,0 +1,110 @@
+-- Document 01, 'Lines': the record of each verb. Fields are read from the left; a missing field counts as an empty one.
+use mathlib.Core.Bool.{Bool}
+use mathlib.Core.List.{List, [], _∷_}
+use Prim.Native.Nat.{ℕ}
+use Prim.Native.String.{String}
+use mathlib.Core.Option.{none, some}
+use lib.ListN.{length}
+use lib.Dec.{eqb}
+use Rattle.requests.specs.declared.Device.{Device}
+use Rattle.requests.specs.declared.Device.the-variants.{G, S}
+use Rattle.requests.specs.declared.CounterSet.{CounterSet}
+use Rattle.requests.specs.declared.Request.the-variants.{Event, Packet, Offcore, Latency}
+use Rattle.requests.specs.Choice.{both, pick, Row, firstHolding}
+use Rattle.requests.specs.Devices.{letterOf}
+use Rattle.records.specs.Text.{bytes}
+use Rattle.records.specs.Fields.{fields, fieldAt, sameBytes}
+use Rattle.records.specs.Numbers.{decimalOf, hexOf}
+use Rattle.records.specs.declared.Number.{Number}
+use Rattle.records.specs.declared.Number.the-variants.{Value, Bad}
+use Rattle.records.specs.declared.Record.{Record}
+use Rattle.records.specs.declared.Record.the-variants.{Open, Add, Drop, Turn}
+use Rattle.records.specs.declared.Parsed.{Parsed}
+use Rattle.records.specs.declared.Parsed.the-variants.{Line, Fault}
+
+-- what follows a number, or the field at fault
+abbrev pub withNumber : Number → ℕ → (ℕ → Parsed) → Parsed
+withNumber (Value n) k next = next n
+withNumber Bad k next = Fault k
+
+-- a record of n fields in all, closed by a newline
+abbrev pub ended : List ℕ → Bool → ℕ → Record → Parsed
+ended text closed n r = pick (both closed (eqb (length (fields text)) n)) (Line r) (Fault n)
+
+-- a set that is given as a number
+abbrev pub setOf : ℕ → CounterSet
+setOf n = record { 0 = n }
+
+-- what follows a device letter, or the field at fault
+abbrev pub withDevice : List ℕ → ℕ → (Device → Parsed) → Parsed
+withDevice f k next = pick (sameBytes f (letterOf G ∷ [])) (next G) (pick (sameBytes f (letterOf S ∷ [])) (next S) (Fault k))
+
+-- `open` G|S usable
+unfoldable pub openLine : List ℕ → Bool → Parsed
+openLine t closed =
+    withDevice (fieldAt t 1) 1 (λ device.
+    withNumber (decimalOf (fieldAt t 2)) 2 (λ usable.
+    ended t closed 3 (Open device (setOf usable))))
+
+-- `event` id code(2) mask(2) allowed
+unfoldable pub eventLine : List ℕ → Bool → Parsed
+eventLine t closed =
+    withNumber (decimalOf (fieldAt t 1)) 1 (λ id.
+    withNumber (hexOf 2 (fieldAt t 2)) 2 (λ code.
+    withNumber (hexOf 2 (fieldAt t 3)) 3 (λ mask.
+    withNumber (decimalOf (fieldAt t 4)) 4 (λ allowed.
+    ended t closed 5 (Add id (Event code mask (setOf allowed)))))))
+
+-- `packet` id match(16) mask(16) allowed
+unfoldable pub packetLine : List ℕ → Bool → Parsed
+packetLine t closed =
+    withNumber (decimalOf (fieldAt t 1)) 1 (λ id.
+    withNumber (hexOf 16 (fieldAt t 2)) 2 (λ value.
+    withNumber (hexOf 16 (fieldAt t 3)) 3 (λ mask.
+    withNumber (decimalOf (fieldAt t 4)) 4 (λ allowed.
+    ended t closed 5 (Add id (Packet value mask (setOf allowed)))))))
+
+-- `offcore` id word(16) allowed
+unfoldable pub offcoreLine : List ℕ → Bool → Parsed
+offcoreLine t closed =
+    withNumber (decimalOf (fieldAt t 1)) 1 (λ id.
+    withNumber (hexOf 16 (fieldAt t 2)) 2 (λ word.
+    withNumber (decimalOf (fieldAt t 3)) 3 (λ allowed.
+    ended t closed 4 (Add id (Offcore word (setOf allowed))))))
+
+-- `latency` id type(4) first second
+unfoldable pub latencyLine : List ℕ → Bool → Parsed
+latencyLine t closed =
+    withNumber (decimalOf (fieldAt t 1)) 1 (λ id.
+    withNumber (hexOf 4 (fieldAt t 2)) 2 (λ types.
+    withNumber (decimalOf (fieldAt t 3)) 3 (λ first.
+    withNumber (decimalOf (fieldAt t 4)) 4 (λ second.
+    ended t closed 5 (Add id (Latency types (setOf first) (setOf second)))))))
+
+-- `drop` id
+unfoldable pub dropLine : List ℕ → Bool → Parsed
+dropLine t closed = withNumber (decimalOf (fieldAt t 1)) 1 (λ id. ended t closed 2 (Drop id))
+
+-- `turn`
+unfoldable pub turnLine : List ℕ → Bool → Parsed
+turnLine t closed = ended t closed 1 Turn
+
+-- whether the first field is the verb
+unfoldable pub hasVerb : List ℕ → String → Bool
+hasVerb t verb = sameBytes (fieldAt t 0) (bytes verb)
+
+-- the verbs, each with how the text is read
+unfoldable pub verbs : List ℕ → List (Row (List ℕ → Bool → Parsed))
+verbs t =
+    (hasVerb t "open", openLine)
+    ∷ (hasVerb t "event", eventLine)
+    ∷ (hasVerb t "packet", packetLine)
+    ∷ (hasVerb t "offcore", offcoreLine)
+    ∷ (hasVerb t "latency", latencyLine)
+    ∷ (hasVerb t "drop", dropLine)
+    ∷ (hasVerb t "turn", turnLine)
+    ∷ []
+
+-- the record of a text that is closed by a newline, or not
+unfoldable pub recordOf : List ℕ → Bool → Parsed
+recordOf t closed = elim (firstHolding (verbs t)) [ none ↦ Fault 0 | some read ↦ read t closed ]

@@ -1,0 +1,89 @@
+// The fields of a text, as parts of it between tabs.
+use crate::Number;
+use crate::Parts;
+use crate::numbers::decimal;
+use crate::numbers::hex;
+ghost use mathlib.Core.Path.{_≡_};
+ghost use Prim.Native.Nat.{_≤_, _<_};
+ghost use Rattle.records.specs.Fields.{fieldAt, sameBytes};
+ghost use Rattle.records.specs.Numbers.{decimalOf, hexOf};
+ghost use Rattle.records.specs.Parts.{Parted};
+
+// Where the fields end, found in one pass.
+pub fn parts_of(text: &[u8]) -> Parts
+    ensures { λ r. ⌜ Parted (now (text .entry)) r ⌝ }
+{
+    let mut ends = [text.len(); 8];
+    let mut tabs: usize = 0;
+    let mut i = 0;
+    while i < text.len() {
+        if text[i] == b'\t' {
+            if tabs < 8 {
+                ends[tabs] = i;
+            }
+            tabs += 1;
+        }
+        i += 1;
+    }
+    Parts {
+        ends,
+        count: tabs + 1,
+    }
+}
+
+// Field k, counted from 0 at the verb: the part of the text between two tabs. Where there is none, an empty part.
+fn field(text: &[u8], parts: Parts, k: usize) -> &[u8]
+    requires { ⌜ (k < 8) × Parted (now text) parts ⌝ }
+    ensures { λ r. ⌜ now r ≡ fieldAt (now (text .entry)) k ⌝ }
+{
+    if parts.count <= k {
+        return &text[..0];
+    }
+    let end = parts.ends[k];
+    if k == 0 {
+        return &text[..end];
+    }
+    let begin = parts.ends[k - 1] + 1;
+    &text[begin..end]
+}
+
+// Whether two runs of bytes are equal.
+fn same(a: &[u8], b: &[u8]) -> bool
+    ensures { λ r. ⌜ r ≡ sameBytes (now (a .entry)) (now (b .entry)) ⌝ }
+{
+    if a.len() != b.len() {
+        return false;
+    }
+    let mut i = 0;
+    while i < a.len() {
+        if a[i] != b[i] {
+            return false;
+        }
+        i += 1;
+    }
+    true
+}
+
+// Whether field k is the word.
+pub fn is_word(text: &[u8], parts: Parts, k: usize, word: &[u8]) -> bool
+    requires { ⌜ (k < 8) × Parted (now text) parts ⌝ }
+    ensures { λ r. ⌜ r ≡ sameBytes (fieldAt (now (text .entry)) k) (now (word .entry)) ⌝ }
+{
+    same(field(text, parts, k), word)
+}
+
+// Field k as a decimal.
+pub fn decimal_at(text: &[u8], parts: Parts, k: usize) -> Number
+    requires { ⌜ (k < 8) × Parted (now text) parts ⌝ }
+    ensures { λ r. ⌜ r ≡ decimalOf (fieldAt (now (text .entry)) k) ⌝ }
+{
+    decimal(field(text, parts, k))
+}
+
+// Field k as a hex number of `width` digits.
+pub fn hex_at(text: &[u8], parts: Parts, k: usize, width: usize) -> Number
+    requires { ⌜ (k < 8) × Parted (now text) parts × (width ≤ 16) ⌝ }
+    ensures { λ r. ⌜ r ≡ hexOf width (fieldAt (now (text .entry)) k) ⌝ }
+{
+    hex(field(text, parts, k), width)
+}

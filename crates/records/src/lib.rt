@@ -1,0 +1,35 @@
+// Records: what a line of text asks for.
+use requests::CounterSet;
+use requests::Device;
+use requests::Request;
+
+mod fields;
+mod numbers;
+pub mod parse;
+mod verbs;
+
+// What a line asks for.
+pub enum Record {
+    Open { device: Device, usable: CounterSet },
+    Add { id: u64, request: Request },
+    Drop { id: u64 },
+    Turn,
+}
+
+// What a line is: a record, or none, with the first field that breaks the grammar, counted from 0 at the verb.
+pub enum Parsed {
+    Line(Record),
+    Fault(usize),
+}
+
+// What a field is that has to be a number.
+pub enum Number {
+    Value(u64),
+    Bad,
+}
+
+// Where the fields of a text end, those past the last one at its end, and how many fields it has.
+struct Parts {
+    ends: [usize; 8],
+    count: usize,
+}
