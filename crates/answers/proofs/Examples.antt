@@ -1,0 +1,14 @@
+-- The examples, by computation: every definition that they reach is unfolded.
+use mathlib.Core.Path.{refl}
+use mathlib.Core.List.{flatMap}
+use Rattle.requests.specs.Devices.{capacity}
+use Rattle.requests.specs.Refusals.{numberOf}
+use Rattle.plans.specs.Places.{countedOf}
+use Rattle.sessions.specs.Sessions.{turnAnswer, planOf}
+use Rattle.records.specs.Text.{bytes, tab, newline, hexDigit, hexText, decimalDigits, decimalText, lineOf}
+use Rattle.answers.specs.Replies.{answerText, registerText, takeLines, setLines, turnReply}
+use Rattle.answers.specs.Examples.{typed, taken, Examples}
+
+pub examples-hold : Examples
+unfolding flatMap capacity numberOf countedOf turnAnswer planOf bytes tab newline hexDigit hexText decimalDigits decimalText lineOf answerText registerText takeLines setLines turnReply typed taken
+examples-hold = refl

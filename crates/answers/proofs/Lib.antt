@@ -1,0 +1,12 @@
+pub mod Examples
+pub mod Lengths
+pub mod TurnLimits
+pub mod ReplyLength
+pub mod LinesAnswered
+pub mod LinesAreCalls
+pub mod SliceFits
+pub mod NeverShort
+pub mod Putting
+pub mod Numerals
+pub mod LineTexts
+pub mod Delivering

@@ -1,0 +1,50 @@
+-- No reply is longer than the room for one: a turn has at most 8 requests of 136 bytes, 18 writes of 26 bytes and the answer, any other reply the answer alone.
+use mathlib.Core.List.{List}
+use Prim.Native.Nat.{ℕ, _*_, _≤_}
+use native.Mathlib.Omega.{arith}
+use lib.ListN.{length, take, replicate, length-append, length-take}
+use Rattle.requests.specs.Devices.{letterOf}
+use Rattle.sessions.specs.Sessions.{openOf, addOf, dropOf, turnOf, turnSlice, planOf}
+use Rattle.sessions.specs.declared.Session.{Session}
+use Rattle.sessions.specs.declared.TurnAnswered.{TurnAnswered}
+use Rattle.records.specs.declared.Record.{Record}
+use Rattle.records.specs.declared.Record.the-variants.{Open, Add, Drop, Turn}
+use Rattle.records.specs.declared.Parsed.the-variants.{Line, Fault}
+use Rattle.requests.specs.declared.Refusal.the-variants.{NotInGrammar}
+use Rattle.requests.specs.declared.Answer.{Answer}
+use Rattle.requests.specs.declared.Answer.the-variants.{Refused}
+use Rattle.answers.specs.Replies.{turnRoom, answerText, takeLines, replyOf, turnReply, recordReply, parsedReply}
+use Rattle.answers.specs.Written.{replyRoom}
+use Rattle.answers.specs.ReplyLength.{ReplyLength}
+use Rattle.answers.proofs.Lengths.{joined-length, take-lines-length, set-lines-length, answer-length}
+use Rattle.answers.proofs.TurnLimits.{turn-at-most}
+
+-- an answer alone
+answer-short : (a : Answer) → length (answerText a) ≤ replyRoom
+unfolding replyRoom
+answer-short a = omega (arith, answer-length a)
+
+-- the reply to a turn whose plan has at most 8 requests and whose slice at most 36 numbers
+turn-short : (a : TurnAnswered) (slice : List ℕ) → length (planOf a) ≤ 8 → 2 * a .writes ≤ 36 → length (turnReply a slice .text) ≤ replyRoom
+unfolding turnReply replyRoom
+turn-short a slice few room =
+    simp length-append
+    (omega (
+      arith,
+      joined-length takeLines 136 take-lines-length (planOf a),
+      set-lines-length (take (2 * a .writes) slice),
+      length-take (2 * a .writes) slice,
+      answer-length (a .answer),
+    ))
+
+record-short : (s : Session) (r : Record) → length (recordReply s r .text) ≤ replyRoom
+unfolding recordReply replyOf turnRoom
+record-short s (Open d u) = answer-short (openOf s (record { device = letterOf d; usable = u }) .answer)
+record-short s (Add id r) = answer-short (addOf s id r .answer)
+record-short s (Drop id) = answer-short (dropOf s id .answer)
+record-short s Turn = let l = turn-at-most s 36 in turn-short (turnOf s 36) (turnSlice s (replicate 36 0)) (l .plan) (l .writes)
+
+pub reply-length : ReplyLength
+unfolding parsedReply
+reply-length s (Line r) = record-short s r
+reply-length s (Fault k) = answer-short (Refused NotInGrammar)

@@ -1,0 +1,65 @@
+-- No call that a line makes is refused by row 14: it applies to no turn with room for 18 writes, by the limit of the writes, and to no other call.
+use mathlib.Core.Path.{_≡_, sym, _∙_}
+use Prim.Native.Nat.{ℕ, _≤_}
+use native.Mathlib.Omega.{arith}
+use Rattle.requests.specs.declared.Device.{Device}
+use Rattle.requests.specs.declared.Device.the-variants.{G, S}
+use Rattle.requests.specs.declared.Opening.{Opening}
+use Rattle.requests.specs.declared.Request.{Request}
+use Rattle.requests.specs.declared.Refusal.the-variants.{SliceTooShort}
+use Rattle.requests.specs.declared.Answer.the-variants.{Refused}
+use Rattle.requests.specs.Refusals.{numberOf}
+use Rattle.layouts.specs.WriteCount.{writeLimit}
+use Rattle.layouts.proofs.WriteCount.{write-count}
+use Rattle.sessions.specs.Calls.{Call, Open, Add, Drop, Turn, Plain, notOpen, opened}
+use Rattle.sessions.specs.RefusalTable.{Applies, short}
+use Rattle.sessions.specs.Sessions.{queueLimit, plainOf, refusedBy, openOf, addOf, dropOf, turnOf, answerTo}
+use Rattle.sessions.specs.declared.Session.{Session}
+use Rattle.sessions.proofs.Agreed.{answer-is}
+use Rattle.sessions.proofs.Rows.{refusal-table}
+use Rattle.sessions.proofs.TableAnswers.{answer-some}
+use Rattle.answers.specs.Replies.{turnRoom}
+
+limit-small : (d : Device) → writeLimit d ≤ 18
+unfolding writeLimit
+limit-small G = omega arith
+limit-small S = omega arith
+
+-- in no state does the row apply to a turn with that room, or to another call
+turn-not : (p : Plain) → ¬ Applies queueLimit p (Turn turnRoom) 14
+unfolding turnRoom
+turn-not notOpen a = elim a [ ]
+turn-not (opened s q) (short first l) = omega (arith, write-count .at-most s _ _ (first .legal), limit-small (s .device))
+
+open-not : (p : Plain) (o : Opening) → ¬ Applies queueLimit p (Open o) 14
+open-not p o a = elim a [ ]
+
+add-not : (p : Plain) (id : ℕ) (r : Request) → ¬ Applies queueLimit p (Add id r) 14
+add-not p id r a = elim a [ ]
+
+drop-not : (p : Plain) (id : ℕ) → ¬ Applies queueLimit p (Drop id) 14
+drop-not p id a = elim a [ ]
+
+-- where the row does not apply, it is not the answer
+not-answered : (s : Session) (c : Call) → ¬ Applies queueLimit (plainOf s) c 14 → ¬ (answerTo s c ≡ Refused SliceTooShort)
+unfolding refusedBy numberOf
+not-answered s c h e =
+    let row = answer-some (refusedBy s c) SliceTooShort (sym (answer-is s c) ∙ e) in
+    h (refusal-table .refused queueLimit (plainOf s) c SliceTooShort row .0)
+
+module _ (s : Session) where
+  pub open-fits : (o : Opening) → ¬ (openOf s o .answer ≡ Refused SliceTooShort)
+  unfolding answerTo
+  open-fits o = not-answered s (Open o) (open-not (plainOf s) o)
+
+  pub add-fits : (id : ℕ) (r : Request) → ¬ (addOf s id r .answer ≡ Refused SliceTooShort)
+  unfolding answerTo
+  add-fits id r = not-answered s (Add id r) (add-not (plainOf s) id r)
+
+  pub drop-fits : (id : ℕ) → ¬ (dropOf s id .answer ≡ Refused SliceTooShort)
+  unfolding answerTo
+  drop-fits id = not-answered s (Drop id) (drop-not (plainOf s) id)
+
+  pub turn-fits : ¬ (turnOf s turnRoom .answer ≡ Refused SliceTooShort)
+  unfolding answerTo
+  turn-fits = not-answered s (Turn turnRoom) (turn-not (plainOf s))

@@ -1,0 +1,54 @@
+-- `answers::set_lines::put_set` puts a `set` line: its parts one after another (`then`).
+use borrow.Author.Needs.{needs}
+use native.Mathlib.Omega.{arith}
+use Rattle.records.specs.Text.{bytes, tab, newline, lineOf}
+use Rattle.answers.proofs.Lengths.{hex-length}
+use Rattle.answers.proofs.Putting.{then}
+use Rattle.answers.proofs.LineTexts.{set-line}
+use Rattle.answers.proofs.set_lines.put_set.Statement.{statement}
+use Rattle.answers.proofs.set_lines.put_set.Tie as tie
+
+slice-aggregate-put-bytes : tie.Need-slice-aggregate-put-bytes
+slice-aggregate-put-bytes c = search needs
+
+put-bytes-requires : tie.Need-put-bytes-requires
+put-bytes-requires c κs = search needs
+
+put-hex-requires : tie.Need-put-hex-requires
+put-hex-requires c κs = search needs
+
+put-byte-requires : tie.Need-put-byte-requires
+put-byte-requires c κs = omega (arith, hex-length 4 (c .before .before .before .before .before .before .before .before .before .before .before .args .address))
+
+put-hex-requires-2 : tie.Need-put-hex-requires-2
+put-hex-requires-2 c κs = omega (arith, hex-length 4 (c .before .before .before .before .before .before .before .before .before .before .before .before .before .before .before .args .address))
+
+put-byte-requires-2 : tie.Need-put-byte-requires-2
+put-byte-requires-2 c κs = let a = c .before .before .before .before .before .before .before .before .before .before .before .before .before .before .before .before .before .before .before .args in omega (arith, hex-length 4 (a .address), hex-length 16 (a .value))
+
+same-length : tie.Need-same-length
+same-length c = search needs
+
+returns : tie.Need-returns
+unfolding lineOf bytes tab newline
+returns c =
+    let newline = c .before .before in
+    let value = newline .before .before .before .before in
+    let tab = value .before .before .before .before in
+    let address = tab .before .before .before .before in
+    let verb = address .before .before .before .before in
+    rw set-line
+    (then (verb .put-bytes .ensures) (then (address .put-hex .ensures) (then (tab .put-byte .ensures) (then (value .put-hex2 .ensures) (newline .put-byte2 .ensures)))))
+
+pub put-set-spec : {M : Type 1} → statement M
+put-set-spec =
+    tie.close
+    (tie.spec
+    slice-aggregate-put-bytes
+    put-bytes-requires
+    put-hex-requires
+    put-byte-requires
+    put-hex-requires-2
+    put-byte-requires-2
+    same-length
+    returns)

@@ -1,0 +1,26 @@
+-- `answers::texts::hex_digit` is `hexDigit`, by the test of its branch.
+use borrow.Author.Needs.{needs}
+use borrow.Author.Tests.{lt-ltb, le-ltb}
+use Rattle.records.specs.Text.{hexDigit}
+use Rattle.answers.proofs.texts.hex_digit.Statement.{statement}
+use Rattle.answers.proofs.texts.hex_digit.Tie as tie
+
+cast-digit : tie.Need-cast-digit
+cast-digit c = search needs
+
+add-result : tie.Need-add-result
+add-result c = search needs
+
+returns : tie.Need-returns
+unfolding hexDigit
+returns c = simp (lt-ltb _ _ (c .if1 .taken))
+
+add-result-2 : tie.Need-add-result-2
+add-result-2 c = search needs
+
+returns-2 : tie.Need-returns-2
+unfolding hexDigit
+returns-2 c = simp (le-ltb _ _ (c .if1 .left))
+
+pub hex-digit-spec : {M : Type 1} → statement M
+hex-digit-spec = tie.close (tie.spec cast-digit add-result returns add-result-2 returns-2)

@@ -1,0 +1,61 @@
+-- Document 01, 'Lines' and 'Bench tries': the lines of a reply as they are written there, by a table of them.
+use mathlib.Core.Path.{_≡_}
+use mathlib.Core.List.{List, [], _∷_, _++_, map, flatMap}
+use Prim.Native.Nat.{ℕ}
+use Prim.Native.String.{String}
+use lib.Dec.{eqb}
+use Rattle.requests.specs.declared.Refusal.the-variants.{NotInGrammar, CallOrder, BadOpening, BadId, IdWaiting, IdNotWaiting, KindNotOnDevice, NotListed, Incomplete, OutOfRange, Conflicting, NoPlanAlone, QueueFull, SliceTooShort, NotLeftByPlan}
+use Rattle.requests.specs.declared.Answer.the-variants.{Accepted, Refused}
+use Rattle.requests.specs.Choice.{pick}
+use Rattle.plans.specs.declared.Place.the-variants.{Counter, WithRsp, Pair}
+use Rattle.sessions.specs.declared.Assigned.{Assigned}
+use Rattle.sessions.specs.Sessions.{newSession, turnAnswer}
+use Rattle.records.specs.Text.{bytes, tab, newline}
+use Rattle.answers.specs.Replies.{answerText, takeLines, turnReply}
+
+-- lines as they are typed: a blank stands for a tab, and a newline closes each
+unfoldable pub typed : List String → List ℕ
+typed lines = flatMap (λ (line : String). map (λ (b : ℕ). pick (eqb b 32) tab b) (bytes line) ++ newline ∷ []) lines
+
+-- a text, and how it is typed
+pub record Example : Type 0 where
+  pub text : List ℕ
+  pub lines : List String
+
+-- what a turn takes: a latency request, then an event
+unfoldable pub taken : List Assigned
+taken = record { id = 2; place = Pair 1 2 } ∷ record { id = 1; place = Counter 0 } ∷ []
+
+-- the answers with their numbers, `take` lines, and whole replies to turns
+abbrev pub examples : List Example
+examples =
+    record { text = answerText Accepted; lines = "ok" ∷ [] }
+    ∷ record { text = answerText (Refused NotInGrammar); lines = "no 1" ∷ [] }
+    ∷ record { text = answerText (Refused CallOrder); lines = "no 2" ∷ [] }
+    ∷ record { text = answerText (Refused BadOpening); lines = "no 3" ∷ [] }
+    ∷ record { text = answerText (Refused BadId); lines = "no 4" ∷ [] }
+    ∷ record { text = answerText (Refused IdWaiting); lines = "no 5" ∷ [] }
+    ∷ record { text = answerText (Refused IdNotWaiting); lines = "no 6" ∷ [] }
+    ∷ record { text = answerText (Refused KindNotOnDevice); lines = "no 7" ∷ [] }
+    ∷ record { text = answerText (Refused NotListed); lines = "no 8" ∷ [] }
+    ∷ record { text = answerText (Refused Incomplete); lines = "no 9" ∷ [] }
+    ∷ record { text = answerText (Refused OutOfRange); lines = "no 10" ∷ [] }
+    ∷ record { text = answerText (Refused Conflicting); lines = "no 11" ∷ [] }
+    ∷ record { text = answerText (Refused NoPlanAlone); lines = "no 12" ∷ [] }
+    ∷ record { text = answerText (Refused QueueFull); lines = "no 13" ∷ [] }
+    ∷ record { text = answerText (Refused SliceTooShort); lines = "no 14" ∷ [] }
+    ∷ record { text = answerText (Refused NotLeftByPlan); lines = "no 15" ∷ [] }
+    ∷ record { text = takeLines (record { id = 1; place = Counter 0 }); lines = "take 1 0 -" ∷ [] }
+    ∷ record { text = takeLines (record { id = 65535; place = WithRsp 3 1 }); lines = "take 65535 3 1" ∷ [] }
+    ∷ record { text = takeLines (record { id = 2; place = Pair 1 2 }); lines = "take 2 1 0" ∷ "take 2 2 1" ∷ [] }
+    -- two writes, and two numbers past them
+    ∷ record {
+      text = turnReply (turnAnswer Accepted newSession taken 2) (0x038F ∷ 0 ∷ 0x01A6 ∷ 0x4000000001 ∷ 7 ∷ 8 ∷ []) .text;
+      lines = "take 2 1 0" ∷ "take 2 2 1" ∷ "take 1 0 -" ∷ "set 038F 0000000000000000" ∷ "set 01A6 0000004000000001" ∷ "ok" ∷ [];
+    }
+    ∷ record { text = turnReply (turnAnswer (Refused CallOrder) newSession [] 0) (0x038F ∷ 0 ∷ []) .text; lines = "no 2" ∷ [] }
+    ∷ []
+
+-- each is typed so
+abbrev pub Examples : Type 0
+Examples = map (λ (e : Example). e .text) examples ≡ map (λ (e : Example). typed (e .lines)) examples

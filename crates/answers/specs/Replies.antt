@@ -1,0 +1,76 @@
+-- Document 01, 'Lines': the answer to a line.
+use mathlib.Core.List.{List, [], _∷_, _++_, flatMap}
+use mathlib.Core.Option.{Option, none, some}
+use Prim.Native.Nat.{ℕ, _*_}
+use lib.ListN.{take, replicate}
+use Rattle.requests.specs.declared.Refusal.the-variants.{NotInGrammar}
+use Rattle.requests.specs.declared.Answer.{Answer}
+use Rattle.requests.specs.declared.Answer.the-variants.{Accepted, Refused}
+use Rattle.requests.specs.Refusals.{numberOf}
+use Rattle.requests.specs.Devices.{letterOf}
+use Rattle.plans.specs.Places.{Counted, countedOf}
+use Rattle.sessions.specs.declared.Session.{Session}
+use Rattle.sessions.specs.declared.Answered.{Answered}
+use Rattle.sessions.specs.declared.Assigned.{Assigned}
+use Rattle.sessions.specs.declared.TurnAnswered.{TurnAnswered}
+use Rattle.sessions.specs.Sessions.{openOf, addOf, dropOf, turnOf, turnSlice, planOf}
+use Rattle.records.specs.Text.{bytes, hexText, decimalText, lineOf}
+use Rattle.records.specs.Parse.{parseLine}
+use Rattle.records.specs.declared.Record.{Record}
+use Rattle.records.specs.declared.Record.the-variants.{Open, Add, Drop, Turn}
+use Rattle.records.specs.declared.Parsed.{Parsed}
+use Rattle.records.specs.declared.Parsed.the-variants.{Line, Fault}
+
+-- the text of an answer, and the session afterwards
+pub record Reply : Type 0 where
+  pub text : List ℕ
+  pub session : Session
+
+-- "Each gives `ok`, or `no` and the number."
+unfoldable pub answerText : Answer → List ℕ
+answerText Accepted = lineOf (bytes "ok" ∷ [])
+answerText (Refused x) = lineOf (bytes "no" ∷ decimalText (numberOf x) ∷ [])
+
+-- "register (`-`, 0 or 1 ..)"
+unfoldable pub registerText : Option ℕ → List ℕ
+registerText none = bytes "-"
+registerText (some i) = decimalText i
+
+-- "`take` id counter register (.. latency two lines)"
+unfoldable pub takeLines : Assigned → List ℕ
+takeLines a = flatMap (λ (c : Counted). lineOf (bytes "take" ∷ decimalText (a .id) ∷ decimalText (c .0) ∷ registerText (c .1) ∷ [])) (countedOf (a .place))
+
+-- "then `set` address(4) value(16)", of numbers that are address then value
+unfoldable pub setLines : List ℕ → List ℕ
+setLines [] = []
+setLines (a ∷ []) = []
+setLines (a ∷ v ∷ rest) = lineOf (bytes "set" ∷ hexText 4 a ∷ hexText 16 v ∷ []) ++ setLines rest
+
+-- the length of the slice that a line lends a turn: room for 18 writes
+unfoldable pub turnRoom : ℕ
+turnRoom = 36
+
+-- the reply to an open, add or drop
+unfoldable pub replyOf : Answered → Reply
+replyOf a = record { text = answerText (a .answer); session = a .session }
+
+-- "A turn first gives, in the order taken," its `take` lines, then its `set` lines; a refused turn has neither
+unfoldable pub turnReply : TurnAnswered → List ℕ → Reply
+turnReply a slice =
+    record { text = flatMap takeLines (planOf a) ++ setLines (take (2 * a .writes) slice) ++ answerText (a .answer); session = a .session }
+
+-- the reply to a record
+unfoldable pub recordReply : Session → Record → Reply
+recordReply s (Open d u) = replyOf (openOf s (record { device = letterOf d; usable = u }))
+recordReply s (Add id r) = replyOf (addOf s id r)
+recordReply s (Drop id) = replyOf (dropOf s id)
+recordReply s Turn = turnReply (turnOf s turnRoom) (turnSlice s (replicate turnRoom 0))
+
+-- 1: the line is not in the grammar
+unfoldable pub parsedReply : Session → Parsed → Reply
+parsedReply s (Line r) = recordReply s r
+parsedReply s (Fault k) = record { text = answerText (Refused NotInGrammar); session = s }
+
+-- the reply to a line
+unfoldable pub answerLine : Session → List ℕ → Reply
+answerLine s line = parsedReply s (parseLine line)

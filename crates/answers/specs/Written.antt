@@ -1,0 +1,35 @@
+-- A reply in an array of its own, and a reply in a lent slice.
+use mathlib.Core.Bool.{true, false}
+use mathlib.Core.List.{List, _++_}
+use Prim.Native.Nat.{ℕ, _-_}
+use lib.ListN.{length, drop, replicate}
+use lib.Dec.{ltb}
+use Rattle.sessions.specs.declared.Session.{Session}
+use Rattle.records.specs.declared.Parsed.{Parsed}
+use Rattle.answers.specs.Replies.{Reply, parsedReply}
+use Rattle.answers.specs.declared.LineReply.{LineReply}
+use Rattle.answers.specs.declared.Replied.{Replied}
+
+-- room for any reply, in bytes
+unfoldable pub replyRoom : ℕ
+replyRoom = 2048
+
+-- a reply in an array of its own
+unfoldable pub inArray : Reply → LineReply
+inArray x = record { text = x .text ++ replicate (replyRoom - length (x .text)) 0; length = length (x .text); session = x .session }
+
+-- a text at the start of a slice; what lies past it stays
+unfoldable pub atStart : List ℕ → List ℕ → List ℕ
+atStart text slice = text ++ drop (length text) slice
+
+-- a reply in a lent slice, given the slice's length: where that is less than the room for any reply, nothing is done
+unfoldable pub repliedIn : Session → Parsed → ℕ → Replied
+repliedIn s p room =
+    elim (ltb room replyRoom) [
+      | true ↦ record { session = s; written = 0 }
+      | false ↦ record { session = parsedReply s p .session; written = length (parsedReply s p .text) }
+    ]
+
+-- what the slice holds afterwards
+unfoldable pub repliedOut : Session → Parsed → List ℕ → List ℕ
+repliedOut s p out = elim (ltb (length out) replyRoom) [ true ↦ out | false ↦ atStart (parsedReply s p .text) out ]

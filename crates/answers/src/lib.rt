@@ -1,0 +1,22 @@
+// The reply to a line: its text, and the session afterwards.
+use sessions::Session;
+
+mod answer_lines;
+pub mod line;
+pub mod replies;
+mod set_lines;
+mod take_lines;
+mod texts;
+
+// The reply to a line: its text in the first `length` bytes, and the session afterwards.
+pub struct LineReply {
+    pub text: [u8; 2048],
+    pub length: usize,
+    pub session: Session,
+}
+
+// What a reply that went into a lent slice leaves: the session, and the number of bytes written.
+pub struct Replied {
+    pub session: Session,
+    pub written: usize,
+}

@@ -1,0 +1,37 @@
+// The `set` lines of a turn's reply.
+use crate::texts::put_byte;
+use crate::texts::put_bytes;
+use crate::texts::put_hex;
+ghost use mathlib.Core.List.{[], _∷_};
+ghost use Prim.Native.Nat.{_+_, _*_, _≤_};
+ghost use lib.ListN.{length, take};
+ghost use Rattle.answers.specs.Replies.{setLines};
+ghost use Rattle.answers.specs.Texts.{Put};
+
+// Puts the `set` line of a write.
+fn put_set(out: &mut [u8], at: usize, address: u64, value: u64) -> usize
+    requires { ⌜ at + 26 ≤ length (now out) ⌝ }
+    ensures { λ r. ⌜ Put (now (out .entry)) at (setLines (address ∷ value ∷ [])) (now (out .exit)) r ⌝ }
+{
+    let verb_end = put_bytes(out, at, b"set\t");
+    let address_end = put_hex(out, verb_end, 4, address);
+    let next = put_byte(out, address_end, b'\t');
+    let value_end = put_hex(out, next, 16, value);
+    put_byte(out, value_end, b'\n')
+}
+
+// Puts the `set` lines of the first writes of a list that is address then value.
+pub fn put_sets(out: &mut [u8], at: usize, list: &[u64], writes: usize) -> usize
+    requires { ⌜ (2 * writes ≤ length (now list)) × (at + 26 * writes ≤ length (now out)) ⌝ }
+    ensures { λ r. ⌜ Put (now (out .entry)) at (setLines (take (2 * writes) (now (list .entry)))) (now (out .exit)) r ⌝ }
+{
+    let mut next = at;
+    let mut i = 0;
+    while i < writes {
+        let address = list[2 * i];
+        let value = list[2 * i + 1];
+        next = put_set(out, next, address, value);
+        i += 1;
+    }
+    next
+}
