@@ -1,0 +1,30 @@
+-- The stream does not depend on how the input is cut: the laws on two pieces, and by them on any number. Assumes nothing.
+use mathlib.Core.Path.{_≡_, refl, ap, sym, _∙_}
+use mathlib.Core.List.{List, [], _∷_, _++_, append-assoc}
+use Prim.Native.Nat.{ℕ}
+use Rattle.lines.specs.Stream.{byteState, feedState, feedText}
+use Rattle.lines.specs.Cutting.{joined, stateThrough, textThrough, Cutting}
+use Rattle.lines.specs.declared.Feed.{Feed}
+
+pub state-append : (f : Feed) (a b : List ℕ) → feedState f (a ++ b) ≡ feedState (feedState f a) b
+unfolding feedState
+state-append f [] b = refl
+state-append f (x ∷ a) b = state-append (byteState f x) a b
+
+pub text-append : (f : Feed) (a b : List ℕ) → feedText f (a ++ b) ≡ feedText f a ++ feedText (feedState f a) b
+unfolding feedText feedState
+text-append f [] b = refl
+text-append f (x ∷ a) b = rw (text-append (byteState f x) a b, append-assoc)
+
+state-joined : (f : Feed) (pieces : List (List ℕ)) → stateThrough f pieces ≡ feedState f (joined pieces)
+unfolding stateThrough joined feedState
+state-joined f [] = refl
+state-joined f (p ∷ ps) = state-joined (feedState f p) ps ∙ sym (state-append f p (joined ps))
+
+text-joined : (f : Feed) (pieces : List (List ℕ)) → textThrough f pieces ≡ feedText f (joined pieces)
+unfolding textThrough joined feedText
+text-joined f [] = refl
+text-joined f (p ∷ ps) = ap (λ (t : List ℕ). feedText f p ++ t) (text-joined (feedState f p) ps) ∙ sym (text-append f p (joined ps))
+
+pub cutting : Cutting
+cutting = record { state = state-joined; text = text-joined }

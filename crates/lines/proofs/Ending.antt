@@ -1,0 +1,23 @@
+-- The reply to the end of the input: `no` and 1 where a line has begun, otherwise nothing.
+use mathlib.Core.Bool.{true, false}
+use mathlib.Core.List.{_∷_}
+use mathlib.Core.Path.{_≡_}
+use lib.Dec.{ltb}
+use lib.ListN.{replicate}
+use Rattle.requests.specs.Choice.{either}
+use Rattle.requests.specs.Refusals.{numberOf}
+use Rattle.records.specs.Text.{bytes, tab, newline, decimalDigits, decimalText, lineOf}
+use Rattle.answers.specs.Replies.{answerText}
+use Rattle.answers.specs.Written.{replyRoom, inArray}
+use Rattle.lines.specs.Stream.{unfinished, endText, endReply}
+use Rattle.lines.specs.declared.Feed.{Feed}
+
+module _ (f : Feed) where
+  pub ended-begun : either (f .long) (ltb 0 (f .used)) ≡ true
+      → inArray (endReply f) ≡ record { text = 110 ∷ 111 ∷ tab ∷ 49 ∷ newline ∷ replicate 2043 0; length = 5; session = f .session }
+  unfolding inArray endReply endText unfinished answerText lineOf bytes decimalText decimalDigits numberOf tab newline replyRoom
+  ended-begun e = rw (e, endText, unfinished)
+
+  pub ended-none : either (f .long) (ltb 0 (f .used)) ≡ false → inArray (endReply f) ≡ record { text = replicate 2048 0; length = 0; session = f .session }
+  unfolding inArray endReply endText unfinished replyRoom
+  ended-none e = rw (e, endText, unfinished)

@@ -1,0 +1,10 @@
+pub mod Cut
+pub mod Kept
+pub mod LineByLine
+pub mod TranscriptHolds
+pub mod Progress
+pub mod Runs
+pub mod Taking
+pub mod Feeding
+pub mod Ending
+pub mod TriesHold

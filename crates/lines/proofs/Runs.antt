@@ -1,0 +1,92 @@
+-- Pieces of a line as the code meets them: kept byte by byte, parsed at once where they are a whole line, and found between two newlines.
+use mathlib.Core.Bool.{Bool, true, false}
+use mathlib.Core.List.{List, _∷_}
+use mathlib.Core.Path.{_≡_, refl, sym, ap, _∙_}
+use Prim.Native.Nat.{ℕ, suc, _+_, _-_, _≤_, _<_}
+use native.Mathlib.Nat.{add-zero, sub-zero}
+use native.Mathlib.Numerals.{add-one}
+use native.Mathlib.Omega.{arith}
+use borrow.Author.Tests.{lt-ltb, ltb-false}
+use lib.Dec.{ltb}
+use lib.ListN.{length, getD, take, drop, set, length-take}
+use lib.Seq.{drop-cons, getD-take, getD-drop}
+use Rattle.requests.specs.Choice.{either}
+use Rattle.requests.proofs.Tests.{either-true}
+use Rattle.records.specs.Parse.{longest, parseText}
+use Rattle.answers.specs.Replies.{parsedReply}
+use Rattle.lines.specs.Pieces.{NewlineFree, NextNewline, keptLine}
+use Rattle.lines.specs.Stream.{keepByte, lineReply, feedState}
+use Rattle.lines.specs.declared.Feed.{Feed}
+use Rattle.lines.proofs.Kept.{free-places, head-free, tail-free, not-ending, keep-fitting, afterRun, kept-run}
+use Rattle.lines.proofs.LineByLine.{front}
+
+-- a run leaves the session
+pub run-session : (f : Feed) (bs : List ℕ) → NewlineFree bs → feedState f bs .session ≡ f .session
+unfolding afterRun
+run-session f bs free = rw (kept-run f bs free)
+
+-- the reply to a line is the reply to what its kept bytes are
+pub ended-reply : (f : Feed) (bs : List ℕ) → NewlineFree bs → lineReply (feedState f bs) ≡ parsedReply (f .session) (keptLine (feedState f bs))
+unfolding lineReply keptLine
+ended-reply f bs free = rw (run-session f bs free)
+
+-- the first byte of a run is kept
+first-kept : (f : Feed) (b : ℕ) (bs : List ℕ) → NewlineFree (b ∷ bs) → feedState f (b ∷ bs) ≡ feedState (keepByte f b) bs
+unfolding feedState
+first-kept f b bs free = rw (not-ending f b (head-free b bs free))
+
+-- bytes past the longest line only tell that the line is longer
+pub overlong : (f : Feed) (b : ℕ) (bs : List ℕ) → longest ≤ f .used → NewlineFree (b ∷ bs)
+    → feedState f (b ∷ bs) ≡ record { session = f .session; kept = f .kept; used = f .used; long = true }
+unfolding afterRun
+overlong f b bs full free =
+    let n : longest - f .used ≡ 0 = omega arith in
+    kept-run f (b ∷ bs) free ∙ rw (n, add-zero (f .used), lt-ltb 0 (suc (length bs)) (omega arith), either-true (f .long))
+
+-- a piece is kept byte by byte
+module _ (piece : List ℕ) (i : ℕ) (inside : i < length piece) (free : NewlineFree (drop i piece)) where
+  here : NewlineFree (getD piece i 0 ∷ drop (suc i) piece)
+  here = rw (drop-cons piece i 0 inside) at free
+
+  pub free-more : NewlineFree (drop (i + 1) piece)
+  free-more = rw add-one (tail-free (getD piece i 0) (drop (suc i) piece) here)
+
+  pub keep-more : (f : Feed) → f .used < longest
+      → feedState (record { session = f .session; kept = set (f .kept) (f .used) (getD piece i 0); used = f .used + 1; long = f .long }) (drop (i + 1) piece)
+      ≡ feedState f (drop i piece)
+  keep-more f h =
+      rw (add-one (f .used), add-one i, drop-cons piece i 0 inside)
+      (sym
+      (first-kept f (getD piece i 0) (drop (suc i) piece) here
+      ∙ ap (λ (g : Feed). feedState g (drop (suc i) piece)) (keep-fitting f (getD piece i 0) h)))
+
+  pub keep-no-more : (f : Feed) → longest ≤ f .used
+      → _≡_ {A = Feed} (record { session = f .session; kept = f .kept; used = f .used; long = true }) (feedState f (drop i piece))
+  keep-no-more f h = rw (drop-cons piece i 0 inside) (sym (overlong f (getD piece i 0) (drop (suc i) piece) h here))
+
+-- neither of two tests holds
+neither : (a b : Bool) → either a b ≡ false → (a ≡ false) × (b ≡ false)
+unfolding either
+neither true b e = let z : _≡_ {A = ℕ} 0 1 = cc in absurd (omega arith)
+neither false b e = (refl, e)
+
+-- a piece that ends a line of which nothing is kept is the line
+pub whole-line : (f : Feed) (bs : List ℕ) → length (f .kept) ≡ longest → either (f .long) (ltb 0 (f .used)) ≡ false → NewlineFree bs
+    → keptLine (feedState f bs) ≡ parseText (take longest bs) true (ltb longest (length bs))
+unfolding keptLine afterRun either
+whole-line f bs full none free =
+    let unused : f .used ≡ 0 = omega (arith, ltb-false 0 (f .used) (neither (f .long) (ltb 0 (f .used)) none .1)) in
+    rw (
+      kept-run f bs free,
+      unused,
+      neither (f .long) (ltb 0 (f .used)) none .0,
+      sub-zero longest,
+      front (take longest bs) (f .kept) (omega (arith, length-take longest bs)),
+    )
+
+-- the part of a block up to the next newline has none
+pub part-free : {block : List ℕ} {from at : ℕ} → NextNewline block from at → NewlineFree (take (at - from) (drop from block))
+part-free {block} {from} {at} next =
+    free-places (take (at - from) (drop from block)) (λ k h e.
+    let fits : k < at - from = omega (arith, length-take (at - from) (drop from block)) in
+    next .none-before (from + k) (omega arith) (omega (arith, next .after)) (sym (getD-drop from block k 0) ∙ sym (getD-take (at - from) (drop from block) k 0 fits) ∙ e))

@@ -1,0 +1,37 @@
+-- How many bytes of a block are taken: all of a run without a newline where there is room for a reply, then the newline, then of the rest.
+use mathlib.Core.List.{List, [], _∷_, _++_}
+use mathlib.Core.Path.{_≡_, refl, sym, _∙_}
+use Prim.Native.Nat.{ℕ, suc, _+_, _-_, _≤_, _<_}
+use native.Mathlib.Nat.{zero-add, sub-zero}
+use native.Mathlib.Omega.{arith}
+use borrow.Author.Tests.{lt-ltb, le-ltb}
+use lib.ListN.{length}
+use Rattle.records.specs.Text.{newline}
+use Rattle.answers.specs.Written.{replyRoom}
+use Rattle.lines.specs.Blocks.{takenOf}
+use Rattle.lines.specs.Pieces.{NewlineFree}
+use Rattle.lines.specs.Stream.{lineStart, lineReply, byteState, byteText, feedState}
+use Rattle.lines.specs.declared.Feed.{Feed}
+use Rattle.lines.proofs.Kept.{head-free, tail-free, no-text}
+use Rattle.lines.proofs.Progress.{taken-none, taken-one}
+
+-- a run without a newline
+pub taken-run : (room : ℕ) (f : Feed) (bs rest : List ℕ) → replyRoom ≤ room → NewlineFree bs
+    → takenOf room f (bs ++ rest) ≡ length bs + takenOf room (feedState f bs) rest
+unfolding feedState
+taken-run room f [] rest h free = sym (zero-add (takenOf room f rest))
+taken-run room f (b ∷ bs) rest h free =
+    taken-one room f b (bs ++ rest) (le-ltb room replyRoom h)
+    ∙ rw (no-text f b (head-free b bs free), sub-zero, taken-run room (byteState f b) bs rest h (tail-free b bs free)) (omega arith)
+
+-- a newline
+pub taken-newline : (room : ℕ) (f : Feed) (rest : List ℕ) → replyRoom ≤ room
+    → takenOf room f (newline ∷ rest) ≡ suc (takenOf (room - length (lineReply f .text)) (lineStart (lineReply f .session)) rest)
+unfolding newline byteText byteState
+taken-newline room f rest h = taken-one room f newline rest (le-ltb room replyRoom h)
+
+-- nothing without room
+pub taken-full : (room : ℕ) (f : Feed) (bs : List ℕ) → room < replyRoom → takenOf room f bs ≡ 0
+unfolding takenOf
+taken-full room f [] h = refl
+taken-full room f (b ∷ bs) h = taken-none room f b bs (lt-ltb room replyRoom h)

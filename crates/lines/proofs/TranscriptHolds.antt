@@ -1,0 +1,148 @@
+-- The output of a whole input is the replies to its lines: `LineByLine` at each line, one after another, by the laws on two pieces.
+use mathlib.Core.Path.{_≡_, refl, ap, sym, _∙_}
+use mathlib.Core.Logic.{_≢_, _⊎_, inl, inr}
+use mathlib.Core.List.{List, [], _∷_, _++_, append-assoc, flatMap, List·Memᴰ, List·Memᴰ·cases-cons, List·Memᴰ·not-nil}
+use mathlib.Core.Bool.{Bool, true, false}
+use Prim.Native.Nat.{ℕ}
+use native.Mathlib.Omega.{arith}
+use lib.Dec.{eqb}
+use borrow.Author.Tests.{eqb-true, eqb-false}
+use Rattle.plans.specs.Lists.{All, nil, cons}
+use Rattle.sessions.specs.declared.Session.{Session}
+use Rattle.sessions.specs.Calls.{Call}
+use Rattle.sessions.specs.Sessions.{newSession, nextSession, sessionAfter}
+use Rattle.records.specs.Text.{newline}
+use Rattle.records.specs.Parse.{parseLine}
+use Rattle.records.specs.declared.Parsed.{Parsed}
+use Rattle.records.specs.declared.Parsed.the-variants.{Line, Fault}
+use Rattle.answers.specs.Replies.{Reply, parsedReply, answerLine}
+use Rattle.answers.specs.LinesAreCalls.{callOf, callsIn}
+use Rattle.answers.proofs.LinesAreCalls.{lines-are-calls}
+use Rattle.lines.specs.Stream.{lineStart, feedStart, feedState, feedText, endText, transcript}
+use Rattle.lines.specs.Pieces.{NewlineFree}
+use Rattle.lines.specs.Transcript.{closed, repliesTo, atEnd, callsOf, Transcript}
+use Rattle.lines.specs.declared.Feed.{Feed}
+use Rattle.lines.proofs.Cut.{state-append, text-append}
+use Rattle.lines.proofs.Kept.{afterRun, kept-run}
+use Rattle.lines.proofs.LineByLine.{line-by-line}
+
+-- ---- lines, and a rest without a newline
+
+-- an input cut at its newlines
+pub record Lines (input : List ℕ) : Type 0 where
+  pub texts : List (List ℕ)
+  pub rest : List ℕ
+  pub free : All NewlineFree texts
+  pub free-rest : NewlineFree rest
+  pub whole : input ≡ flatMap closed texts ++ rest
+
+free-more : (b : ℕ) (text : List ℕ) → eqb b newline ≡ false → NewlineFree text → NewlineFree (b ∷ text)
+free-more b text e free m = go (List·Memᴰ·cases-cons m)
+  where
+    go : (newline ≡ b) ⊎ List·Memᴰ newline text → ⊥
+    go (inl h) = eqb-false b newline e (sym h)
+    go (inr n) = free n
+
+-- a newline closes an empty line
+newline-first : (b : ℕ) (bs : List ℕ) → b ≡ newline → Lines bs → Lines (b ∷ bs)
+unfolding flatMap
+newline-first b bs e below =
+    record {
+      texts = [] ∷ below .texts;
+      rest = below .rest;
+      free = cons List·Memᴰ·not-nil (below .free);
+      free-rest = below .free-rest;
+      whole = rw e (ap (λ (l : List ℕ). newline ∷ l) (below .whole));
+    }
+
+-- any other byte begins the first line, or the rest where there is none
+byte-first : (b : ℕ) (bs : List ℕ) → eqb b newline ≡ false → Lines bs → Lines (b ∷ bs)
+unfolding flatMap
+byte-first b bs e below = go (below .texts) (below .free) (below .whole)
+  where
+    go : (texts : List (List ℕ)) → All NewlineFree texts → bs ≡ flatMap closed texts ++ below .rest → Lines (b ∷ bs)
+    go [] free h =
+        record {
+          texts = [];
+          rest = b ∷ below .rest;
+          free = nil;
+          free-rest = free-more b (below .rest) e (below .free-rest);
+          whole = ap (λ (l : List ℕ). b ∷ l) h;
+        }
+    go (text ∷ texts) (cons f fs) h =
+        record {
+          texts = (b ∷ text) ∷ texts;
+          rest = below .rest;
+          free = cons (free-more b text e f) fs;
+          free-rest = below .free-rest;
+          whole = ap (λ (l : List ℕ). b ∷ l) h;
+        }
+
+lines-in : (input : List ℕ) → Lines input
+unfolding flatMap
+lines-in [] = record { texts = []; rest = []; free = nil; free-rest = List·Memᴰ·not-nil; whole = refl }
+lines-in (b ∷ bs) = go (eqb b newline) refl (lines-in bs)
+  where
+    go : (t : Bool) → eqb b newline ≡ t → Lines bs → Lines (b ∷ bs)
+    go true e below = newline-first b bs (eqb-true b newline e) below
+    go false e below = byte-first b bs e below
+
+-- ---- their replies
+
+-- a rest is answered at the end alone
+rest-output : (s : Session) (rest : List ℕ) → NewlineFree rest → feedText (lineStart s) rest ++ endText (feedState (lineStart s) rest) ≡ atEnd rest
+unfolding atEnd feedText feedState
+rest-output s [] free = line-by-line s [] free .empty
+rest-output s (b ∷ bs) free =
+    let line = line-by-line s (b ∷ bs) free in
+    let some : (b ∷ bs) ≢ [] = λ e. let z : _≡_ {A = ℕ} 0 1 = cc in absurd (omega arith) in
+    rw (line .silent) (line .ended some)
+
+module _ (s : Session) (text : List ℕ) (free : NewlineFree text) (input : List ℕ) where
+  -- the output of a line before more input
+  line-first : feedText (lineStart s) (closed text ++ input) ≡ answerLine s (closed text) .text ++ feedText (lineStart (answerLine s (closed text) .session)) input
+  line-first = text-append (lineStart s) (closed text) input ∙ rw (line-by-line s text free .reply, line-by-line s text free .next)
+
+  state-first : feedState (lineStart s) (closed text ++ input) ≡ feedState (lineStart (answerLine s (closed text) .session)) input
+  state-first = state-append (lineStart s) (closed text) input ∙ rw (line-by-line s text free .next)
+
+output : (s : Session) (texts : List (List ℕ)) (rest : List ℕ) → All NewlineFree texts → NewlineFree rest
+    → feedText (lineStart s) (flatMap closed texts ++ rest) ++ endText (feedState (lineStart s) (flatMap closed texts ++ rest)) ≡ repliesTo s texts ++ atEnd rest
+unfolding flatMap repliesTo
+output s [] rest fs f = rest-output s rest f
+output s (text ∷ texts) rest (cons free fs) f =
+    let more : List ℕ = flatMap closed texts ++ rest in
+    let joined : (closed text ++ flatMap closed texts) ++ rest ≡ closed text ++ more = append-assoc (closed text) (flatMap closed texts) rest in
+    let below = output (answerLine s (closed text) .session) texts rest fs f in
+    rw (joined, line-first s text free more, state-first s text free more, append-assoc, append-assoc) (ap (λ (l : List ℕ). answerLine s (closed text) .text ++ l) below)
+
+-- ---- the session
+
+-- the calls of a line leave the session of its reply
+one-line : (s : Session) (p : Parsed) (calls : List Call) → sessionAfter s (callsIn p ++ calls) ≡ sessionAfter (parsedReply s p .session) calls
+unfolding callsIn parsedReply sessionAfter
+one-line s (Line r) calls = ap (λ (x : Session). sessionAfter x calls) (sym (lines-are-calls .session s r))
+one-line s (Fault k) calls = refl
+
+rest-session : (s : Session) (rest : List ℕ) → NewlineFree rest → feedState (lineStart s) rest .session ≡ s
+unfolding afterRun lineStart
+rest-session s rest free = ap (λ (f : Feed). f .session) (kept-run (lineStart s) rest free)
+
+session : (s : Session) (texts : List (List ℕ)) (rest : List ℕ) → All NewlineFree texts → NewlineFree rest
+    → feedState (lineStart s) (flatMap closed texts ++ rest) .session ≡ sessionAfter s (callsOf texts)
+unfolding flatMap callsOf answerLine sessionAfter
+session s [] rest fs f = rest-session s rest f
+session s (text ∷ texts) rest (cons free fs) f =
+    let more : List ℕ = flatMap closed texts ++ rest in
+    let joined : (closed text ++ flatMap closed texts) ++ rest ≡ closed text ++ more = append-assoc (closed text) (flatMap closed texts) rest in
+    rw (joined, state-first s text free more)
+    (session (answerLine s (closed text) .session) texts rest fs f ∙ sym (one-line s (parseLine (closed text)) (callsOf texts)))
+
+pub transcript-holds : Transcript
+unfolding transcript feedStart
+transcript-holds =
+    record {
+      lines-of = λ input. let l = lines-in input in (l .texts, l .rest, l .free, l .free-rest, l .whole);
+      output = output newSession;
+      session = session newSession;
+    }

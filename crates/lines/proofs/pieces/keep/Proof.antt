@@ -1,0 +1,72 @@
+-- Each turn keeps one byte: what is left to keep gives the state that the whole piece gives. By the laws of a piece.
+use mathlib.Core.Path.{_≡_, refl, _∙_}
+use Prim.Native.Nat.{_-_, _≤_}
+use native.Mathlib.Omega.{arith}
+use denote.Ref.{now}
+use lib.ListN.{length, drop}
+use lib.Seq.{drop-length}
+use Rattle.records.specs.Parse.{longest}
+use Rattle.lines.specs.Pieces.{NewlineFree}
+use Rattle.lines.specs.Stream.{feedState}
+use Rattle.lines.proofs.Runs.{free-more, keep-more, keep-no-more}
+use Rattle.lines.proofs.pieces.keep.Statement.{statement}
+use Rattle.lines.proofs.pieces.keep.Tie as tie
+
+abbrev Inv-loop : tie.InvT-loop
+Inv-loop piece next₀ i₀ next i = (i ≤ length piece) × NewlineFree (drop i piece) × (feedState next (drop i piece) ≡ feedState next₀ piece)
+
+abbrev μ-loop : tie.MeasureT-loop
+μ-loop piece next₀ i₀ next i = length piece - i
+
+loop-holds : tie.Need-loop-holds Inv-loop μ-loop
+loop-holds c = (omega arith, c .pre, refl)
+
+returns : tie.Need-returns Inv-loop μ-loop
+unfolding longest
+returns c =
+    let l = c .before .before .loop in let a = c .before .before .before .args in keep-no-more (now (a .piece)) (l .i) (omega arith) (l .inv .1) (l .next) (c .if1 .taken) ∙ l .inv .2
+
+shared-slice-read-next : tie.Need-shared-slice-read-next Inv-loop μ-loop
+shared-slice-read-next c = omega arith
+
+element-write-next : tie.Need-element-write-next Inv-loop μ-loop
+element-write-next c = c .before .if1 .left
+
+add-next : tie.Need-add-next Inv-loop μ-loop
+add-next c = omega arith
+
+add-i : tie.Need-add-i Inv-loop μ-loop
+add-i c = omega arith
+
+loop-less : tie.Need-loop-less Inv-loop μ-loop
+loop-less c = omega arith
+
+loop-again : tie.Need-loop-again Inv-loop μ-loop
+unfolding longest
+loop-again c =
+    let l = c .before .before .before .loop in let a = c .before .before .before .before .args in
+    (omega arith, free-more (now (a .piece)) (l .i) (omega arith) (l .inv .1), keep-more (now (a .piece)) (l .i) (omega arith) (l .inv .1) (l .next) (c .before .if1 .left) ∙ l .inv .2)
+
+returns-2 : tie.Need-returns-2 Inv-loop μ-loop
+unfolding feedState
+returns-2 c =
+    let l = c .before .loop in
+    let a = c .before .before .args in
+    let e : l .i ≡ length (now (a .piece)) = omega arith in
+    rw (e, drop-length) at (l .inv .2)
+
+pub keep-spec : {M : Type 1} → statement M
+keep-spec =
+    tie.close
+    (tie.spec
+    Inv-loop
+    μ-loop
+    loop-holds
+    returns
+    shared-slice-read-next
+    element-write-next
+    add-next
+    add-i
+    loop-less
+    loop-again
+    returns-2)

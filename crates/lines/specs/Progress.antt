@@ -1,0 +1,13 @@
+-- An output with room for one reply takes at least one byte of a block, and never more than the block has or the output holds.
+use mathlib.Core.List.{List, _∷_}
+use Prim.Native.Nat.{ℕ, _<_, _≤_}
+use lib.ListN.{length}
+use Rattle.answers.specs.Written.{replyRoom}
+use Rattle.lines.specs.Stream.{feedText}
+use Rattle.lines.specs.Blocks.{takenOf, takenFrom}
+use Rattle.lines.specs.declared.Feed.{Feed}
+
+pub record Progress : Type 0 where
+  pub some : (f : Feed) (b : ℕ) (bs : List ℕ) (room : ℕ) → replyRoom ≤ room → 0 < takenOf room f (b ∷ bs)
+  pub no-more : (f : Feed) (block : List ℕ) (room : ℕ) → takenOf room f block ≤ length block
+  pub held : (f : Feed) (block : List ℕ) (room : ℕ) → length (feedText f (takenFrom f block room)) ≤ room

@@ -1,0 +1,69 @@
+-- The line program as a fold over bytes: the state after each byte, and the text that it gives.
+use mathlib.Core.Bool.{Bool, true, false}
+use mathlib.Core.List.{List, [], _∷_, _++_}
+use Prim.Native.Nat.{ℕ, _+_}
+use lib.Dec.{ltb, eqb}
+use lib.ListN.{take, set, replicate}
+use Rattle.requests.specs.declared.Refusal.the-variants.{NotInGrammar}
+use Rattle.requests.specs.declared.Answer.the-variants.{Refused}
+use Rattle.requests.specs.Choice.{either, pick}
+use Rattle.sessions.specs.declared.Session.{Session}
+use Rattle.sessions.specs.Sessions.{newSession}
+use Rattle.records.specs.Text.{newline}
+use Rattle.records.specs.Parse.{longest, parseText}
+use Rattle.answers.specs.Replies.{Reply, answerText, parsedReply}
+use Rattle.lines.specs.declared.Feed.{Feed}
+
+-- the state at the beginning of a line
+unfoldable pub lineStart : Session → Feed
+lineStart s = record { session = s; kept = replicate longest 0; used = 0; long = false }
+
+-- the state at the beginning of the input
+unfoldable pub feedStart : Feed
+feedStart = lineStart newSession
+
+-- the reply to the line that has just ended
+unfoldable pub lineReply : Feed → Reply
+lineReply f = parsedReply (f .session) (parseText (take (f .used) (f .kept)) true (f .long))
+
+-- a byte of an unfinished line, of which 80 are kept
+unfoldable pub keepByte : Feed → ℕ → Feed
+keepByte f b =
+    elim (ltb (f .used) longest) [
+      | true ↦ record { session = f .session; kept = set (f .kept) (f .used) b; used = f .used + 1; long = f .long }
+      | false ↦ record { session = f .session; kept = f .kept; used = f .used; long = true }
+    ]
+
+-- the state after a byte
+unfoldable pub byteState : Feed → ℕ → Feed
+byteState f b = elim (eqb b newline) [ true ↦ lineStart (lineReply f .session) | false ↦ keepByte f b ]
+
+-- the text that it gives
+unfoldable pub byteText : Feed → ℕ → List ℕ
+byteText f b = elim (eqb b newline) [ true ↦ lineReply f .text | false ↦ [] ]
+
+-- the state after a run of bytes
+unfoldable pub feedState : Feed → List ℕ → Feed
+feedState f [] = f
+feedState f (b ∷ bs) = feedState (byteState f b) bs
+
+-- the text that it gives
+unfoldable pub feedText : Feed → List ℕ → List ℕ
+feedText f [] = []
+feedText f (b ∷ bs) = byteText f b ++ feedText (byteState f b) bs
+
+-- whether a line has begun and not ended
+unfoldable pub unfinished : Feed → Bool
+unfinished f = either (f .long) (ltb 0 (f .used))
+
+-- at the end of the input a line without its newline is not in the grammar
+unfoldable pub endText : Feed → List ℕ
+endText f = pick (unfinished f) (answerText (Refused NotInGrammar)) []
+
+-- the reply to the end of the input
+unfoldable pub endReply : Feed → Reply
+endReply f = record { text = endText f; session = f .session }
+
+-- the whole output of a whole input
+unfoldable pub transcript : List ℕ → List ℕ
+transcript input = feedText feedStart input ++ endText (feedState feedStart input)

@@ -1,0 +1,102 @@
+// The line program over blocks of input.
+use crate::Fed;
+use crate::Feed;
+use crate::newlines::newline_from;
+use crate::pieces::begun;
+use crate::pieces::keep;
+use crate::pieces::parse_ended;
+use answers::LineReply;
+use answers::replies::reply;
+use planner::open::new_session;
+use sessions::Session;
+ghost use mathlib.Core.Path.{_≡_};
+ghost use lib.ListN.{length};
+ghost use Rattle.answers.specs.Written.{inArray};
+ghost use Rattle.lines.specs.Stream.{lineStart, feedStart, endReply};
+ghost use Rattle.lines.specs.Blocks.{fedOf, fedOut};
+
+// Room for any reply, in bytes.
+const REPLY_ROOM: usize = 2048;
+
+// The state at the beginning of a line.
+fn line_start(session: Session) -> Feed
+    ensures { λ r. ⌜ r ≡ lineStart session ⌝ }
+{
+    Feed {
+        session,
+        kept: [0u8; 80],
+        used: 0,
+        long: false,
+    }
+}
+
+// The state at the beginning of the input.
+pub fn start() -> Feed
+    ensures { λ r. ⌜ r ≡ feedStart ⌝ }
+{
+    line_start(new_session())
+}
+
+// Takes bytes of a block while the output has room for any reply, and writes the replies.
+pub fn feed(feed: Feed, block: &[u8], out: &mut [u8]) -> Fed
+    ensures answer { λ r. ⌜ r ≡ fedOf feed (now (block .entry)) (length (now (out .entry))) ⌝ }
+    ensures output { λ _. ⌜ now (out .exit) ≡ fedOut feed (now (block .entry)) (now (out .entry)) ⌝ }
+{
+    let mut next = feed;
+    let mut taken = 0;
+    let mut written = 0;
+    while taken < block.len() {
+        if out.len() - written < REPLY_ROOM {
+            return Fed {
+                feed: next,
+                taken,
+                written,
+            };
+        }
+        let end = newline_from(block, taken);
+        if end == block.len() {
+            return Fed {
+                feed: keep(next, &block[taken..]),
+                taken: end,
+                written,
+            };
+        }
+        let parsed = parse_ended(next, &block[taken..end]);
+        let session = next.session;
+        let replied = reply(session, parsed, &mut out[written..]);
+        let after = replied.session;
+        next = line_start(after);
+        written += replied.written;
+        taken = end + 1;
+    }
+    Fed {
+        feed: next,
+        taken,
+        written,
+    }
+}
+
+// The reply to the end of the input.
+pub fn end(feed: Feed) -> LineReply
+    ensures { λ r. ⌜ r ≡ inArray (endReply feed) ⌝ }
+{
+    let session = feed.session;
+    let mut text = [0u8; 2048];
+    if begun(feed.used, feed.long) {
+        text[0] = b'n';
+        text[1] = b'o';
+        text[2] = b'\t';
+        text[3] = b'1';
+        text[4] = b'\n';
+        return LineReply {
+            text,
+            length: 5,
+            session,
+        };
+    }
+    LineReply {
+        text,
+        length: 0,
+        session,
+    }
+}

@@ -1,0 +1,21 @@
+// Two long mixed transcripts, one for each device, each in a session of its own.
+// The blocks are short and the output has room for little more than one reply, so lines are cut, and blocks are answered in parts.
+use libc::STDOUT_FILENO;
+
+// Answers a file's lines.
+fn answer_file(path: &[u8]) {
+    let input = os::open_read(path);
+    if input < 0 {
+        os::fail(path);
+        return;
+    }
+    let mut block = [0u8; 61];
+    let mut out = [0u8; 2100];
+    relay::answer_input(input, STDOUT_FILENO, &mut block, &mut out);
+    libc::close(input);
+}
+
+fn main() {
+    answer_file(b"g.txt");
+    answer_file(b"s.txt");
+}
