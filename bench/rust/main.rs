@@ -1,10 +1,12 @@
 //! Compares the proved planner with the Rust one of plan.rs and model.rs: the same answers, and the time of both in one run.
 
 mod model;
+mod numbers;
 mod plan;
 mod rows;
 mod turns;
 
+use numbers::Numbers;
 use plan::{first_plan, Place, Request};
 use rows::{to_request, to_row};
 use std::hint::black_box;
@@ -80,17 +82,7 @@ fn same_answers(usable: u64, requests: &[Request]) -> bool {
         && (0..count).all(|i| place_number(usable, &rows, count, i) == proved::first_plan(usable, &rows, count, i))
 }
 
-/// A generator of 64-bit numbers (xorshift), so that every run has the same lists.
-pub struct Numbers(u64);
-
 impl Numbers {
-    pub fn below(&mut self, limit: u64) -> u64 {
-        self.0 ^= self.0 << 13;
-        self.0 ^= self.0 >> 7;
-        self.0 ^= self.0 << 17;
-        (self.0 >> 11) % limit
-    }
-
     fn set(&mut self) -> u64 {
         match self.below(3) {
             0 => 15,

@@ -2,7 +2,9 @@
 //! the registers that its writes leave, and how many of the values with one bit changed it accepts.
 mod model;
 mod plan;
+mod reader;
 use model::*;
+use reader::*;
 
 const FULL: [u64; 4] = [u64::MAX; 4];
 

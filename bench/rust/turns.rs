@@ -1,9 +1,10 @@
 //! The calls of a session: the same answers on random lists of calls, and the time of a turn.
 
 use crate::model::{Session, Turn};
+use crate::compare;
+use crate::numbers::Numbers;
 use crate::plan::Request;
 use crate::rows::{to_request, to_row};
-use crate::{compare, Numbers};
 use std::hint::black_box;
 
 const RANDOM_LISTS: usize = 20_000;

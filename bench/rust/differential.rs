@@ -1,0 +1,93 @@
+//! Two line programs on the same random transcripts, byte for byte: whole from a file, and some through a pipe in small
+//! pieces, where a completed line must be answered before the next piece comes. `differential TUNER RUST COUNT SEED`
+
+#[path = "line_program/answer.rs"]
+mod answer;
+#[path = "line_program/call.rs"]
+mod call;
+mod model;
+mod numbers;
+mod pieces;
+mod plan;
+#[path = "line_program/session.rs"]
+mod session;
+mod tally;
+mod transcript;
+
+use std::fs::{self, File};
+use std::process::{exit, Command, Stdio};
+use tally::Tally;
+
+const INPUT: &str = "target/bench/differential.txt";
+/// Every so many transcripts goes through a pipe too; an odd number, so that both devices do.
+const PIECES_EVERY: u64 = 7;
+/// Longer transcripts are not cut into pieces: it takes too long.
+const PIECES_LIMIT: usize = 20_000;
+
+struct Programs {
+    tuner: String,
+    rust: String,
+    seed: u64,
+}
+
+/// What a program writes when the whole transcript lies in a file.
+fn output_of(program: &str) -> Vec<u8> {
+    let input = File::open(INPUT).expect("the transcript");
+    let done = Command::new(program).stdin(input).stderr(Stdio::inherit()).output();
+    let done = done.unwrap_or_else(|error| panic!("{program}: {error}"));
+    assert!(done.status.success(), "{program} on {INPUT}: {}", done.status);
+    done.stdout
+}
+
+/// Saves the transcript and both outputs, says where they are, and ends.
+fn fail(programs: &Programs, number: u64, what: &str, transcript: &[u8], tuner: &[u8], rust: &[u8]) -> ! {
+    let same = tuner.iter().zip(rust).take_while(|(a, b)| a == b).count();
+    let line = rust[..same].iter().filter(|&&byte| byte == b'\n').count() + 1;
+    for (end, bytes) in [("txt", transcript), ("tuner", tuner), ("rust", rust)] {
+        fs::write(format!("target/bench/difference.{end}"), bytes).expect("a place for the difference");
+    }
+    println!("DIFFERENT: transcript {number} of seed {}, {what}, from line {line} of the output", programs.seed);
+    println!("saved as target/bench/difference.txt, the outputs as .tuner and .rust");
+    exit(1)
+}
+
+/// One transcript through both programs.
+fn compare(programs: &Programs, number: u64, tally: &mut Tally) -> bool {
+    let transcript = transcript::random(number, programs.seed);
+    let expected = tally.answers(&transcript);
+    fs::write(INPUT, &transcript).expect("a place for the transcript");
+    let rust = output_of(&programs.rust);
+    if rust != expected.bytes {
+        fail(programs, number, "the Rust program beside its own answers line by line", &transcript, &rust, &expected.bytes);
+    }
+    let tuner = output_of(&programs.tuner);
+    if tuner != rust {
+        fail(programs, number, "whole", &transcript, &tuner, &rust);
+    }
+    let cut = number % PIECES_EVERY == 0 && transcript.len() <= PIECES_LIMIT;
+    if cut {
+        for program in [&programs.rust, &programs.tuner] {
+            let mut numbers = transcript::numbers_from(programs.seed ^ number << 20 ^ 1);
+            let output = pieces::output_of(program, &transcript, &expected.after, &mut numbers);
+            if output != expected.bytes {
+                fail(programs, number, &format!("{program} in pieces"), &transcript, &output, &expected.bytes);
+            }
+        }
+    }
+    cut
+}
+
+fn main() {
+    let words: Vec<String> = std::env::args().skip(1).collect();
+    let [tuner, rust, count, seed] = &words[..] else { panic!("differential TUNER RUST COUNT SEED") };
+    let (count, seed): (u64, u64) = (count.parse().expect("a count"), seed.parse().expect("a seed"));
+    let programs = Programs { tuner: tuner.clone(), rust: rust.clone(), seed };
+    println!("differential {tuner} {rust} {count} {seed}");
+    let mut tally = Tally::new();
+    let cut = (0..count).filter(|&number| compare(&programs, number, &mut tally)).count();
+    println!("{count} transcripts, {} lines, {cut} of them in pieces too: the same, byte for byte", tally.lines);
+    tally.print();
+    if count >= 1000 {
+        tally.nothing_missed();
+    }
+}

@@ -1,0 +1,129 @@
+//! The grammar of document 01, 'Lines': a line without its newline becomes a call, or nothing.
+
+use crate::plan::Request;
+
+/// The most bytes of a line, without its newline.
+pub const LINE_LIMIT: usize = 80;
+/// The most digits of a decimal.
+const DECIMAL_DIGITS: usize = 5;
+
+#[derive(Clone, Copy, PartialEq, Eq, Debug)]
+pub enum Call {
+    Open { device: u64, usable: u64 },
+    Add { id: u64, request: Request },
+    Drop { id: u64 },
+    Turn,
+}
+
+/// The fields of a line, each as the part of the line where it begins and ends.
+struct Fields<'a> {
+    rest: Option<&'a [u8]>,
+}
+
+impl<'a> Fields<'a> {
+    /// The part up to the next tab or to the line's end; nothing after the last field.
+    fn next(&mut self) -> Option<&'a [u8]> {
+        let rest = self.rest?;
+        match rest.iter().position(|&byte| byte == b'\t') {
+            Some(tab) => {
+                self.rest = Some(&rest[tab + 1..]);
+                Some(&rest[..tab])
+            }
+            None => {
+                self.rest = None;
+                Some(rest)
+            }
+        }
+    }
+
+    fn decimal(&mut self) -> Option<u64> {
+        decimal_of(self.next()?)
+    }
+
+    fn hex(&mut self, width: usize) -> Option<u64> {
+        hex_of(self.next()?, width)
+    }
+}
+
+/// A decimal of at most five digits and without a leading zero.
+fn decimal_of(field: &[u8]) -> Option<u64> {
+    let leading_zero = field.len() > 1 && field[0] == b'0';
+    if field.is_empty() || field.len() > DECIMAL_DIGITS || leading_zero {
+        return None;
+    }
+    let mut number = 0;
+    for &byte in field {
+        if !byte.is_ascii_digit() {
+            return None;
+        }
+        number = 10 * number + (byte - b'0') as u64;
+    }
+    Some(number)
+}
+
+/// A hex number in upper case of exactly this width.
+fn hex_of(field: &[u8], width: usize) -> Option<u64> {
+    if field.len() != width {
+        return None;
+    }
+    let mut number = 0;
+    for &byte in field {
+        let digit = match byte {
+            b'0'..=b'9' => byte - b'0',
+            b'A'..=b'F' => byte - b'A' + 10,
+            _ => return None,
+        };
+        number = number << 4 | digit as u64;
+    }
+    Some(number)
+}
+
+/// The device's number is the ASCII code of its letter; the grammar has two letters.
+fn device_of(field: &[u8]) -> Option<u64> {
+    match field {
+        b"G" | b"S" => Some(field[0] as u64),
+        _ => None,
+    }
+}
+
+fn event(fields: &mut Fields) -> Option<Request> {
+    let (code, mask) = (fields.hex(2)? as u8, fields.hex(2)? as u8);
+    Some(Request::Event { code, mask, allowed: fields.decimal()? })
+}
+
+fn packet(fields: &mut Fields) -> Option<Request> {
+    let (match_word, mask_word) = (fields.hex(16)?, fields.hex(16)?);
+    Some(Request::Packet { match_word, mask_word, allowed: fields.decimal()? })
+}
+
+fn offcore(fields: &mut Fields) -> Option<Request> {
+    let word = fields.hex(16)?;
+    Some(Request::Offcore { word, allowed: fields.decimal()? })
+}
+
+fn latency(fields: &mut Fields) -> Option<Request> {
+    let types = fields.hex(4)? as u16;
+    Some(Request::Latency { types, first: fields.decimal()?, second: fields.decimal()? })
+}
+
+/// The call of a line; nothing where the line is too long, a field is ill-formed, or one is missing or left over.
+pub fn call_of(line: &[u8]) -> Option<Call> {
+    if line.len() > LINE_LIMIT {
+        return None;
+    }
+    let mut fields = Fields { rest: Some(line) };
+    let call = match fields.next()? {
+        b"open" => Call::Open { device: device_of(fields.next()?)?, usable: fields.decimal()? },
+        b"event" => Call::Add { id: fields.decimal()?, request: event(&mut fields)? },
+        b"packet" => Call::Add { id: fields.decimal()?, request: packet(&mut fields)? },
+        b"offcore" => Call::Add { id: fields.decimal()?, request: offcore(&mut fields)? },
+        b"latency" => Call::Add { id: fields.decimal()?, request: latency(&mut fields)? },
+        b"drop" => Call::Drop { id: fields.decimal()? },
+        b"turn" => Call::Turn,
+        _ => return None,
+    };
+    match fields.rest {
+        None => Some(call),
+        Some(_) => None,
+    }
+}

@@ -1,0 +1,79 @@
+//! The line program in Rust, written from document 01: lines on standard input, answers on standard output.
+//! One session behind `&mut`, its queue in a fixed array; two fixed blocks; no heap between the first line and the last.
+
+mod answer;
+mod call;
+#[path = "../model.rs"]
+mod model;
+#[path = "../plan.rs"]
+mod plan;
+mod session;
+
+use answer::{answer, Output, LONGEST_ANSWER};
+use call::LINE_LIMIT;
+use session::Session;
+use std::fs::File;
+use std::io::{ErrorKind, Read, Result, Write};
+use std::mem::ManuallyDrop;
+use std::os::fd::FromRawFd;
+
+const BLOCK: usize = 64 * 1024;
+
+/// The bytes that came, or none at the end of the input.
+fn read(input: &mut File, room: &mut [u8]) -> Result<usize> {
+    loop {
+        match input.read(room) {
+            Err(error) if error.kind() == ErrorKind::Interrupted => {}
+            outcome => return outcome,
+        }
+    }
+}
+
+fn flush(output: &mut File, out: &mut Output) -> Result<()> {
+    output.write_all(&out.block[..out.used])?;
+    out.used = 0;
+    Ok(())
+}
+
+/// Answers every line. An unfinished line waits at the front of the block; of an overlong one nothing is kept.
+fn answer_lines(input: &mut File, output: &mut File) -> Result<()> {
+    let mut session = Session::new();
+    let mut block = [0; LINE_LIMIT + BLOCK];
+    let mut out = Output { block: &mut [0; BLOCK], used: 0 };
+    let (mut held, mut overlong) = (0, false);
+    loop {
+        let count = read(input, &mut block[held..held + BLOCK])?;
+        if count == 0 {
+            break;
+        }
+        let mut rest = &block[..held + count];
+        while let Some(length) = rest.iter().position(|&byte| byte == b'\n') {
+            if overlong {
+                out.refuse(1);
+                overlong = false;
+            } else {
+                answer(&mut session, &rest[..length], &mut out);
+            }
+            rest = &rest[length + 1..];
+            if out.block.len() - out.used < LONGEST_ANSWER {
+                flush(output, &mut out)?;
+            }
+        }
+        overlong |= rest.len() > LINE_LIMIT;
+        let start = held + count - rest.len();
+        held = if overlong { 0 } else { rest.len() };
+        block.copy_within(start..start + held, 0);
+        flush(output, &mut out)?;
+    }
+    if overlong || held > 0 {
+        out.refuse(1);
+    }
+    flush(output, &mut out)
+}
+
+fn main() {
+    // The two files stay open: they are the process's, not ours.
+    let (input, output) = unsafe { (File::from_raw_fd(0), File::from_raw_fd(1)) };
+    // A closed output ends the program quietly: nobody is left to be told.
+    let _ = answer_lines(&mut ManuallyDrop::new(input), &mut ManuallyDrop::new(output));
+}

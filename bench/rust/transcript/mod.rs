@@ -1,0 +1,166 @@
+//! Whole transcripts: long mixed ones for measuring, and short valid, damaged and adversarial ones for comparing.
+#![allow(dead_code)]
+
+mod calls;
+mod damage;
+
+use crate::answer::{answer, Output, LONGEST_ANSWER};
+use crate::numbers::Numbers;
+use crate::session::Session;
+use calls::Bench;
+
+/// The lines between two choices of how long the queue should be.
+const STRETCH: usize = 64;
+
+/// Starts a generator; near seeds give unlike numbers.
+pub fn numbers_from(seed: u64) -> Numbers {
+    let mut numbers = Numbers((seed + 1).wrapping_mul(0x9E37_79B9_7F4A_7C15));
+    for _ in 0..8 {
+        numbers.below(2);
+    }
+    numbers
+}
+
+fn push(transcript: &mut Vec<u8>, line: &[u8]) {
+    transcript.extend_from_slice(line);
+    transcript.push(b'\n');
+}
+
+/// A call for a queue that should be about this long.
+fn next_call(bench: &mut Bench, session: &Session, goal: usize) -> Vec<u8> {
+    let waiting: Vec<u64> = session.queue().iter().map(|entry| entry.id).collect();
+    match bench.numbers.below(100) {
+        0..=19 => "turn".into(),
+        20..=24 => damage::damaged(&mut bench.numbers, b"event\t7\tC0\t00\t15"),
+        25..=26 => bench.drop().into(),
+        27..=35 => {
+            bench.odd = 30;
+            let call = if bench.numbers.chance(10) { bench.open() } else { bench.add() };
+            bench.odd = 0;
+            call.into()
+        }
+        _ if waiting.len() < goal || waiting.is_empty() => {
+            let id = bench.numbers.below(65535) + 1;
+            bench.add_with(id).into()
+        }
+        _ => format!("drop\t{}", bench.numbers.pick(&waiting)).into(),
+    }
+}
+
+/// A transcript of so many lines: mostly accepted adds and drops, a fifth turns, a tenth refused or ill-formed lines.
+pub fn long(device: char, lines: usize, seed: u64) -> Vec<u8> {
+    let mut bench = Bench { numbers: numbers_from(seed), device, usable: 15, odd: 0 };
+    let mut session = Session::new();
+    let mut block = [0; LONGEST_ANSWER];
+    let mut transcript = Vec::new();
+    let mut goal = 0;
+    for n in 0..lines {
+        if n % STRETCH == 0 {
+            goal = bench.numbers.below(18) as usize;
+        }
+        let mut line = if n == 0 { bench.open().into() } else { next_call(&mut bench, &session, goal) };
+        line.retain(|&byte| byte != b'\n');
+        answer(&mut session, &line, &mut Output { block: &mut block, used: 0 });
+        push(&mut transcript, &line);
+    }
+    transcript
+}
+
+/// More adds than the queue has room for, each of which has a plan alone.
+fn overflow(bench: &mut Bench, transcript: &mut Vec<u8>) {
+    for id in 101..118 + bench.numbers.below(4) {
+        let (code, mask) = if bench.device == 'G' { ("C0", "00") } else { ("2F", "00") };
+        push(transcript, format!("event\t{id}\t{code}\t{mask}\t{}", bench.usable).as_bytes());
+    }
+}
+
+fn call(bench: &mut Bench) -> String {
+    match bench.numbers.below(20) {
+        0 => bench.open(),
+        1..=11 => bench.add(),
+        12..=14 => bench.drop(),
+        _ => "turn".into(),
+    }
+}
+
+/// The end of the input: after a newline, or inside a line, which may be overlong.
+fn ending(bench: &mut Bench, transcript: &mut Vec<u8>) {
+    match bench.numbers.below(10) {
+        0 => drop(transcript.pop()),
+        1 => transcript.extend_from_slice(call(bench).as_bytes()),
+        2 => transcript.extend_from_slice(&damage::noise(&mut bench.numbers)),
+        _ => {}
+    }
+}
+
+/// How a transcript is mixed: its calls, where it opens and overfills the queue, and how many of a hundred lines are
+/// damaged or noise.
+struct Mix {
+    calls: u64,
+    opened_at: u64,
+    overflow_at: u64,
+    damage: u64,
+    noise: u64,
+}
+
+/// The open, sometimes after one that is refused.
+fn opening(bench: &mut Bench, transcript: &mut Vec<u8>) {
+    if bench.numbers.chance(30) {
+        let usable = bench.numbers.pick(&[0, 16, 17, 99999]);
+        push(transcript, format!("open\t{}\t{usable}", bench.device).as_bytes());
+    }
+    push(transcript, format!("open\t{}\t{}", bench.device, bench.usable).as_bytes());
+}
+
+fn mixed_lines(bench: &mut Bench, mix: Mix) -> Vec<u8> {
+    let mut transcript = Vec::new();
+    for n in 0..mix.calls {
+        if n == mix.opened_at {
+            opening(bench, &mut transcript);
+        }
+        if n == mix.overflow_at {
+            overflow(bench, &mut transcript);
+        }
+        let line: Vec<u8> = call(bench).into();
+        let line = match (bench.numbers.chance(mix.damage), bench.numbers.chance(mix.noise)) {
+            (_, true) => damage::noise(&mut bench.numbers),
+            (true, _) => damage::damaged(&mut bench.numbers, &line),
+            _ => line,
+        };
+        push(&mut transcript, &line);
+    }
+    transcript
+}
+
+/// One transcript of so many calls with every kind of line. On S its last line lacks the newline.
+pub fn mixed(device: char, usable: u64, calls: u64, seed: u64) -> Vec<u8> {
+    let mut bench = Bench { numbers: numbers_from(seed), device, usable, odd: 8 };
+    let mut transcript = mixed_lines(&mut bench, Mix { calls, opened_at: 6, overflow_at: calls / 2, damage: 12, noise: 4 });
+    if device == 'S' {
+        transcript.pop();
+    }
+    transcript
+}
+
+/// The transcript of this number: both devices and every usable set in turn, of every kind from valid to noise alone.
+pub fn random(number: u64, seed: u64) -> Vec<u8> {
+    let numbers = numbers_from(seed ^ number << 20);
+    let device = if number % 2 == 0 { 'G' } else { 'S' };
+    let odd = [0, 4, 15, 40][(number / 30 % 4) as usize];
+    let mut bench = Bench { numbers, device, usable: number / 2 % 15 + 1, odd };
+    let calls = if number % 500 == 499 { 6000 } else { bench.numbers.below(100) };
+    let mix = Mix {
+        calls,
+        opened_at: if bench.numbers.chance(80) { 0 } else { bench.numbers.below(8) },
+        overflow_at: if bench.numbers.chance(25) { bench.numbers.below(calls + 1) } else { calls },
+        damage: bench.numbers.pick(&[0, 0, 10, 40]),
+        noise: bench.numbers.pick(&[0, 0, 5, 50]),
+    };
+    let mut transcript = mixed_lines(&mut bench, mix);
+    if bench.numbers.chance(2) {
+        push(&mut transcript, &damage::huge(&mut bench.numbers));
+        push(&mut transcript, call(&mut bench).as_bytes());
+    }
+    ending(&mut bench, &mut transcript);
+    transcript
+}

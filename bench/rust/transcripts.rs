@@ -1,0 +1,28 @@
+//! Prints a transcript: `long DEVICE LINES SEED`, `mixed DEVICE USABLE CALLS SEED`, or `random NUMBER SEED`.
+
+#[path = "line_program/answer.rs"]
+mod answer;
+#[path = "line_program/call.rs"]
+mod call;
+mod model;
+mod numbers;
+mod plan;
+#[path = "line_program/session.rs"]
+mod session;
+mod transcript;
+
+use std::io::Write;
+
+fn main() {
+    let words: Vec<String> = std::env::args().skip(1).collect();
+    let words: Vec<&str> = words.iter().map(String::as_str).collect();
+    let number = |word: &str| word.parse().expect("a number");
+    let device = |word: &str| word.chars().next().expect("a device");
+    let transcript = match words[..] {
+        ["long", d, lines, seed] => transcript::long(device(d), number(lines) as usize, number(seed)),
+        ["mixed", d, usable, calls, seed] => transcript::mixed(device(d), number(usable), number(calls), number(seed)),
+        ["random", n, seed] => transcript::random(number(n), number(seed)),
+        _ => panic!("long DEVICE LINES SEED, mixed DEVICE USABLE CALLS SEED, or random NUMBER SEED"),
+    };
+    std::io::stdout().write_all(&transcript).expect("standard output");
+}
