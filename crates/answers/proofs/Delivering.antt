@@ -15,10 +15,10 @@ use Rattle.sessions.specs.declared.Session.{Session}
 use Rattle.sessions.specs.declared.Assigned.{Assigned}
 use Rattle.sessions.specs.declared.TurnAnswered.{TurnAnswered}
 use Rattle.sessions.specs.Calls.{Turn}
-use Rattle.sessions.specs.Sessions.{refusedBy, turnAnswer, turnOf, turnSlice, planOf}
+use Rattle.sessions.specs.Sessions.{refusedBy, turnAnswer, turnOf, planOf}
 use Rattle.records.specs.declared.Parsed.{Parsed}
 use Rattle.records.specs.Parse.{parseLine}
-use Rattle.answers.specs.Replies.{Reply, answerText, takeLines, setLines, turnReply, turnRoom, parsedReply, answerLine}
+use Rattle.answers.specs.Replies.{Reply, answerText, takeLines, setLines, turnReply, parsedReply, answerLine}
 use Rattle.answers.specs.Written.{replyRoom, inArray, atStart, repliedIn, repliedOut}
 use Rattle.answers.specs.Texts.{Put, Delivered}
 use Rattle.answers.specs.declared.Replied.{Replied}
@@ -32,11 +32,13 @@ delivered x d e n p = record { answered = let q : n ≡ length (x .text) = omega
 
 -- ---- a turn
 
+-- the requests of the plan are those taken, in an answer ..
 taken-in : (a : Answer) (s : Session) (plan : List Assigned) (n : ℕ) → length (planOf (turnAnswer a s plan n)) ≡ turnAnswer a s plan n .taken
 unfolding planOf turnAnswer
 taken-in a s plan n = rw take-append-seam
 
 module _ (s : Session) (room : ℕ) where
+  -- .. and in what a turn answers
   plan-taken : (x : Option Refusal) → refusedBy s (Turn room) ≡ x → length (planOf (turnOf s room)) ≡ turnOf s room .taken
   unfolding turnOf
   plan-taken none e = rw (e, turnOf) (taken-in _ _ _ _)

@@ -1,4 +1,4 @@
-pub mod Examples
+pub mod AcceptanceTests
 pub mod Lengths
 pub mod TurnLimits
 pub mod ReplyLength

@@ -1,6 +1,6 @@
 -- Laws of the lines of a reply: one request or one write more, and a `take` line in its parts.
 -- Assumes nothing.
-use mathlib.Core.Path.{_≡_, refl, ap, sym, _∙_}
+use mathlib.Core.Path.{_≡_, refl}
 use mathlib.Core.List.{List, [], _∷_, _++_, flatMap, append-assoc, append-nil}
 use mathlib.Core.Option.{Option, none, some}
 use Prim.Native.Nat.{ℕ, zero, suc, _+_, _*_, _<_, _≤_}
@@ -15,7 +15,7 @@ use Rattle.sessions.specs.declared.Assigned.{Assigned}
 use Rattle.records.specs.Text.{bytes, newline, hexText, decimalDigits, decimalText, lineOf}
 use Rattle.answers.specs.Replies.{registerText, takeLines, setLines}
 use Rattle.answers.specs.Texts.{Put, takeStart}
-use Rattle.answers.proofs.Lengths.{decimal-length, hex-length, joined-length, take-lines-length, set-lines-length}
+use Rattle.answers.proofs.Lengths.{decimal-length, joined-length, take-lines-length, set-lines-length}
 
 -- where a number ends
 pub number-end : (number : ℕ) {d e : List ℕ} {at n : ℕ} → Put d at (decimalText number) e n → n ≤ at + 20
@@ -34,18 +34,22 @@ unfolding takeStart lineOf bytes
 take-line id counter r = simp append-assoc
 
 module _ (a : Assigned) where
+  -- one line, with no register
   pub take-counter : (k : ℕ) → a .place ≡ Counter k → takeLines a ≡ takeStart (a .id) k ++ (bytes "-" ++ newline ∷ [])
   unfolding takeLines countedOf registerText flatMap
   take-counter k e = rw (e, append-nil) (take-line (a .id) k none)
 
+  -- one line, with the register
   pub take-rsp : (k i : ℕ) → a .place ≡ WithRsp k i → takeLines a ≡ takeStart (a .id) k ++ (decimalText i ++ newline ∷ [])
   unfolding takeLines countedOf registerText flatMap
   take-rsp k i e = rw (e, append-nil) (take-line (a .id) k (some i))
 
+  -- two lines, the first with RSP0 and the second with RSP1
   pub take-pair : (j k : ℕ) → a .place ≡ Pair j k → takeLines a ≡ takeStart (a .id) j ++ ((bytes "0" ++ newline ∷ []) ++ (takeStart (a .id) k ++ (bytes "1" ++ newline ∷ [])))
   unfolding takeLines countedOf registerText flatMap bytes decimalText decimalDigits
   take-pair j k e = rw (e, append-nil, take-line (a .id) j (some 0), take-line (a .id) k (some 1), append-assoc (takeStart (a .id) j))
 
+-- texts one after another, and one more
 joined-last : {A : Type 0} (f : A → List ℕ) (l : List A) (a : A) → flatMap f (l ++ a ∷ []) ≡ flatMap f l ++ f a
 unfolding flatMap
 joined-last f [] a = append-nil (f a)
@@ -65,10 +69,6 @@ takes-length plan n = omega (arith, joined-length takeLines 136 take-lines-lengt
 pub set-line : (a v : ℕ) → setLines (a ∷ v ∷ []) ≡ lineOf (bytes "set" ∷ hexText 4 a ∷ hexText 16 v ∷ [])
 unfolding setLines
 set-line a v = append-nil _
-
-pub set-length : (a v : ℕ) → length (setLines (a ∷ v ∷ [])) ≡ 26
-unfolding setLines lineOf bytes
-set-length a v = simp length-append (omega (arith, hex-length 4 a, hex-length 16 v))
 
 -- the lines of the first n writes
 pub sets-length : (list : List ℕ) (n : ℕ) → length (setLines (take (2 * n) list)) ≤ 26 * n

@@ -1,6 +1,6 @@
 -- Laws of numbers as text: the last digit, and what stands in front of it.
 -- Assumes nothing.
-use mathlib.Core.Path.{_≡_, refl, ap, sym, _∙_}
+use mathlib.Core.Path.{_≡_, ap, sym, _∙_}
 use mathlib.Core.List.{List, [], _∷_, _++_}
 use Prim.Native.Nat.{ℕ, zero, suc, _+_, _/_, _%_, _^_, _<_, _≤_}
 use native.Mathlib.Numerals.{add-one}
@@ -14,6 +14,7 @@ use Rattle.records.specs.Text.{hexDigit, hexText, decimalDigits, decimalText}
 
 -- ---- hex
 
+-- the digits in front of the last are those of the sixteenth part
 pub hex-next : (i n : ℕ) → hexText (i + 1) n ≡ hexText i (n / 16) ++ hexDigit (n % 16) ∷ []
 unfolding hexText
 hex-next i n = rw add-one
@@ -32,11 +33,12 @@ enough zero n h = rw (lt-ltb n 10 h)
 enough (suc f) n h =
     ap (λ (x : List ℕ). pick (ltb n 10) [] x ++ (n % 10 + 48) ∷ []) (enough f (n / 10) (omega (arith, pow-suc 10 (suc f))))
 
+-- the digits in front of the last, where one fewer is enough for them ..
 decimal-cut : (n : ℕ) → 10 ≤ n → decimalText n ≡ decimalDigits 19 (n / 10) ++ (n % 10 + 48) ∷ []
 unfolding decimalText decimalDigits
 decimal-cut n h = rw (le-ltb n 10 h)
 
--- the digits in front of the last are those of the tenth part
+-- .. are those of the tenth part
 pub decimal-more : (n : ℕ) → 10 ≤ n → n < 2 ^ 64 → decimalText n ≡ decimalText (n / 10) ++ (n % 10 + 48) ∷ []
 unfolding decimalText
 decimal-more n h k = decimal-cut n h ∙ ap (λ (x : List ℕ). x ++ (n % 10 + 48) ∷ []) (sym (enough 18 (n / 10) (omega arith)))

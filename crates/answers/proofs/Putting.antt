@@ -2,7 +2,7 @@
 -- Assumes nothing.
 use mathlib.Core.Path.{_≡_, refl, ap, sym, _∙_}
 use mathlib.Core.List.{List, [], _∷_, _++_}
-use Prim.Native.Nat.{ℕ, suc, _+_, _<_, _≤_}
+use Prim.Native.Nat.{ℕ, suc, _+_, _<_}
 use native.Mathlib.Numerals.{add-one}
 use native.Mathlib.Nat.{add-zero}
 use native.Mathlib.Omega.{arith}
@@ -10,13 +10,14 @@ use lib.ListN.{length, getD, take, drop, set, length-append, length-take}
 use lib.Seq.{sets, take-suc, drop-cons, drop-length, length-sets, set-comm, take-at, getD-at, getD-take, take-take}
 use Rattle.answers.specs.Texts.{Put}
 
+-- a run of stores in two parts
 sets-append : (d : List ℕ) (i : ℕ) (a b : List ℕ) → sets d i (a ++ b) ≡ sets (sets d i a) (i + length a) b
 sets-append d i [] b = rw add-zero
 sets-append d i (x ∷ a) b =
     let e : suc i + length a ≡ i + suc (length a) = omega arith in
     sets-append (set d i x) (suc i) a b ∙ ap (λ (k : ℕ). sets (sets (set d i x) (suc i) a) k b) e
 
--- a text puts nothing past the slice's end: the slice keeps its length
+-- the slice keeps its length
 pub put-length : {d e b : List ℕ} {at n : ℕ} → Put d at b e n → length e ≡ length d
 put-length {d} {e} {b} {at} w = ap length (w .contents) ∙ length-sets d at b
 
@@ -33,7 +34,7 @@ then {d} {e} {f} {a} {b} {at} {n} {m} v w =
     }
 
 -- one byte
-pub put-byte : (d : List ℕ) (at x : ℕ) → Put d at (x ∷ []) (set d at x) (at + 1)
+put-byte : (d : List ℕ) (at x : ℕ) → Put d at (x ∷ []) (set d at x) (at + 1)
 put-byte d at x = record { place = refl; contents = refl }
 
 -- ---- from the front
@@ -44,6 +45,7 @@ copied-next {d} {e} {at} {n} s i h v = rw (add-one i, take-suc s i 0) (then v (p
 
 -- ---- from the back
 
+-- a store in front of a run of stores may come first
 set-early : (d : List ℕ) (i k x : ℕ) (a : List ℕ) → i < k → set (sets d k a) i x ≡ sets (set d i x) k a
 set-early d i k x [] h = refl
 set-early d i k x (y ∷ a) h =
@@ -63,7 +65,7 @@ pub none-put : (d : List ℕ) (at i : ℕ) (text : List ℕ) → i ≡ length te
 none-put d at i text p = rw (p, drop-length)
 
 -- the byte in front of what stands there
-pub put-before : (d e : List ℕ) (at i : ℕ) (text : List ℕ) → i < length text → PutFrom (i + 1) d at text e → PutFrom i d at text (set e (at + i) (getD text i 0))
+put-before : (d e : List ℕ) (at i : ℕ) (text : List ℕ) → i < length text → PutFrom (i + 1) d at text e → PutFrom i d at text (set e (at + i) (getD text i 0))
 put-before d e at i text h p =
     let m : at + suc i ≡ suc (at + i) = omega arith in
     rw (p, add-one i, m, drop-cons text i 0) (set-early d (at + i) (suc (at + i)) (getD text i 0) (drop (suc i) text) (omega arith))

@@ -3,19 +3,18 @@ use mathlib.Core.Path.{_≡_}
 use mathlib.Core.List.{List, [], _∷_, _++_, map, flatMap}
 use Prim.Native.Nat.{ℕ}
 use Prim.Native.String.{String}
-use lib.Dec.{eqb}
 use Rattle.requests.specs.declared.Refusal.the-variants.{NotInGrammar, CallOrder, BadOpening, BadId, IdWaiting, IdNotWaiting, KindNotOnDevice, NotListed, Incomplete, OutOfRange, Conflicting, NoPlanAlone, QueueFull, SliceTooShort, NotLeftByPlan}
 use Rattle.requests.specs.declared.Answer.the-variants.{Accepted, Refused}
-use Rattle.requests.specs.Choice.{pick}
 use Rattle.plans.specs.declared.Place.the-variants.{Counter, WithRsp, Pair}
 use Rattle.sessions.specs.declared.Assigned.{Assigned}
 use Rattle.sessions.specs.Sessions.{newSession, turnAnswer}
-use Rattle.records.specs.Text.{bytes, tab, newline}
+use Rattle.records.specs.Text.{newline}
+use Rattle.records.specs.Examples.{tabbed}
 use Rattle.answers.specs.Replies.{answerText, takeLines, turnReply}
 
--- lines as they are typed: a blank stands for a tab, and a newline closes each
+-- lines as they are typed, each closed by a newline
 unfoldable pub typed : List String → List ℕ
-typed lines = flatMap (λ (line : String). map (λ (b : ℕ). pick (eqb b 32) tab b) (bytes line) ++ newline ∷ []) lines
+typed lines = flatMap (λ (line : String). tabbed line ++ newline ∷ []) lines
 
 -- a text, and how it is typed
 pub record Example : Type 0 where

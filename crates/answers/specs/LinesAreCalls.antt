@@ -6,12 +6,11 @@ use Rattle.requests.specs.Devices.{letterOf}
 use Rattle.sessions.specs.declared.Session.{Session}
 use Rattle.sessions.specs.Calls.{Call}
 use Rattle.sessions.specs.Sessions.{answerTo, nextSession}
-use Rattle.records.specs.Parse.{parseLine}
 use Rattle.records.specs.declared.Record.{Record}
 use Rattle.records.specs.declared.Record.the-variants.{Open, Add, Drop, Turn}
 use Rattle.records.specs.declared.Parsed.{Parsed}
 use Rattle.records.specs.declared.Parsed.the-variants.{Line, Fault}
-use Rattle.answers.specs.Replies.{answerText, turnRoom, recordReply, answerLine}
+use Rattle.answers.specs.Replies.{answerText, turnRoom, recordReply}
 
 -- the call that a record makes
 unfoldable pub callOf : Record → Call

@@ -1,5 +1,4 @@
 -- No reply is longer than the room for one, whatever the session holds.
-use mathlib.Core.List.{List}
 use Prim.Native.Nat.{_≤_}
 use lib.ListN.{length}
 use Rattle.sessions.specs.declared.Session.{Session}

@@ -34,11 +34,8 @@ pub fn put_bytes(out: &mut [u8], at: usize, bytes: &[u8]) -> usize
 fn hex_digit(n: u64) -> u8
     ensures { λ r. ⌜ r ≡ hexDigit (n % 16) ⌝ }
 {
-    let digit = (n % 16) as u8;
-    if digit < 10 {
-        return digit + 48;
-    }
-    digit + 55
+    let digits = b"0123456789ABCDEF";
+    digits[(n % 16) as usize]
 }
 
 // Puts the last `width` hex digits of n, from the last to the first.

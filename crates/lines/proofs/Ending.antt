@@ -2,9 +2,7 @@
 use mathlib.Core.Bool.{true, false}
 use mathlib.Core.List.{_∷_}
 use mathlib.Core.Path.{_≡_}
-use lib.Dec.{ltb}
 use lib.ListN.{replicate}
-use Rattle.requests.specs.Choice.{either}
 use Rattle.requests.specs.Refusals.{numberOf}
 use Rattle.records.specs.Text.{bytes, tab, newline, decimalDigits, decimalText, lineOf}
 use Rattle.answers.specs.Replies.{answerText}
@@ -13,11 +11,11 @@ use Rattle.lines.specs.Stream.{unfinished, endText, endReply}
 use Rattle.lines.specs.declared.Feed.{Feed}
 
 module _ (f : Feed) where
-  pub ended-begun : either (f .long) (ltb 0 (f .used)) ≡ true
+  pub ended-begun : unfinished f ≡ true
       → inArray (endReply f) ≡ record { text = 110 ∷ 111 ∷ tab ∷ 49 ∷ newline ∷ replicate 2043 0; length = 5; session = f .session }
-  unfolding inArray endReply endText unfinished answerText lineOf bytes decimalText decimalDigits numberOf tab newline replyRoom
-  ended-begun e = rw (e, endText, unfinished)
+  unfolding inArray endReply endText answerText lineOf bytes decimalText decimalDigits numberOf tab newline replyRoom
+  ended-begun e = rw (e, endText)
 
-  pub ended-none : either (f .long) (ltb 0 (f .used)) ≡ false → inArray (endReply f) ≡ record { text = replicate 2048 0; length = 0; session = f .session }
-  unfolding inArray endReply endText unfinished replyRoom
-  ended-none e = rw (e, endText, unfinished)
+  pub ended-none : unfinished f ≡ false → inArray (endReply f) ≡ record { text = replicate 2048 0; length = 0; session = f .session }
+  unfolding inArray endReply endText replyRoom
+  ended-none e = rw (e, endText)

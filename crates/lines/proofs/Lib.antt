@@ -7,4 +7,4 @@ pub mod Runs
 pub mod Taking
 pub mod Feeding
 pub mod Ending
-pub mod TriesHold
+pub mod AcceptanceTests

@@ -85,8 +85,12 @@ whole-line f bs full none free =
     )
 
 -- the part of a block up to the next newline has none
-pub part-free : {block : List ℕ} {from at : ℕ} → NextNewline block from at → NewlineFree (take (at - from) (drop from block))
-part-free {block} {from} {at} next =
-    free-places (take (at - from) (drop from block)) (λ k h e.
-    let fits : k < at - from = omega (arith, length-take (at - from) (drop from block)) in
-    next .none-before (from + k) (omega arith) (omega (arith, next .after)) (sym (getD-drop from block k 0) ∙ sym (getD-take (at - from) (drop from block) k 0 fits) ∙ e))
+module _ {block : List ℕ} {from at : ℕ} (next : NextNewline block from at) where
+  place : (k : ℕ) → k < at - from → getD (take (at - from) (drop from block)) k 0 ≡ getD block (from + k) 0
+  place k h = getD-take (at - from) (drop from block) k 0 h ∙ getD-drop from block k 0
+
+  pub part-free : NewlineFree (take (at - from) (drop from block))
+  part-free =
+      free-places (take (at - from) (drop from block)) (λ k inside e.
+      let h : k < at - from = omega (arith, length-take (at - from) (drop from block)) in
+      next .none-before (from + k) (omega (arith, next .after)) (omega arith) (sym (place k h) ∙ e))

@@ -10,13 +10,13 @@ use borrow.Author.Tests.{eqb-true, eqb-false}
 use Rattle.plans.specs.Lists.{All, nil, cons}
 use Rattle.sessions.specs.declared.Session.{Session}
 use Rattle.sessions.specs.Calls.{Call}
-use Rattle.sessions.specs.Sessions.{newSession, nextSession, sessionAfter}
+use Rattle.sessions.specs.Sessions.{newSession, sessionAfter}
 use Rattle.records.specs.Text.{newline}
 use Rattle.records.specs.Parse.{parseLine}
 use Rattle.records.specs.declared.Parsed.{Parsed}
 use Rattle.records.specs.declared.Parsed.the-variants.{Line, Fault}
 use Rattle.answers.specs.Replies.{Reply, parsedReply, answerLine}
-use Rattle.answers.specs.LinesAreCalls.{callOf, callsIn}
+use Rattle.answers.specs.LinesAreCalls.{callsIn}
 use Rattle.answers.proofs.LinesAreCalls.{lines-are-calls}
 use Rattle.lines.specs.Stream.{lineStart, feedStart, feedState, feedText, endText, transcript}
 use Rattle.lines.specs.Pieces.{NewlineFree}

@@ -1,7 +1,7 @@
 -- A block of input and a lent output: bytes are taken while there is room for any reply.
 use mathlib.Core.Bool.{true, false}
-use mathlib.Core.List.{List, [], _∷_, _++_}
-use Prim.Native.Nat.{ℕ, zero, suc, _-_}
+use mathlib.Core.List.{List, [], _∷_}
+use Prim.Native.Nat.{ℕ, suc, _-_}
 use lib.Dec.{ltb}
 use lib.ListN.{length, take}
 use Rattle.answers.specs.Written.{replyRoom, atStart}

@@ -17,7 +17,7 @@ NewlineFree bytes = ¬ List·Memᴰ newline bytes
 pub record NextNewline (block : List ℕ) (from at : ℕ) : Type 0 where
   pub after : from ≤ at
   pub within : at ≤ length block
-  pub none-before : (k : ℕ) → from ≤ k → k < at → getD block k 0 ≡ newline → ⊥
+  pub none-before : (k : ℕ) → k < at → from ≤ k → getD block k 0 ≡ newline → ⊥
   pub found : at < length block → getD block at 0 ≡ newline
 
 -- what the kept bytes are as a line that has just ended

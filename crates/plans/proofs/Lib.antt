@@ -17,4 +17,4 @@ pub mod Members
 pub mod FreeEvents
 pub mod PlanLengthHolds
 pub mod PartsHold
-pub mod PlanTriesHold
+pub mod AcceptanceTests

@@ -1,3 +1,4 @@
+pub mod AcceptanceTests
 pub mod Outcomes
 pub mod Digits
 pub mod Numerals

@@ -6,3 +6,4 @@ pub mod Numbers
 pub mod Verbs
 pub mod Parse
 pub mod Grammar
+pub mod Examples

@@ -7,7 +7,7 @@ pub mod OpeningsTaken
 pub mod Lookups
 pub mod Roles
 pub mod FirstHolding
-pub mod ExamplesHold
+pub mod AcceptanceTests
 pub mod Passes
 pub mod WellFormed
 pub mod Sizes

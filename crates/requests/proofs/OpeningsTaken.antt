@@ -1,10 +1,10 @@
 -- Which openings are taken: those of a device's letter with a set of its counters, by the cases of the letter and of the test of the set.
-use mathlib.Core.Path.{_≡_, refl, ap, sym, _∙_}
+use mathlib.Core.Path.{_≡_, refl, ap, _∙_}
 use mathlib.Core.Bool.{Bool, true, false}
 use mathlib.Core.Option.{Option, none, some, Option·none-ne-some, Option·some-injective}
-use Prim.Native.Nat.{ℕ, _≤_}
+use Prim.Native.Nat.{_≤_}
 use lib.Dec.{ltb, leb}
-use borrow.Author.Tests.{lt-ltb, le-leb, ltb-true, leb-true, eq-eqb, ne-eqb}
+use borrow.Author.Tests.{lt-ltb, le-leb, ltb-true, leb-true}
 use Rattle.requests.specs.Choice.{both}
 use Rattle.requests.specs.Devices.{counterCount, allCounters, letterOf, deviceOf, usableSet, setupOf, openingOf}
 use Rattle.requests.specs.Openings.{Opens, Openings}

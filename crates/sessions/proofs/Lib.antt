@@ -25,4 +25,4 @@ pub mod Plans
 pub mod Given
 pub mod Demand3
 pub mod TurnPlan
-pub mod RunsHold
+pub mod AcceptanceTests

@@ -3,8 +3,8 @@ use borrow.Author.Needs.{needs}
 use native.Mathlib.Omega.{arith}
 use Rattle.records.specs.Text.{bytes, tab, newline, lineOf}
 use Rattle.answers.specs.Replies.{answerText}
-use Rattle.answers.proofs.Lengths.{decimal-length}
 use Rattle.answers.proofs.Putting.{then}
+use Rattle.answers.proofs.LineTexts.{number-end}
 use Rattle.answers.proofs.answer_lines.put_answer.Statement.{statement}
 use Rattle.answers.proofs.answer_lines.put_answer.Tie as tie
 
@@ -33,7 +33,7 @@ put-decimal-requires : tie.Need-put-decimal-requires
 put-decimal-requires c κs = search needs
 
 put-byte-requires : tie.Need-put-byte-requires
-put-byte-requires c κs = omega (arith, decimal-length (c .before .before .before .before .before .before .before .before .before .before .number-of .result))
+put-byte-requires c κs = omega (arith, number-end _ (c .before .before .before .put-decimal .ensures))
 
 same-length : tie.Need-same-length
 same-length c = search needs

@@ -1,10 +1,7 @@
 -- `answers::replies::turn_reply` delivers `turnReply`: the texts one after another (`turn-delivered`), which have room by what a turn answers at most.
 use borrow.Author.Needs.{needs}
-use mathlib.Core.Path.{_≡_}
 use Prim.Native.Nat.{_*_, _≤_}
 use native.Mathlib.Omega.{arith}
-use lib.ListN.{length}
-use Rattle.sessions.specs.Sessions.{turnOf}
 use Rattle.answers.specs.Replies.{turnRoom}
 use Rattle.answers.specs.Written.{replyRoom}
 use Rattle.answers.proofs.TurnLimits.{turn-at-most}

@@ -1,26 +1,26 @@
 -- `answers::set_lines::put_sets` puts the `set` lines. The loop's invariant: those of the first i writes stand in the slice (`sets-next`).
 use mathlib.Core.Path.{_≡_}
-use Prim.Native.Nat.{_+_, _*_, _-_, _≤_}
+use Prim.Native.Nat.{_*_, _-_, _≤_}
 use native.Mathlib.Omega.{arith}
 use denote.Ref.{now}
-use lib.ListN.{length, take, getD}
+use lib.ListN.{take}
 use Rattle.answers.specs.Replies.{setLines}
 use Rattle.answers.specs.Texts.{Put}
 use Rattle.answers.proofs.Putting.{put-nothing, put-length, then}
-use Rattle.answers.proofs.LineTexts.{sets-next, set-length}
+use Rattle.answers.proofs.LineTexts.{sets-next, sets-length}
 use Rattle.answers.proofs.set_lines.put_sets.Statement.{statement}
 use Rattle.answers.proofs.set_lines.put_sets.Tie as tie
 
 abbrev Inv-loop : tie.InvT-loop
 Inv-loop out₀ at list writes next₀ i₀ out next i =
-    (i ≤ writes) × (next ≡ at + 26 * i) × Put out₀ at (setLines (take (2 * i) list)) out next
+    (i ≤ writes) × Put out₀ at (setLines (take (2 * i) list)) out next
 
 abbrev μ-loop : tie.MeasureT-loop
 μ-loop out₀ at list writes next₀ i₀ out next i = writes - i
 
 loop-holds : tie.Need-loop-holds Inv-loop μ-loop
 unfolding setLines
-loop-holds c = (omega arith, omega arith, put-nothing _ _)
+loop-holds c = (omega arith, put-nothing _ _)
 
 mul-address : tie.Need-mul-address Inv-loop μ-loop
 mul-address c = omega arith
@@ -44,7 +44,9 @@ shared-slice-read-value : tie.Need-shared-slice-read-value Inv-loop μ-loop
 shared-slice-read-value c = omega arith
 
 put-set-requires : tie.Need-put-set-requires Inv-loop μ-loop
-put-set-requires c κs = omega (arith, put-length (c .before .before .before .before .loop .inv .2))
+put-set-requires c κs =
+    let l = c .before .before .before .before in
+    omega (arith, put-length (l .loop .inv .1), sets-length (now (l .before .before .before .args .list)) (l .loop .i))
 
 add-i : tie.Need-add-i Inv-loop μ-loop
 add-i c = omega arith
@@ -56,17 +58,16 @@ loop-again : tie.Need-loop-again Inv-loop μ-loop
 loop-again c =
     let l = c .before .before .before .before .before .before .before .loop in
     let w = now (c .before .before .before .before .before .before .before .before .before .before .args .list) in
-    let e = c .before .before .put-set .ensures in
-    (omega arith, omega (arith, e .place, set-length (getD w (2 * l .i) 0) (getD w (2 * l .i + 1) 0)), rw (sets-next (l .i) w (omega arith)) (then (l .inv .2) e))
+    (omega arith, rw (sets-next (l .i) w (omega arith)) (then (l .inv .1) (c .before .before .put-set .ensures)))
 
 same-length : tie.Need-same-length Inv-loop μ-loop
-same-length c = put-length (c .before .loop .inv .2)
+same-length c = put-length (c .before .loop .inv .1)
 
 returns : tie.Need-returns Inv-loop μ-loop
 returns c =
     let l = c .before .loop in
     let e : l .i ≡ c .before .before .before .before .args .writes = omega arith in
-    rw e at (l .inv .2)
+    rw e at (l .inv .1)
 
 pub put-sets-spec : {M : Type 1} → statement M
 put-sets-spec =

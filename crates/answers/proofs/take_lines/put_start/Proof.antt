@@ -3,8 +3,8 @@ use borrow.Author.Needs.{needs}
 use native.Mathlib.Omega.{arith}
 use Rattle.records.specs.Text.{bytes, tab}
 use Rattle.answers.specs.Texts.{takeStart}
-use Rattle.answers.proofs.Lengths.{decimal-length}
 use Rattle.answers.proofs.Putting.{then}
+use Rattle.answers.proofs.LineTexts.{number-end}
 use Rattle.answers.proofs.take_lines.put_start.Statement.{statement}
 use Rattle.answers.proofs.take_lines.put_start.Tie as tie
 
@@ -18,13 +18,16 @@ put-decimal-requires : tie.Need-put-decimal-requires
 put-decimal-requires c κs = search needs
 
 put-byte-requires : tie.Need-put-byte-requires
-put-byte-requires c κs = omega (arith, decimal-length (c .before .before .before .before .before .before .before .before .before .before .before .args .id))
+put-byte-requires c κs = omega (arith, number-end _ (c .before .before .before .put-decimal .ensures))
 
 put-decimal-requires-2 : tie.Need-put-decimal-requires-2
-put-decimal-requires-2 c κs = omega (arith, decimal-length (c .before .before .before .before .before .before .before .before .before .before .before .before .before .before .before .args .id))
+put-decimal-requires-2 c κs = omega (arith, number-end _ (c .before .before .before .before .before .before .before .put-decimal .ensures))
 
 put-byte-requires-2 : tie.Need-put-byte-requires-2
-put-byte-requires-2 c κs = let a = c .before .before .before .before .before .before .before .before .before .before .before .before .before .before .before .before .before .before .before .args in omega (arith, decimal-length (a .id), decimal-length (a .counter))
+put-byte-requires-2 c κs =
+    let counter = c .before .before .before in
+    let id = counter .before .before .before .before .before .before .before .before in
+    omega (arith, number-end _ (id .put-decimal .ensures), number-end _ (counter .put-decimal2 .ensures))
 
 same-length : tie.Need-same-length
 same-length c = search needs

@@ -2,11 +2,10 @@
 -- (`joined-next`).
 use mathlib.Core.Path.{_≡_}
 use mathlib.Core.List.{flatMap}
-use Prim.Native.Nat.{_+_, _*_, _-_, _≤_}
+use Prim.Native.Nat.{_-_, _≤_}
 use borrow.Author.Needs.{needs}
 use native.Mathlib.Omega.{arith}
-use denote.Ref.{now}
-use lib.ListN.{length, take, getD}
+use lib.ListN.{length, take}
 use Rattle.sessions.specs.Sessions.{unassigned}
 use Rattle.requests.proofs.Windows.{length-mapped}
 use Rattle.answers.specs.Replies.{takeLines}

@@ -1,12 +1,12 @@
 -- `answers::texts::decimal_width` is the length of `decimalText`. The loop's invariant: with the digits of what is left the width is one
 -- more than that length (`decimal-more`).
 use mathlib.Core.Path.{_≡_, ap}
-use Prim.Native.Nat.{_+_, _/_, _≤_}
+use Prim.Native.Nat.{_+_, _≤_}
 use native.Mathlib.Omega.{arith}
 use lib.ListN.{length, length-append}
 use Rattle.records.specs.Text.{decimalText}
 use Rattle.answers.proofs.Lengths.{decimal-length}
-use Rattle.answers.proofs.Numerals.{decimal-few, decimal-more, decimal-some}
+use Rattle.answers.proofs.Numerals.{decimal-few, decimal-more}
 use Rattle.answers.proofs.texts.decimal_width.Statement.{statement}
 use Rattle.answers.proofs.texts.decimal_width.Tie as tie
 

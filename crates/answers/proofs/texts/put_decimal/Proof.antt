@@ -1,7 +1,7 @@
 -- `answers::texts::put_decimal` puts `decimalText`. The loop's invariant: the text stands in the slice from its byte i on, and what is left
 -- gives its first i bytes (`decimal-more`, `digit-before`).
 use mathlib.Core.Path.{_≡_, refl, ap, sym, _∙_}
-use mathlib.Core.List.{[], _∷_, _++_}
+use mathlib.Core.List.{[]}
 use Prim.Native.Nat.{ℕ, _+_, _-_, _/_, _%_, _≤_}
 use borrow.Author.Needs.{needs}
 use native.Mathlib.Nat.{add-zero}

@@ -3,14 +3,13 @@ use mathlib.Core.Path.{_≡_}
 use Prim.Native.Nat.{ℕ, _-_, _≤_, _<_}
 use native.Mathlib.Omega.{arith}
 use borrow.Author.Count.{below-more}
-use denote.Ref.{now}
 use lib.ListN.{length, getD}
 use Rattle.records.specs.Text.{newline}
 use Rattle.lines.proofs.newlines.newline_from.Statement.{statement}
 use Rattle.lines.proofs.newlines.newline_from.Tie as tie
 
 abbrev Inv-loop : tie.InvT-loop
-Inv-loop block from at₀ at = (from ≤ at) × (at ≤ length block) × ((k : ℕ) → from ≤ k → k < at → getD block k 0 ≡ newline → ⊥)
+Inv-loop block from at₀ at = (from ≤ at) × (at ≤ length block) × ((k : ℕ) → k < at → from ≤ k → getD block k 0 ≡ newline → ⊥)
 
 abbrev μ-loop : tie.MeasureT-loop
 μ-loop block from at₀ at = length block - at
@@ -24,7 +23,8 @@ shared-slice-read-if1 c = omega arith
 returns : tie.Need-returns Inv-loop μ-loop
 unfolding newline
 returns c =
-    let l = c .before .before .before .loop in record { after = omega arith; within = omega arith; none-before = l .inv .2; found = λ h. c .if1 .taken }
+    let l = c .before .before .before .loop in
+    record { after = omega arith; within = omega arith; none-before = l .inv .2; found = λ h. c .if1 .taken }
 
 add-at : tie.Need-add-at Inv-loop μ-loop
 add-at c = omega arith
@@ -36,15 +36,12 @@ loop-again : tie.Need-loop-again Inv-loop μ-loop
 unfolding newline
 loop-again c =
     let l = c .before .before .before .loop in
-    let block = now (c .before .before .before .before .args .block) in (
-      omega arith,
-      omega arith,
-      λ k h below e. below-more (λ (k : ℕ). c .before .before .before .before .args .from ≤ k → getD block k 0 ≡ newline → ⊥) (l .at) (λ k low h. l .inv .2 k h low) (λ h. c .if1 .left) k below h e,
-    )
+    (omega arith, omega arith, below-more _ (l .at) (l .inv .2) (λ h. c .if1 .left))
 
 returns-2 : tie.Need-returns-2 Inv-loop μ-loop
 returns-2 c =
-    let l = c .before .loop in record { after = omega arith; within = omega arith; none-before = l .inv .2; found = λ h. absurd (let z : ⊥ = omega arith in z) }
+    let l = c .before .loop in
+    record { after = omega arith; within = omega arith; none-before = l .inv .2; found = λ h. absurd (let z : ⊥ = omega arith in z) }
 
 pub newline-from-spec : {M : Type 1} → statement M
 newline-from-spec =

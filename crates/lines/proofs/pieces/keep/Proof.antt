@@ -24,13 +24,15 @@ loop-holds c = (omega arith, c .pre, refl)
 returns : tie.Need-returns Inv-loop μ-loop
 unfolding longest
 returns c =
-    let l = c .before .before .loop in let a = c .before .before .before .args in keep-no-more (now (a .piece)) (l .i) (omega arith) (l .inv .1) (l .next) (c .if1 .taken) ∙ l .inv .2
+    let l = c .before .before .loop in
+    let a = c .before .before .before .args in
+    keep-no-more (now (a .piece)) (l .i) (omega arith) (l .inv .1) (l .next) (omega arith) ∙ l .inv .2
 
 shared-slice-read-next : tie.Need-shared-slice-read-next Inv-loop μ-loop
 shared-slice-read-next c = omega arith
 
 element-write-next : tie.Need-element-write-next Inv-loop μ-loop
-element-write-next c = c .before .if1 .left
+element-write-next c = omega arith
 
 add-next : tie.Need-add-next Inv-loop μ-loop
 add-next c = omega arith
@@ -44,8 +46,12 @@ loop-less c = omega arith
 loop-again : tie.Need-loop-again Inv-loop μ-loop
 unfolding longest
 loop-again c =
-    let l = c .before .before .before .loop in let a = c .before .before .before .before .args in
-    (omega arith, free-more (now (a .piece)) (l .i) (omega arith) (l .inv .1), keep-more (now (a .piece)) (l .i) (omega arith) (l .inv .1) (l .next) (c .before .if1 .left) ∙ l .inv .2)
+    let l = c .before .before .before .loop in
+    let a = c .before .before .before .before .args in (
+      omega arith,
+      free-more (now (a .piece)) (l .i) (omega arith) (l .inv .1),
+      keep-more (now (a .piece)) (l .i) (omega arith) (l .inv .1) (l .next) (omega arith) ∙ l .inv .2,
+    )
 
 returns-2 : tie.Need-returns-2 Inv-loop μ-loop
 unfolding feedState

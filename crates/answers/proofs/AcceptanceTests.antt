@@ -7,8 +7,9 @@ use Rattle.plans.specs.Places.{countedOf}
 use Rattle.sessions.specs.Sessions.{turnAnswer, planOf}
 use Rattle.records.specs.Text.{bytes, tab, newline, hexDigit, hexText, decimalDigits, decimalText, lineOf}
 use Rattle.answers.specs.Replies.{answerText, registerText, takeLines, setLines, turnReply}
+use Rattle.records.specs.Examples.{tabbed}
 use Rattle.answers.specs.Examples.{typed, taken, Examples}
 
 pub examples-hold : Examples
-unfolding flatMap capacity numberOf countedOf turnAnswer planOf bytes tab newline hexDigit hexText decimalDigits decimalText lineOf answerText registerText takeLines setLines turnReply typed taken
+unfolding flatMap tabbed capacity numberOf countedOf turnAnswer planOf bytes tab newline hexDigit hexText decimalDigits decimalText lineOf answerText registerText takeLines setLines turnReply typed taken
 examples-hold = refl

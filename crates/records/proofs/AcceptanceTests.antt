@@ -1,0 +1,14 @@
+-- The examples, by computation: every definition that they reach is unfolded.
+use mathlib.Core.Path.{refl}
+use Rattle.requests.specs.Choice.{both, firstHolding}
+use Rattle.requests.specs.Devices.{letterOf}
+use Rattle.records.specs.Text.{bytes, tab, newline}
+use Rattle.records.specs.Fields.{fields, sameBytes}
+use Rattle.records.specs.Numbers.{digitOf, numberFrom, decimalOf, hexOf}
+use Rattle.records.specs.Verbs.{openLine, eventLine, packetLine, offcoreLine, latencyLine, dropLine, turnLine, hasVerb, verbs, recordOf}
+use Rattle.records.specs.Parse.{longest, tooLong, parseText, isClosed, textLength, parseLine}
+use Rattle.records.specs.Examples.{tabbed, Examples}
+
+pub examples-hold : Examples
+unfolding both firstHolding letterOf bytes tab newline fields sameBytes digitOf numberFrom decimalOf hexOf openLine eventLine packetLine offcoreLine latencyLine dropLine turnLine hasVerb verbs recordOf longest tooLong parseText isClosed textLength parseLine tabbed
+examples-hold = refl
