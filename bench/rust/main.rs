@@ -115,6 +115,39 @@ pub fn compare(rounds: usize, calls: usize, ours: impl Fn() -> u64, theirs: impl
     (0..rounds).fold((f64::MAX, f64::MAX), |best, _| (best.0.min(round(&ours)), best.1.min(round(&theirs))))
 }
 
+/// Both planners answer the same on random lists of requests.
+fn compare_answers(numbers: &mut Numbers) {
+    for n in 0..RANDOM_LISTS {
+        let requests: Vec<Request> = (0..numbers.below(CAPACITY as u64 + 1)).map(|_| numbers.request()).collect();
+        let usable = numbers.below(32);
+        assert!(same_answers(usable, &requests), "random list {n}: the answers differ");
+    }
+    println!("{RANDOM_LISTS} random lists: the same answers");
+}
+
+/// The times of both on one list.
+fn compare_times(name: &str, requests: &[Request]) {
+    assert!(same_answers(15, requests), "{name}: the answers differ");
+    let rows = to_rows(requests);
+    let count = requests.len();
+    let whole = compare(
+        ROUNDS,
+        CALLS,
+        || proved::first_plan(black_box(15), black_box(&rows), black_box(count), count - 1),
+        || place_number(black_box(15), black_box(&rows), black_box(count), count - 1),
+    );
+    let search = compare(
+        ROUNDS,
+        CALLS,
+        || proved::plan_rows(black_box(15), black_box(&rows), black_box(count)),
+        || black_box(first_plan(black_box(15), black_box(requests))).is_some() as u64,
+    );
+    println!(
+        "{name:22}{:10.1}{:10.1}{:10.2}{:10.1}{:10.1}{:10.2}",
+        whole.0, whole.1, whole.0 / whole.1, search.0, search.1, search.0 / search.1
+    );
+}
+
 fn main() {
     let event = |allowed| Request::Event { code: 0xC0, mask: 0, allowed };
     let offcore = |word| Request::Offcore { word, allowed: 15 };
@@ -125,38 +158,12 @@ fn main() {
         ("offcore and latency", &[offcore(0x10001), latency, event(15)]),
         ("no plan", &[offcore(0x10001), offcore(0x10002), offcore(0x10004), event(15)]),
     ];
-
     let mut numbers = Numbers(0x9E37_79B9_7F4A_7C15);
-    for n in 0..RANDOM_LISTS {
-        let requests: Vec<Request> = (0..numbers.below(CAPACITY as u64 + 1)).map(|_| numbers.request()).collect();
-        let usable = numbers.below(32);
-        assert!(same_answers(usable, &requests), "random list {n}: the answers differ");
-    }
-    println!("{RANDOM_LISTS} random lists: the same answers");
-
+    compare_answers(&mut numbers);
     println!("{:22}{:>30}{:>30}", "", "first_plan", "search on lent requests");
     println!("{:22}{:>10}{:>10}{:>10}{:>10}{:>10}{:>10}", "ns", "proved", "Rust", "ratio", "proved", "Rust", "ratio");
     for (name, requests) in lists {
-        assert!(same_answers(15, requests), "{name}: the answers differ");
-        let rows = to_rows(requests);
-        let count = requests.len();
-        let whole = compare(
-            ROUNDS,
-            CALLS,
-            || proved::first_plan(black_box(15), black_box(&rows), black_box(count), count - 1),
-            || place_number(black_box(15), black_box(&rows), black_box(count), count - 1),
-        );
-        let search = compare(
-            ROUNDS,
-            CALLS,
-            || proved::plan_rows(black_box(15), black_box(&rows), black_box(count)),
-            || black_box(first_plan(black_box(15), black_box(requests))).is_some() as u64,
-        );
-        println!(
-            "{name:22}{:10.1}{:10.1}{:10.2}{:10.1}{:10.1}{:10.2}",
-            whole.0, whole.1, whole.0 / whole.1, search.0, search.1, search.0 / search.1
-        );
+        compare_times(name, requests);
     }
-
     turns::run(&mut numbers);
 }

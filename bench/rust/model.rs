@@ -130,6 +130,23 @@ fn write_count(setup: Setup, v: &Values) -> usize {
     2 + filters + (setup.usable & 15).count_ones() as usize + 2 * v.used.count_ones() as usize
 }
 
+/// The filter registers.
+fn put_filters(device: Device, v: &Values, put: &mut impl FnMut(u64, u64)) {
+    match (device, v.packet) {
+        (Device::G, _) => {
+            put(0x1A6, v.rsp[0]);
+            put(0x1A7, v.rsp[1]);
+        }
+        (Device::S, None) => put(0xE48, 0),
+        (Device::S, Some((x, y))) => {
+            put(0xE48, 0);
+            put(0xE49, x);
+            put(0xE4A, y);
+            put(0xE48, 1 << 63);
+        }
+    }
+}
+
 /// The writes of a plan, as address, value pairs; none where the slice is too short.
 pub fn write_list(setup: Setup, requests: &[Request], places: &[Place], out: &mut [u64]) -> Option<usize> {
     let v = values_of(setup, requests, places);
@@ -152,19 +169,7 @@ pub fn write_list(setup: Setup, requests: &[Request], places: &[Place], out: &mu
     for k in (0..COUNTERS).filter(|k| setup.usable & 1 << k != 0) {
         put(control + step * k, 0);
     }
-    match (setup.device, v.packet) {
-        (Device::G, _) => {
-            put(0x1A6, v.rsp[0]);
-            put(0x1A7, v.rsp[1]);
-        }
-        (Device::S, None) => put(0xE48, 0),
-        (Device::S, Some((x, y))) => {
-            put(0xE48, 0);
-            put(0xE49, x);
-            put(0xE4A, y);
-            put(0xE48, 1 << 63);
-        }
-    }
+    put_filters(setup.device, &v, &mut put);
     for k in (0..COUNTERS).filter(|k| v.used & 1 << k != 0) {
         put(counter + step * k, 0);
     }

@@ -67,42 +67,46 @@ fn place_from(requests: &[Request], at: usize, room: Room, plan: &mut [Place; 8]
             }
             place_counter(requests, at, allowed, Room { packet: Some(words), ..room }, plan)
         }
-        Request::Offcore { word, allowed } => {
-            if !holds(room.rsp[0], word) && !holds(room.rsp[1], word) {
-                return false;
-            }
-            for counter in 0..COUNTERS {
-                if has(allowed, counter) && has(room.free, counter) {
-                    for rsp in 0..2 {
-                        if holds(room.rsp[rsp], word) && place_from(requests, at + 1, room.without(counter).with_word(rsp, word), plan) {
-                            plan[at] = Place::WithRsp(counter, rsp as u64);
-                            return true;
-                        }
-                    }
+        Request::Offcore { word, allowed } => place_offcore(requests, at, word, allowed, room, plan),
+        Request::Latency { types, first, second } => place_latency(requests, at, types, first, second, room, plan),
+    }
+}
+
+fn place_offcore(requests: &[Request], at: usize, word: u64, allowed: u64, room: Room, plan: &mut [Place; 8]) -> bool {
+    if !holds(room.rsp[0], word) && !holds(room.rsp[1], word) {
+        return false;
+    }
+    for counter in 0..COUNTERS {
+        if has(allowed, counter) && has(room.free, counter) {
+            for rsp in 0..2 {
+                if holds(room.rsp[rsp], word) && place_from(requests, at + 1, room.without(counter).with_word(rsp, word), plan) {
+                    plan[at] = Place::WithRsp(counter, rsp as u64);
+                    return true;
                 }
             }
-            false
-        }
-        Request::Latency { types, first, second } => {
-            let words = [types as u64 + OUTSTANDING, types as u64 + ANY_RESPONSE];
-            if !holds(room.rsp[0], words[0]) || !holds(room.rsp[1], words[1]) {
-                return false;
-            }
-            let room = room.with_word(0, words[0]).with_word(1, words[1]);
-            for j in 0..COUNTERS {
-                if has(first, j) && has(room.free, j) {
-                    let left = room.without(j);
-                    for k in 0..COUNTERS {
-                        if has(second, k) && has(left.free, k) && place_from(requests, at + 1, left.without(k), plan) {
-                            plan[at] = Place::Pair(j, k);
-                            return true;
-                        }
-                    }
-                }
-            }
-            false
         }
     }
+    false
+}
+
+fn place_latency(requests: &[Request], at: usize, types: u16, first: u64, second: u64, room: Room, plan: &mut [Place; 8]) -> bool {
+    let words = [types as u64 + OUTSTANDING, types as u64 + ANY_RESPONSE];
+    if !holds(room.rsp[0], words[0]) || !holds(room.rsp[1], words[1]) {
+        return false;
+    }
+    let room = room.with_word(0, words[0]).with_word(1, words[1]);
+    for j in 0..COUNTERS {
+        if has(first, j) && has(room.free, j) {
+            let left = room.without(j);
+            for k in 0..COUNTERS {
+                if has(second, k) && has(left.free, k) && place_from(requests, at + 1, left.without(k), plan) {
+                    plan[at] = Place::Pair(j, k);
+                    return true;
+                }
+            }
+        }
+    }
+    false
 }
 
 /// A request that asks for one counter and no RSP register.
