@@ -16,11 +16,13 @@ use Rattle.requests.specs.Bits.{latencyWord}
 use Rattle.plans.specs.declared.Register.{Register}
 use Rattle.plans.specs.declared.Register.the-variants.{Word}
 use Rattle.plans.specs.declared.Room.{Room}
+use Rattle.plans.specs.declared.left.Left.{Left}
 use Rattle.plans.specs.declared.Admission.{Admission}
 use Rattle.plans.specs.declared.Admission.the-variants.{Admitted, NoRoom}
 use Rattle.plans.specs.Search.{holds, holdsPacket, takeCounter, takeWord, takePacket, andThen, admit}
 use Rattle.plans.specs.Rows.{setOf, requestOf, requestAt}
-use Rattle.plans.specs.Counters.{available, without}
+use Rattle.plans.specs.Counters.{available}
+use Rattle.plans.specs.Left.{withoutCounter, withRsp0, withRsp1, withPacket}
 use Rattle.plans.specs.Filters.{wordAt, askedPacket, rspOf, filterOf, roomOf}
 
 -- ---- the user of a register
@@ -90,10 +92,10 @@ module _ (rows : List ℕ) (at : ℕ) where
 
 -- ---- a counter
 
-pub counter-taken : (a : CounterSet) (k : ℕ) (m : Room) (left : CounterSet) → available a (m .free) k ≡ true → left ≡ without (m .free) k
-    → takeCounter a k m ≡ Admitted (record { free = left; rsp0 = m .rsp0; rsp1 = m .rsp1; packet = m .packet })
+pub counter-taken : (rows : List ℕ) (a : CounterSet) (k : ℕ) (left after : Left) → available a (left .free) k ≡ true → after ≡ withoutCounter left k
+    → takeCounter a k (roomOf rows left) ≡ Admitted (roomOf rows after)
 unfolding available takeCounter
-counter-taken a k m left h e = rw (h, e)
+counter-taken rows a k left after h e = rw (h, e)
 
 pub counter-missing : (a : CounterSet) (k : ℕ) (m : Room) → available a (m .free) k ≡ false → takeCounter a k m ≡ NoRoom
 unfolding available takeCounter
@@ -103,32 +105,43 @@ pick-then : (b : Bool) (m : Room) (f : Room → Admission) → andThen (pick b (
 pick-then true m f = refl
 pick-then false m f = refl
 
+either-then : (b p q : Bool) (m l : Room) (f : Room → Admission)
+    → andThen (pick b (pick p (Admitted m) NoRoom) (pick q (Admitted l) NoRoom)) f ≡ pick b (pick p (f m) NoRoom) (pick q (f l) NoRoom)
+either-then true p q m l f = pick-then p m f
+either-then false p q m l f = pick-then q l f
+
 -- ---- the registers of a request in row `at`
 
-module _ (rows : List ℕ) (at : ℕ) (free : CounterSet) (rsp0 rsp1 packet : ℕ) where
+-- what an offcore request takes at counter k with RSP register j (0, or else 1), where that is held
+abbrev pub offcoreTaken : List ℕ → CounterSet → Bool → Bool → Left → Left → ℕ → ℕ → Admission
+offcoreTaken rows a held0 held1 left0 left1 k j =
+    pick (eqb j 0) (pick held0 (takeCounter a k (roomOf rows left0)) NoRoom) (pick held1 (takeCounter a k (roomOf rows left1)) NoRoom)
+
+-- what a latency request takes where its registers are held
+abbrev pub pairTaken : List ℕ → CounterSet → CounterSet → Left → ℕ → ℕ → Admission
+pairTaken rows a b used j k = andThen (takeCounter a j (roomOf rows used)) (takeCounter b k)
+
+module _ (rows : List ℕ) (at : ℕ) (left : Left) where
   abbrev room : Room
-  room = roomOf rows free rsp0 rsp1 packet
+  room = roomOf rows left
 
   module _ (x y : ℕ) (a : CounterSet) (k j : ℕ) where
-    pub packet-held : Packet x y a ≡ requestAt rows at → holdsPacket (room .packet) x y ≡ true
-        → admit (Packet x y a) k j room ≡ takeCounter a k (roomOf rows free rsp0 rsp1 (at + 1))
+    pub packet-held : (used : Left) → used ≡ withPacket left (at + 1) → Packet x y a ≡ requestAt rows at → holdsPacket (room .packet) x y ≡ true
+        → admit (Packet x y a) k j room ≡ takeCounter a k (roomOf rows used)
     unfolding admit takePacket
-    packet-held r h = rw (h, packet-used rows at (Packet x y a) r)
+    packet-held used u r h = rw (h, u, packet-used rows at (Packet x y a) r)
 
     pub packet-differs : holdsPacket (room .packet) x y ≡ false → admit (Packet x y a) k j room ≡ NoRoom
     unfolding admit takePacket
     packet-differs h = rw h
 
-  module _ (w : ℕ) (a : CounterSet) (k : ℕ) (held : Bool) where
-    pub rsp0-asked : Offcore w a ≡ requestAt rows at → held ≡ holds (room .rsp0) w
-        → admit (Offcore w a) k 0 room ≡ pick held (takeCounter a k (roomOf rows free (at + 1) rsp1 packet)) NoRoom
-    unfolding admit takeWord
-    rsp0-asked r h = rw (← h, offcore-used rows at 0 w a r) (pick-then held _ (takeCounter a k))
-
-    pub rsp1-asked : Offcore w a ≡ requestAt rows at → held ≡ holds (room .rsp1) w
-        → admit (Offcore w a) k 1 room ≡ pick held (takeCounter a k (roomOf rows free rsp0 (at + 1) packet)) NoRoom
-    unfolding admit takeWord
-    rsp1-asked r h = rw (← h, offcore-used rows at 1 w a r) (pick-then held _ (takeCounter a k))
+  pub offcore-asked : (w : ℕ) (a : CounterSet) (held0 held1 : Bool) (left0 left1 : Left) → left0 ≡ withRsp0 left (at + 1) → left1 ≡ withRsp1 left (at + 1)
+      → Offcore w a ≡ requestAt rows at → held0 ≡ holds (room .rsp0) w → held1 ≡ holds (room .rsp1) w
+      → (k j : ℕ) → admit (Offcore w a) k j room ≡ offcoreTaken rows a held0 held1 left0 left1 k j
+  unfolding admit takeWord
+  offcore-asked w a held0 held1 left0 left1 u v r f g k j =
+      rw (← f, ← g, u, v, offcore-used rows at 0 w a r, offcore-used rows at 1 w a r)
+      (either-then (eqb j 0) held0 held1 _ _ (takeCounter a k))
 
   pub words-differ : (w : ℕ) (a : CounterSet) → holds (room .rsp0) w ≡ false → holds (room .rsp1) w ≡ false → (k j : ℕ) → admit (Offcore w a) k j room ≡ NoRoom
   unfolding admit takeWord
@@ -139,10 +152,11 @@ module _ (rows : List ℕ) (at : ℕ) (free : CounterSet) (rsp0 rsp1 packet : �
       go false = refl
 
   module _ (t : ℕ) (a b : CounterSet) (j k : ℕ) where
-    pub latency-held : Latency t a b ≡ requestAt rows at → holds (room .rsp0) (latencyWord 0 t) ≡ true → holds (room .rsp1) (latencyWord 1 t) ≡ true
-        → admit (Latency t a b) j k room ≡ andThen (takeCounter a j (roomOf rows free (at + 1) (at + 1) packet)) (takeCounter b k)
+    pub latency-held : (half used : Left) → half ≡ withRsp0 left (at + 1) → used ≡ withRsp1 half (at + 1) → Latency t a b ≡ requestAt rows at
+        → holds (room .rsp0) (latencyWord 0 t) ≡ true → holds (room .rsp1) (latencyWord 1 t) ≡ true
+        → admit (Latency t a b) j k room ≡ pairTaken rows a b used j k
     unfolding admit takeWord
-    latency-held r f g = rw (f, g, latency-used rows at 0 t a b r, latency-used rows at 1 t a b r)
+    latency-held half used u v r f g = rw (f, g, v, u, latency-used rows at 0 t a b r, latency-used rows at 1 t a b r)
 
     pub rsp0-differs : holds (room .rsp0) (latencyWord 0 t) ≡ false → admit (Latency t a b) j k room ≡ NoRoom
     unfolding admit takeWord

@@ -17,11 +17,13 @@ use Rattle.requests.specs.Devices.{counterCount}
 use Rattle.plans.specs.declared.Place.{Place}
 use Rattle.plans.specs.declared.Place.the-variants.{Counter}
 use Rattle.plans.specs.declared.Room.{Room}
+use Rattle.plans.specs.declared.left.Left.{Left}
 use Rattle.plans.specs.declared.Admission.{Admission}
 use Rattle.plans.specs.declared.Admission.the-variants.{Admitted, NoRoom}
 use Rattle.plans.specs.Places.{first, second}
 use Rattle.plans.specs.Search.{emptyRoom, holdsPacket, takeCounter, placeOf, admit, width, firstFrom, putFirst, thenRest, tryNumber, planIn, firstPlan}
 use Rattle.plans.specs.Rows.{requestAt, rowsFrom}
+use Rattle.plans.specs.Left.{withPacket}
 use Rattle.plans.specs.Filters.{filterOf, roomOf}
 use Rattle.plans.specs.Remaining.{on, planFrom, planAfter, counterFirst, planCounter}
 use Rattle.plans.specs.Packed.{codeOf, packed}
@@ -61,10 +63,10 @@ none-tried try h p (suc left) = rw (h p, firstFrom) (none-tried try h (suc p) le
 
 -- ---- the request in row `at`
 
-module _ (d : Device) (rows : List ℕ) (at count : ℕ) (m : Room) where
-  pub none-remain : at ≡ count → 1 ≡ packed (planFrom d rows at count m)
+module _ (d : Device) (rows : List ℕ) (at count : ℕ) where
+  pub none-remain : (m : Room) → at ≡ count → 1 ≡ packed (planFrom d rows at count m)
   unfolding planIn rowsFrom packed codeOf
-  none-remain e = let z : count - at ≡ 0 = omega arith in rw z
+  none-remain m e = let z : count - at ≡ 0 = omega arith in rw z
 
   -- the rest is planned in the room that is left
   rest-planned : (p : Place) (a : Admission) → thenRest (planIn (on d) (rowsFrom rows at (count - at))) p a ≡ putFirst p (planAfter d rows at count a)
@@ -73,43 +75,54 @@ module _ (d : Device) (rows : List ℕ) (at count : ℕ) (m : Room) where
   rest-planned p NoRoom = refl
 
 -- the try of place number p
-abbrev pub tries : Device → List ℕ → ℕ → ℕ → Request → Room → ℕ → Option (List Place)
+abbrev tries : Device → List ℕ → ℕ → ℕ → Request → Room → ℕ → Option (List Place)
 tries d rows at count r m = tryNumber (planIn (on d) (rowsFrom rows (at + 1) (count - (at + 1)))) (on d) r m
+
+-- the same, where `taken` says what each place leaves
+unfoldable pub triesTaking : Device → List ℕ → ℕ → ℕ → Request → (ℕ → ℕ → Admission) → ℕ → Option (List Place)
+triesTaking d rows at count r taken p =
+    let w = width (on d) r in
+    thenRest (planIn (on d) (rowsFrom rows (at + 1) (count - (at + 1)))) (placeOf r (p / w) (p % w)) (taken (p / w) (p % w))
 
 -- the first result from the place (k, j) on
 abbrev pub triesFrom : ℕ → ℕ → (ℕ → Option (List Place)) → ℕ → ℕ → Option (List Place)
 triesFrom n w try k j = firstFrom try (k * w + j) (n * w - (k * w + j))
 
-module _ (d : Device) (rows : List ℕ) (at count : ℕ) (m : Room) (r : Request) where
-  pub tries-begin : (n w : ℕ) → at < count → r ≡ requestAt rows at → n ≡ counterCount d → w ≡ width (on d) r
-      → planFrom d rows at count m ≡ triesFrom n w (tries d rows at count r m) 0 0
-  unfolding planIn
-  tries-begin n w l e f g =
-      let z : 0 * w + 0 ≡ 0 = omega arith in
-      rw (rows-next rows at count l, ← e, ← g, ← f, z) (rw (sub-zero (n * w)))
+module _ (d : Device) (rows : List ℕ) (at count : ℕ) (r : Request) (taken : ℕ → ℕ → Admission) where
+  abbrev try : ℕ → Option (List Place)
+  try = triesTaking d rows at count r taken
 
-  module _ (n w k j : ℕ) (e : w ≡ width (on d) r) (l : j < w) (below : k < n) (x : ℕ) (g : x ≡ packed (planAfter d rows (at + 1) count (admit r k j m))) where
+  pub tries-begin : (m : Room) (n w : ℕ) → at < count → r ≡ requestAt rows at → n ≡ counterCount d → w ≡ width (on d) r
+      → ((k j : ℕ) → admit r k j m ≡ taken k j) → planFrom d rows at count m ≡ triesFrom n w try 0 0
+  unfolding planIn tryNumber triesTaking
+  tries-begin m n w l e f g same =
+      let z : 0 * w + 0 ≡ 0 = omega arith in
+      rw (rows-next rows at count l, ← e, ← g, ← f, z) (rw (sub-zero (n * w)) (λ i. firstFrom (λ p. number p i) 0 (n * w)))
+    where
+      number : (p : ℕ) → tries d rows at count r m p ≡ try p
+      number p = rw (same (p / width (on d) r) (p % width (on d) r))
+
+  module _ (n w k j : ℕ) (e : w ≡ width (on d) r) (l : j < w) (below : k < n) (x : ℕ) (g : x ≡ packed (planAfter d rows (at + 1) count (taken k j))) where
     inside : k * w + j < n * w
     inside = digits-lt below l
 
-    tried : tries d rows at count r m (k * w + j) ≡ putFirst (placeOf r k j) (planAfter d rows (at + 1) count (admit r k j m))
-    unfolding tryNumber
-    tried = rw (← e, digits-div k l, digits-mod k l) (rest-planned d rows (at + 1) count m (placeOf r k j) (admit r k j m))
+    tried : try (k * w + j) ≡ putFirst (placeOf r k j) (planAfter d rows (at + 1) count (taken k j))
+    unfolding triesTaking
+    tried = rw (← e, digits-div k l, digits-mod k l) (rest-planned d rows (at + 1) count (placeOf r k j) (taken k j))
 
-    pub tries-hit : (x ≡ 0 → ⊥) → x * 64 + k * 8 + j ≡ packed (triesFrom n w (tries d rows at count r m) k j)
-    tries-hit plan =
-        rw (place-first r k j, place-second (on d) r k j (rw (← e) l)) at (try-hit (tries d rows at count r m) (k * w + j) (n * w) (placeOf r k j) _ x inside tried g plan)
+    pub tries-hit : (x ≡ 0 → ⊥) → x * 64 + k * 8 + j ≡ packed (triesFrom n w try k j)
+    tries-hit plan = rw (place-first r k j, place-second (on d) r k j (rw (← e) l)) at (try-hit try (k * w + j) (n * w) (placeOf r k j) _ x inside tried g plan)
 
-    pub tries-next : x ≡ 0 → triesFrom n w (tries d rows at count r m) k j ≡ triesFrom n w (tries d rows at count r m) k (j + 1)
+    pub tries-next : x ≡ 0 → triesFrom n w try k j ≡ triesFrom n w try k (j + 1)
     tries-next z =
         let s : k * w + (j + 1) ≡ k * w + j + 1 = omega arith in
-        rw s (try-next (tries d rows at count r m) (k * w + j) (n * w) (placeOf r k j) _ x inside tried g z)
+        rw s (try-next try (k * w + j) (n * w) (placeOf r k j) _ x inside tried g z)
 
-    pub tries-carry : x ≡ 0 → j + 1 ≡ w → triesFrom n w (tries d rows at count r m) k j ≡ triesFrom n w (tries d rows at count r m) (k + 1) 0
+    pub tries-carry : x ≡ 0 → j + 1 ≡ w → triesFrom n w try k j ≡ triesFrom n w try (k + 1) 0
     tries-carry z c =
         let row : (k + 1) * w ≡ k * w + w = rw (add-one k) (suc-mul k w) in
         let s : (k + 1) * w + 0 ≡ k * w + j + 1 = omega (arith, row) in
-        rw s (try-next (tries d rows at count r m) (k * w + j) (n * w) (placeOf r k j) _ x inside tried g z)
+        rw s (try-next try (k * w + j) (n * w) (placeOf r k j) _ x inside tried g z)
 
 pub tries-done : (n w k j : ℕ) (try : ℕ → Option (List Place)) → n ≤ k → triesFrom n w try k j ≡ none
 tries-done n w k j try h =
@@ -142,16 +155,17 @@ counter-plan d rows at count m room r a l e w place same =
         let low : p % 1 ≡ 0 = omega arith in
         rw (w, whole, low, place p, same p)
 
-module _ (d : Device) (rows : List ℕ) (at count : ℕ) (free : CounterSet) (rsp0 rsp1 packet : ℕ) (l : at < count) where
+module _ (d : Device) (rows : List ℕ) (at count : ℕ) (left : Left) (l : at < count) where
   pub event-plan : (c m : ℕ) (a : CounterSet) → Event c m a ≡ requestAt rows at
-      → planFrom d rows at count (roomOf rows free rsp0 rsp1 packet) ≡ planCounter d rows (at + 1) count a (roomOf rows free rsp0 rsp1 packet)
+      → planFrom d rows at count (roomOf rows left) ≡ planCounter d rows (at + 1) count a (roomOf rows left)
   unfolding width placeOf admit
   event-plan c m a e = counter-plan d rows at count _ _ (Event c m a) a l e refl (λ k. refl) (λ k. refl)
 
-  pub packet-plan : (x y : ℕ) (a : CounterSet) → Packet x y a ≡ requestAt rows at → holdsPacket (filterOf rows packet) x y ≡ true
-      → planFrom d rows at count (roomOf rows free rsp0 rsp1 packet) ≡ planCounter d rows (at + 1) count a (roomOf rows free rsp0 rsp1 (at + 1))
+  pub packet-plan : (x y : ℕ) (a : CounterSet) (used : Left) → used ≡ withPacket left (at + 1) → Packet x y a ≡ requestAt rows at
+      → holdsPacket (filterOf rows (left .packet)) x y ≡ true
+      → planFrom d rows at count (roomOf rows left) ≡ planCounter d rows (at + 1) count a (roomOf rows used)
   unfolding width placeOf
-  packet-plan x y a e h = counter-plan d rows at count _ _ (Packet x y a) a l e refl (λ k. refl) (λ k. packet-held rows at free rsp0 rsp1 packet x y a k 0 e h)
+  packet-plan x y a used u e h = counter-plan d rows at count _ _ (Packet x y a) a l e refl (λ k. refl) (λ k. packet-held rows at left x y a k 0 used u e h)
 
 module _ (d : Device) (rows : List ℕ) (next count : ℕ) (a : CounterSet) (room : Room) where
   abbrev pub counters : ℕ → Option (List Place)
@@ -160,7 +174,7 @@ module _ (d : Device) (rows : List ℕ) (next count : ℕ) (a : CounterSet) (roo
   module _ (n k x : ℕ) (l : k < n) (g : x ≡ packed (planAfter d rows next count (takeCounter a k room))) where
     counter-tried : counters k ≡ putFirst (Counter k) (planAfter d rows next count (takeCounter a k room))
     unfolding counterFirst
-    counter-tried = rest-planned d rows next count room (Counter k) (takeCounter a k room)
+    counter-tried = rest-planned d rows next count (Counter k) (takeCounter a k room)
 
     pub counter-hit : (x ≡ 0 → ⊥) → x * 64 + k * 8 ≡ packed (firstFrom counters k (n - k))
     unfolding first second

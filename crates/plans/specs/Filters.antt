@@ -3,7 +3,6 @@ use mathlib.Core.List.{List}
 use Prim.Native.Nat.{ℕ, zero, suc, _+_, _*_, _%_}
 use lib.Dec.{leb}
 use lib.ListN.{getD}
-use Rattle.requests.specs.declared.CounterSet.{CounterSet}
 use Rattle.requests.specs.declared.Request.{Request}
 use Rattle.requests.specs.declared.Request.the-variants.{Event, Packet, Offcore, Latency}
 use Rattle.requests.specs.Choice.{pick}
@@ -13,6 +12,7 @@ use Rattle.plans.specs.declared.Register.the-variants.{Unused, Word}
 use Rattle.plans.specs.declared.Filter.{Filter}
 use Rattle.plans.specs.declared.Filter.the-variants.{Off, Words}
 use Rattle.plans.specs.declared.Room.{Room}
+use Rattle.plans.specs.declared.left.Left.{Left}
 use Rattle.plans.specs.Rows.{requestAt}
 
 -- the word that the offcore or latency request in row k asks of RSP register i
@@ -36,6 +36,6 @@ abbrev pub filterOf : List ℕ → ℕ → Filter
 filterOf rows zero = Off
 filterOf rows (suc k) = askedPacket (requestAt rows k)
 
--- the room of a free set and the users of the three registers
-abbrev pub roomOf : List ℕ → CounterSet → ℕ → ℕ → ℕ → Room
-roomOf rows free rsp0 rsp1 packet = record { free = free; rsp0 = rspOf rows 0 rsp0; rsp1 = rspOf rows 1 rsp1; packet = filterOf rows packet }
+-- the room of what is left
+abbrev pub roomOf : List ℕ → Left → Room
+roomOf rows left = record { free = left .free; rsp0 = rspOf rows 0 (left .rsp0); rsp1 = rspOf rows 1 (left .rsp1); packet = filterOf rows (left .packet) }

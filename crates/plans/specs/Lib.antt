@@ -8,6 +8,7 @@ pub mod FirstPlan
 pub mod Parts
 pub mod Rows
 pub mod Counters
+pub mod Left
 pub mod Filters
 pub mod Remaining
 pub mod Packed

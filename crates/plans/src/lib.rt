@@ -5,8 +5,10 @@ mod counters;
 mod filters;
 pub mod first_plan;
 mod latency;
+mod left;
 mod offcore;
 pub mod packed;
+mod remaining;
 pub mod rows;
 pub mod search;
 

@@ -3,11 +3,15 @@ ghost use mathlib.Core.Path.{_≡_};
 ghost use Prim.Native.Nat.{_<_, _≤_};
 ghost use Rattle.requests.specs.declared.Request.the-variants.{Offcore};
 ghost use Rattle.plans.specs.Rows.{requestAt};
+ghost use Rattle.plans.specs.Left.{InRows};
 ghost use Rattle.plans.specs.Filters.{roomOf};
 ghost use Rattle.plans.specs.Remaining.{planFrom};
 ghost use Rattle.plans.specs.Packed.{packed};
 use crate::filters::holds_word;
-use crate::search::try_counter;
+use crate::left::Left;
+use crate::left::with_rsp0;
+use crate::left::with_rsp1;
+use crate::remaining::try_counter;
 use requests::CounterSet;
 use requests::Device;
 use requests::devices::counter_count;
@@ -20,55 +24,30 @@ pub fn place_offcore(
     at: usize,
     word: u64,
     allowed: CounterSet,
-    free: CounterSet,
-    rsp0: usize,
-    rsp1: usize,
-    packet: usize,
+    left: Left,
 ) -> u64
-    requires { ⌜ (count ≤ 8) × (at < count) × (rsp0 ≤ 8) × (rsp1 ≤ 8) × (packet ≤ 8) ⌝ }
+    requires { ⌜ (count ≤ 8) × (at < count) × InRows left ⌝ }
     requires { ⌜ Offcore word allowed ≡ requestAt (now rows) at ⌝ }
-    ensures { λ r. ⌜ r ≡ packed (planFrom device (now (rows .entry)) at count (roomOf (now (rows .entry)) free rsp0 rsp1 packet)) ⌝ }
+    ensures { λ r. ⌜ r ≡ packed (planFrom device (now (rows .entry)) at count (roomOf (now (rows .entry)) left)) ⌝ }
 {
-    let held0 = holds_word(rows, 0, rsp0, word);
-    let held1 = holds_word(rows, 1, rsp1, word);
+    let held0 = holds_word(rows, 0, left.rsp0, word);
+    let held1 = holds_word(rows, 1, left.rsp1, word);
     if !held0 {
         if !held1 {
             return 0;
         }
     }
     let next = at + 1;
+    let left0 = with_rsp0(left, next);
+    let left1 = with_rsp1(left, next);
     let n = counter_count(device);
     let mut k: u64 = 0;
     while k < n {
-        let rest0 = try_counter(
-            device,
-            rows,
-            count,
-            next,
-            held0,
-            allowed,
-            k,
-            free,
-            next,
-            rsp1,
-            packet,
-        );
+        let rest0 = try_counter(device, rows, count, next, held0, allowed, k, left0);
         if rest0 != 0 {
             return rest0 * 64 + k * 8;
         }
-        let rest1 = try_counter(
-            device,
-            rows,
-            count,
-            next,
-            held1,
-            allowed,
-            k,
-            free,
-            rsp0,
-            next,
-            packet,
-        );
+        let rest1 = try_counter(device, rows, count, next, held1, allowed, k, left1);
         if rest1 != 0 {
             return rest1 * 64 + k * 8 + 1;
         }

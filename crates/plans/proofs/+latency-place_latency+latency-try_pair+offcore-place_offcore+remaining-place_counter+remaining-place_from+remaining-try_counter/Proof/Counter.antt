@@ -17,60 +17,58 @@ use Rattle.plans.proofs.CounterBits.{available-free}
 use Rattle.plans.proofs.Unpacking.{counters-few, rest-code}
 use Rattle.plans.proofs.Admitting.{counter-taken, counter-missing}
 use Rattle.plans.proofs.Trying.{counters, counter-hit, counter-next, counter-done}
-use Rattle.plans.proofs.+latency-place_latency+latency-try_pair+offcore-place_offcore+search-place_counter+search-place_from+search-try_counter.Proof.Measures.{place-counter-at, place-from-below, try-counter-at, try-counter-below}
-use Rattle.plans.proofs.search.place_counter.Reads as place-counter
-use Rattle.plans.proofs.search.place_from.Reads as place-from
-use Rattle.plans.proofs.search.try_counter.Reads as try-counter
-use Rattle.plans.proofs.+latency-place_latency+latency-try_pair+offcore-place_offcore+search-place_counter+search-place_from+search-try_counter.Lts-search-try_counter as try-counter-lts
-use Rattle.plans.proofs.+latency-place_latency+latency-try_pair+offcore-place_offcore+search-place_counter+search-place_from+search-try_counter.Lts-search-place_counter as place-counter-lts
+use Rattle.plans.proofs.+latency-place_latency+latency-try_pair+offcore-place_offcore+remaining-place_counter+remaining-place_from+remaining-try_counter.Proof.Measures.{place-counter-at, place-from-below, try-counter-at, try-counter-below}
+use Rattle.plans.proofs.remaining.place_counter.Reads as place-counter
+use Rattle.plans.proofs.remaining.place_from.Reads as place-from
+use Rattle.plans.proofs.remaining.try_counter.Reads as try-counter
+use Rattle.plans.proofs.+latency-place_latency+latency-try_pair+offcore-place_offcore+remaining-place_counter+remaining-place_from+remaining-try_counter.Lts-remaining-try_counter as try-counter-lts
+use Rattle.plans.proofs.+latency-place_latency+latency-try_pair+offcore-place_offcore+remaining-place_counter+remaining-place_from+remaining-try_counter.Lts-remaining-place_counter as place-counter-lts
 use Rattle.plans.proofs.counters.available.Reads as available-reads
 use Rattle.requests.proofs.devices.counter_count.Reads as counter-count-reads
-use Rattle.plans.proofs.counters.without.Reads as without-reads
+use Rattle.plans.proofs.left.without_counter.Reads as without-counter-reads
 
 abbrev pub try-counter-claims : ℕ → try-counter-lts.Claims
 try-counter-claims t = (
   available-reads.Asked,
   available-reads.Learnt,
-  without-reads.Asked,
-  without-reads.Learnt,
+  without-counter-reads.Asked,
+  without-counter-reads.Learnt,
   place-from-below t,
   place-from.Post,
 )
 
-pub try-counter-without-requires : (t : ℕ) → try-counter-lts.Need-without-requires (try-counter-claims t) (try-counter-at t) try-counter.Post
-try-counter-without-requires t c κs = available-free _ _ _ (sym (c .before .available .ensures) ∙ c .if2 .taken)
+pub try-counter-without-counter-requires : (t : ℕ) → try-counter-lts.Need-without-counter-requires (try-counter-claims t) (try-counter-at t) try-counter.Post
+try-counter-without-counter-requires t c κs = available-free _ _ _ (sym (c .before .available .ensures) ∙ c .if2 .taken)
 
 pub try-counter-place-from-requires : (t : ℕ) → try-counter-lts.Need-place-from-requires (try-counter-claims t) (try-counter-at t) try-counter.Post
-try-counter-place-from-requires t c κs = (rw (← c .before .before .before .before .pre .0) (omega arith), omega arith)
+try-counter-place-from-requires t c κs = (rw (← c .before .before .before .before .before .pre .0) (omega arith), rw (c .without-counter .ensures) (omega arith))
 
 pub try-counter-returns : (t : ℕ) → try-counter-lts.Need-returns (try-counter-claims t) (try-counter-at t) try-counter.Post
 try-counter-returns t c =
     let found = c .before .before in
-    let a = found .before .before .before .args in
-    let room = roomOf (a .rows .now) (a .free) (a .rsp0) (a .rsp1) (a .packet) in
-    let free : available (a .allowed) (a .free) (a .k) ≡ true = sym (found .before .available .ensures) ∙ found .if2 .taken in
-    rw (found .before .before .if1 .taken, counter-taken (a .allowed) (a .k) room (c .before .without .result) free (c .before .without .ensures))
+    let a = found .before .before .before .before .args in
+    let free : available (a .allowed) (a .left .free) (a .k) ≡ true = sym (found .before .available .ensures) ∙ found .if2 .taken in
+    rw (found .before .before .before .if1 .taken, counter-taken (a .rows .now) (a .allowed) (a .k) (a .left) _ free (c .before .without-counter .ensures))
     (c .place-from .ensures)
 
 pub try-counter-returns-2 : (t : ℕ) → try-counter-lts.Need-returns-2 (try-counter-claims t) (try-counter-at t) try-counter.Post
 unfolding packed
 try-counter-returns-2 t c =
-    let a = c .before .before .before .args in
-    let room = roomOf (a .rows .now) (a .free) (a .rsp0) (a .rsp1) (a .packet) in
-    rw (c .before .before .if1 .taken, counter-missing (a .allowed) (a .k) room (sym (c .before .available .ensures) ∙ c .if2 .left))
+    let a = c .before .before .before .before .args in
+    rw (c .before .before .before .if1 .taken, counter-missing (a .allowed) (a .k) (roomOf (a .rows .now) (a .left)) (sym (c .before .available .ensures) ∙ c .if2 .left))
 
 pub try-counter-returns-3 : (t : ℕ) → try-counter-lts.Need-returns-3 (try-counter-claims t) (try-counter-at t) try-counter.Post
 unfolding packed
 try-counter-returns-3 t c = rw (c .if1 .left)
 
 abbrev pub place-counter-Inv-loop : place-counter-lts.InvT-loop
-place-counter-Inv-loop device rows count next allowed free rsp0 rsp1 packet n k₀ k =
+place-counter-Inv-loop device rows count next allowed left n k₀ k =
     (k ≤ n) × (n ≤ 8)
-    × (planCounter device rows next count allowed (roomOf rows free rsp0 rsp1 packet)
-    ≡ firstFrom (counters device rows next count allowed (roomOf rows free rsp0 rsp1 packet)) k (n - k))
+    × (planCounter device rows next count allowed (roomOf rows left)
+    ≡ firstFrom (counters device rows next count allowed (roomOf rows left)) k (n - k))
 
 abbrev pub place-counter-μ-loop : place-counter-lts.MeasureT-loop
-place-counter-μ-loop device rows count next allowed free rsp0 rsp1 packet n k₀ k = n - k
+place-counter-μ-loop device rows count next allowed left n k₀ k = n - k
 
 abbrev pub place-counter-claims : ℕ → place-counter-lts.Claims
 place-counter-claims t = (
@@ -94,7 +92,7 @@ module _ (t : ℕ) where
     start = c .before .before .before .before
 
     abbrev room : Room
-    room = roomOf (start .args .rows .now) (start .args .free) (start .args .rsp0) (start .args .rsp1) (start .args .packet)
+    room = roomOf (start .args .rows .now) (start .args .left)
 
     abbrev n : ℕ
     n = c .before .before .before .counter-count .result
@@ -160,6 +158,6 @@ unfolding packed
 place-counter-returns-2 t c =
     let loop = c .before in
     let a = loop .before .before .args in
-    let room = roomOf (a .rows .now) (a .free) (a .rsp0) (a .rsp1) (a .packet) in
+    let room = roomOf (a .rows .now) (a .left) in
     let n = loop .before .counter-count .result in
     rw (loop .loop .inv .2, counter-done (a .device) (a .rows .now) (a .next) (a .count) (a .allowed) room n (loop .loop .k) (c .loop-test .left))

@@ -8,12 +8,12 @@ use Rattle.plans.proofs.latency.try_pair.Reads as try-pair
 use Rattle.plans.proofs.latency.try_pair.Kinds as try-pair-kinds
 use Rattle.plans.proofs.offcore.place_offcore.Reads as place-offcore
 use Rattle.plans.proofs.offcore.place_offcore.Kinds as place-offcore-kinds
-use Rattle.plans.proofs.search.place_counter.Reads as place-counter
-use Rattle.plans.proofs.search.place_counter.Kinds as place-counter-kinds
-use Rattle.plans.proofs.search.place_from.Reads as place-from
-use Rattle.plans.proofs.search.place_from.Kinds as place-from-kinds
-use Rattle.plans.proofs.search.try_counter.Reads as try-counter
-use Rattle.plans.proofs.search.try_counter.Kinds as try-counter-kinds
+use Rattle.plans.proofs.remaining.place_counter.Reads as place-counter
+use Rattle.plans.proofs.remaining.place_counter.Kinds as place-counter-kinds
+use Rattle.plans.proofs.remaining.place_from.Reads as place-from
+use Rattle.plans.proofs.remaining.place_from.Kinds as place-from-kinds
+use Rattle.plans.proofs.remaining.try_counter.Reads as try-counter
+use Rattle.plans.proofs.remaining.try_counter.Kinds as try-counter-kinds
 
 abbrev pub μ-place-latency : Measures 1 place-latency-kinds.ps ℕ
 μ-place-latency κs a = 4 * (a .1 .1 .0 - a .1 .1 .1 .0) + 2

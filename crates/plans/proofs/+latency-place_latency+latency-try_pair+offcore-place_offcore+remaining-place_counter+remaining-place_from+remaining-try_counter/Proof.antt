@@ -6,28 +6,28 @@ mod Latency
 mod From
 use native.Mathlib.Omega.{arith}
 use borrow.Author.Needs.{needs}
-use Rattle.plans.proofs.+latency-place_latency+latency-try_pair+offcore-place_offcore+search-place_counter+search-place_from+search-try_counter.Proof.Measures.{μ-place-latency, μ-try-pair, μ-place-offcore, μ-place-counter, μ-place-from, μ-try-counter, place-latency-at, try-pair-at, place-offcore-at, place-counter-at, place-from-at, try-counter-at}
-use Rattle.plans.proofs.+latency-place_latency+latency-try_pair+offcore-place_offcore+search-place_counter+search-place_from+search-try_counter.Proof.Counter as counter
-use Rattle.plans.proofs.+latency-place_latency+latency-try_pair+offcore-place_offcore+search-place_counter+search-place_from+search-try_counter.Proof.Offcore as offcore
-use Rattle.plans.proofs.+latency-place_latency+latency-try_pair+offcore-place_offcore+search-place_counter+search-place_from+search-try_counter.Proof.Latency as latency
-use Rattle.plans.proofs.+latency-place_latency+latency-try_pair+offcore-place_offcore+search-place_counter+search-place_from+search-try_counter.Proof.From as from
+use Rattle.plans.proofs.+latency-place_latency+latency-try_pair+offcore-place_offcore+remaining-place_counter+remaining-place_from+remaining-try_counter.Proof.Measures.{μ-place-latency, μ-try-pair, μ-place-offcore, μ-place-counter, μ-place-from, μ-try-counter, place-latency-at, try-pair-at, place-offcore-at, place-counter-at, place-from-at, try-counter-at}
+use Rattle.plans.proofs.+latency-place_latency+latency-try_pair+offcore-place_offcore+remaining-place_counter+remaining-place_from+remaining-try_counter.Proof.Counter as counter
+use Rattle.plans.proofs.+latency-place_latency+latency-try_pair+offcore-place_offcore+remaining-place_counter+remaining-place_from+remaining-try_counter.Proof.Offcore as offcore
+use Rattle.plans.proofs.+latency-place_latency+latency-try_pair+offcore-place_offcore+remaining-place_counter+remaining-place_from+remaining-try_counter.Proof.Latency as latency
+use Rattle.plans.proofs.+latency-place_latency+latency-try_pair+offcore-place_offcore+remaining-place_counter+remaining-place_from+remaining-try_counter.Proof.From as from
 use Rattle.plans.proofs.latency.place_latency.Reads as place-latency
-use Rattle.plans.proofs.+latency-place_latency+latency-try_pair+offcore-place_offcore+search-place_counter+search-place_from+search-try_counter.Lts-latency-place_latency as place-latency-lts
+use Rattle.plans.proofs.+latency-place_latency+latency-try_pair+offcore-place_offcore+remaining-place_counter+remaining-place_from+remaining-try_counter.Lts-latency-place_latency as place-latency-lts
 use Rattle.plans.proofs.latency.try_pair.Reads as try-pair
-use Rattle.plans.proofs.+latency-place_latency+latency-try_pair+offcore-place_offcore+search-place_counter+search-place_from+search-try_counter.Lts-latency-try_pair as try-pair-lts
+use Rattle.plans.proofs.+latency-place_latency+latency-try_pair+offcore-place_offcore+remaining-place_counter+remaining-place_from+remaining-try_counter.Lts-latency-try_pair as try-pair-lts
 use Rattle.plans.proofs.offcore.place_offcore.Reads as place-offcore
-use Rattle.plans.proofs.+latency-place_latency+latency-try_pair+offcore-place_offcore+search-place_counter+search-place_from+search-try_counter.Lts-offcore-place_offcore as place-offcore-lts
-use Rattle.plans.proofs.search.place_counter.Reads as place-counter
-use Rattle.plans.proofs.+latency-place_latency+latency-try_pair+offcore-place_offcore+search-place_counter+search-place_from+search-try_counter.Lts-search-place_counter as place-counter-lts
-use Rattle.plans.proofs.search.place_from.Reads as place-from
-use Rattle.plans.proofs.+latency-place_latency+latency-try_pair+offcore-place_offcore+search-place_counter+search-place_from+search-try_counter.Lts-search-place_from as place-from-lts
-use Rattle.plans.proofs.search.try_counter.Reads as try-counter
-use Rattle.plans.proofs.+latency-place_latency+latency-try_pair+offcore-place_offcore+search-place_counter+search-place_from+search-try_counter.Lts-search-try_counter as try-counter-lts
-use Rattle.plans.proofs.+latency-place_latency+latency-try_pair+offcore-place_offcore+search-place_counter+search-place_from+search-try_counter.{statement}
-use Rattle.plans.proofs.+latency-place_latency+latency-try_pair+offcore-place_offcore+search-place_counter+search-place_from+search-try_counter.Tie.{close}
+use Rattle.plans.proofs.+latency-place_latency+latency-try_pair+offcore-place_offcore+remaining-place_counter+remaining-place_from+remaining-try_counter.Lts-offcore-place_offcore as place-offcore-lts
+use Rattle.plans.proofs.remaining.place_counter.Reads as place-counter
+use Rattle.plans.proofs.+latency-place_latency+latency-try_pair+offcore-place_offcore+remaining-place_counter+remaining-place_from+remaining-try_counter.Lts-remaining-place_counter as place-counter-lts
+use Rattle.plans.proofs.remaining.place_from.Reads as place-from
+use Rattle.plans.proofs.+latency-place_latency+latency-try_pair+offcore-place_offcore+remaining-place_counter+remaining-place_from+remaining-try_counter.Lts-remaining-place_from as place-from-lts
+use Rattle.plans.proofs.remaining.try_counter.Reads as try-counter
+use Rattle.plans.proofs.+latency-place_latency+latency-try_pair+offcore-place_offcore+remaining-place_counter+remaining-place_from+remaining-try_counter.Lts-remaining-try_counter as try-counter-lts
+use Rattle.plans.proofs.+latency-place_latency+latency-try_pair+offcore-place_offcore+remaining-place_counter+remaining-place_from+remaining-try_counter.{statement}
+use Rattle.plans.proofs.+latency-place_latency+latency-try_pair+offcore-place_offcore+remaining-place_counter+remaining-place_from+remaining-try_counter.Tie.{close}
 
-pub +latency·place-latency+latency·try-pair+offcore·place-offcore+search·place-counter+search·place-from+search·try-counter-spec : {M : Type 1} → statement M
-+latency·place-latency+latency·try-pair+offcore·place-offcore+search·place-counter+search·place-from+search·try-counter-spec =
+pub +latency·place-latency+latency·try-pair+offcore·place-offcore+remaining·place-counter+remaining·place-from+remaining·try-counter-spec : {M : Type 1} → statement M
++latency·place-latency+latency·try-pair+offcore·place-offcore+remaining·place-counter+remaining·place-from+remaining·try-counter-spec =
     close
     μ-place-latency
     μ-try-pair
@@ -43,6 +43,8 @@ pub +latency·place-latency+latency·try-pair+offcore·place-offcore+search·pla
     (λ c κs. search needs)
     (latency.place-latency-returns-2 t)
     (λ c. omega arith)
+    (λ c κs. search needs)
+    (λ c κs. search needs)
     (λ c κs. search needs)
     (latency.place-latency-loop-holds t)
     (latency.place-latency-try-pair-requires t)
@@ -60,7 +62,7 @@ pub +latency·place-latency+latency·try-pair+offcore·place-offcore+search·pla
     (latency.place-latency-returns-4 t))
     (λ t. try-pair-lts.spec (latency.try-pair-claims t) (try-pair-at t) try-pair.Post
     (λ c κs. search needs)
-    (latency.try-pair-without-requires t)
+    (latency.try-pair-without-counter-requires t)
     (latency.try-pair-try-counter-requires t)
     (latency.try-pair-returns t)
     (latency.try-pair-returns-2 t))
@@ -69,6 +71,8 @@ pub +latency·place-latency+latency·try-pair+offcore·place-offcore+search·pla
     (λ c κs. search needs)
     (offcore.place-offcore-returns t)
     (λ c. omega arith)
+    (λ c κs. search needs)
+    (λ c κs. search needs)
     (λ c κs. search needs)
     (offcore.place-offcore-loop-holds t)
     (offcore.place-offcore-try-counter-requires t)
@@ -106,6 +110,7 @@ pub +latency·place-latency+latency·try-pair+offcore·place-offcore+search·pla
     (from.place-from-place-counter-requires t)
     (λ c. search needs)
     (λ c κs. search needs)
+    (λ c κs. search needs)
     (from.place-from-place-counter-requires-2 t)
     (from.place-from-returns-2 t)
     (λ c. search needs)
@@ -118,7 +123,7 @@ pub +latency·place-latency+latency·try-pair+offcore·place-offcore+search·pla
     (λ c. c .place-latency .ensures))
     (λ t. try-counter-lts.spec (counter.try-counter-claims t) (try-counter-at t) try-counter.Post
     (λ c κs. search needs)
-    (counter.try-counter-without-requires t)
+    (counter.try-counter-without-counter-requires t)
     (counter.try-counter-place-from-requires t)
     (counter.try-counter-returns t)
     (counter.try-counter-returns-2 t)

@@ -5,13 +5,14 @@ use native.Mathlib.Omega.{arith}
 use Rattle.plans.specs.Filters.{roomOf}
 use Rattle.plans.proofs.Admitting.{packet-differs}
 use Rattle.plans.proofs.Trying.{none-remain, nowhere-admitted, event-plan, packet-plan}
-use Rattle.plans.proofs.+latency-place_latency+latency-try_pair+offcore-place_offcore+search-place_counter+search-place_from+search-try_counter.Proof.Measures.{place-counter-below, place-from-at, place-latency-below, place-offcore-below}
+use Rattle.plans.proofs.+latency-place_latency+latency-try_pair+offcore-place_offcore+remaining-place_counter+remaining-place_from+remaining-try_counter.Proof.Measures.{place-counter-below, place-from-at, place-latency-below, place-offcore-below}
 use Rattle.plans.proofs.latency.place_latency.Reads as place-latency
 use Rattle.plans.proofs.offcore.place_offcore.Reads as place-offcore
-use Rattle.plans.proofs.search.place_counter.Reads as place-counter
-use Rattle.plans.proofs.search.place_from.Reads as place-from
-use Rattle.plans.proofs.+latency-place_latency+latency-try_pair+offcore-place_offcore+search-place_counter+search-place_from+search-try_counter.Lts-search-place_from as place-from-lts
+use Rattle.plans.proofs.remaining.place_counter.Reads as place-counter
+use Rattle.plans.proofs.remaining.place_from.Reads as place-from
+use Rattle.plans.proofs.+latency-place_latency+latency-try_pair+offcore-place_offcore+remaining-place_counter+remaining-place_from+remaining-try_counter.Lts-remaining-place_from as place-from-lts
 use Rattle.plans.proofs.filters.holds_packet.Reads as holds-packet-reads
+use Rattle.plans.proofs.left.with_packet.Reads as with-packet-reads
 use Rattle.plans.proofs.rows.request_at.Reads as request-at-reads
 
 abbrev pub place-from-claims : ℕ → place-from-lts.Claims
@@ -22,6 +23,8 @@ place-from-claims t = (
   place-counter.Post,
   holds-packet-reads.Asked,
   holds-packet-reads.Learnt,
+  with-packet-reads.Asked,
+  with-packet-reads.Learnt,
   place-offcore-below t,
   place-offcore.Post,
   place-latency-below t,
@@ -31,22 +34,23 @@ place-from-claims t = (
 pub place-from-returns : (t : ℕ) → place-from-lts.Need-returns (place-from-claims t) (place-from-at t) place-from.Post
 place-from-returns t c =
     let a = c .before .args in
-    none-remain (a .device) (a .rows .now) (a .at) (a .count) (roomOf (a .rows .now) (a .free) (a .rsp0) (a .rsp1) (a .packet)) (c .if1 .taken)
+    none-remain (a .device) (a .rows .now) (a .at) (a .count) (roomOf (a .rows .now) (a .left)) (c .if1 .taken)
 
 pub place-from-place-counter-requires : (t : ℕ) → place-from-lts.Need-place-counter-requires (place-from-claims t) (place-from-at t) place-from.Post
 place-from-place-counter-requires t c κs = (rw (← c .before .before .before .before .before .pre .0) (omega arith), omega arith)
 
 pub place-from-place-counter-requires-2 : (t : ℕ) → place-from-lts.Need-place-counter-requires-2 (place-from-claims t) (place-from-at t) place-from.Post
-place-from-place-counter-requires-2 t c κs = (rw (← c .before .before .before .before .before .before .before .pre .0) (omega arith), omega arith)
+place-from-place-counter-requires-2 t c κs =
+    (rw (← c .before .before .before .before .before .before .before .before .pre .0) (omega arith), rw (c .with-packet .ensures) (omega arith))
 
 pub place-from-returns-2 : (t : ℕ) → place-from-lts.Need-returns-2 (place-from-claims t) (place-from-at t) place-from.Post
 place-from-returns-2 t c =
-    let held = c .before .before in
+    let held = c .before .before .before in
     let packet = held .before .before in
     let read = packet .before .before in
     let a = read .before .before .args in
-    rw (packet-plan (a .device) (a .rows .now) (a .at) (a .count) (a .free) (a .rsp0) (a .rsp1) (a .packet) (omega arith) _ _ _
-    (sym (packet .request2 .given .1) ∙ read .request-at .ensures) (sym (held .holds-packet .ensures) ∙ c .before .if2 .taken))
+    rw (packet-plan (a .device) (a .rows .now) (a .at) (a .count) (a .left) (omega arith) _ _ _ _ (c .before .with-packet .ensures)
+    (sym (packet .request2 .given .1) ∙ read .request-at .ensures) (sym (held .holds-packet .ensures) ∙ c .before .before .if2 .taken))
     (c .place-counter2 .ensures)
 
 pub place-from-place-offcore-requires : (t : ℕ) → place-from-lts.Need-place-offcore-requires (place-from-claims t) (place-from-at t) place-from.Post
@@ -64,7 +68,7 @@ place-from-returns-3 t c =
     let event = c .before .before in
     let read = event .before .before in
     let a = read .before .before .args in
-    rw (event-plan (a .device) (a .rows .now) (a .at) (a .count) (a .free) (a .rsp0) (a .rsp1) (a .packet) (omega arith) _ _ _
+    rw (event-plan (a .device) (a .rows .now) (a .at) (a .count) (a .left) (omega arith) _ _ _
     (sym (event .request .given .1) ∙ read .request-at .ensures))
     (c .place-counter .ensures)
 
@@ -73,7 +77,7 @@ place-from-returns-4 t c =
     let packet = c .before .before .before in
     let read = packet .before .before in
     let a = read .before .before .args in
-    let room = roomOf (a .rows .now) (a .free) (a .rsp0) (a .rsp1) (a .packet) in
+    let room = roomOf (a .rows .now) (a .left) in
     nowhere-admitted (a .device) (a .rows .now) (a .at) (a .count) room _ (omega arith) (sym (packet .request2 .given .1) ∙ read .request-at .ensures)
-    (λ k j. packet-differs (a .rows .now) (a .at) (a .free) (a .rsp0) (a .rsp1) (a .packet) _ _ _ k j
+    (λ k j. packet-differs (a .rows .now) (a .at) (a .left) _ _ _ k j
     (sym (c .before .holds-packet .ensures) ∙ c .if2 .left))
