@@ -1,6 +1,6 @@
 -- A line is read as its text before the newline; a line that is read as a record is such a text and a newline. Assumes nothing.
 use mathlib.Core.Path.{_≡_, refl, ap, sym, _∙_}
-use mathlib.Core.Bool.{Bool, true, false}
+use mathlib.Core.Bool.{Bool, true, false, true≢false}
 use mathlib.Core.List.{List, [], _∷_, _++_}
 use Prim.Native.Nat.{ℕ, _-_, _≤_}
 use native.Mathlib.Omega.{arith}
@@ -8,7 +8,6 @@ use lib.Dec.{ltb}
 use lib.ListN.{length, getD, take, length-take}
 use lib.Seq.{take-all, take-at, take-suc, take-length, getD-at}
 use borrow.Author.Tests.{eq-eqb, le-ltb, ltb-false, eqb-true}
-use Rattle.requests.proofs.Tests.{true-not-false}
 use Rattle.records.specs.Text.{newline}
 use Rattle.records.specs.Fields.{fields}
 use Rattle.records.specs.Verbs.{recordOf}
@@ -61,7 +60,7 @@ record-only line r e = go (ltb longest (textLength line)) refl e
 -- a line with a newline at the end is what stands before it, and the newline
 last-newline : (line : List ℕ) → isClosed line ≡ true → line ≡ take (length line - 1) line ++ newline ∷ []
 unfolding isClosed newline
-last-newline [] c = absurd (true-not-false (sym c))
+last-newline [] c = absurd (true≢false (sym c))
 last-newline (b ∷ line) c =
     let before : length (b ∷ line) - 1 ≡ length line = omega arith in
     let last : getD (b ∷ line) (length line) 0 ≡ newline = eqb-true _ newline (rw before at c) in

@@ -1,17 +1,14 @@
 -- A number read digit by digit: at a place of the field, and how large it gets. Assumes nothing.
-use Prim.Native.Nat.{ℕ, suc, _+_, _*_, _^_, _<_, _≤_}
-use mathlib.Core.Path.{_≡_, refl}
-use mathlib.Core.Bool.{Bool, true, false}
-use mathlib.Core.List.{List, [], _∷_}
+use Prim.Native.Nat.{ℕ, _+_, _*_, _^_, _<_, _≤_}
+use mathlib.Core.Path.{_≡_}
+use mathlib.Core.List.{List}
 use native.Mathlib.Numerals.{add-one}
-use native.Mathlib.Nat.{zero-add, le-antisymm, mul-le-mul-left, mul-le-mul-right, suc-mul, pow-le-pow-right, pow-suc}
+use native.Mathlib.Nat.{le-antisymm, mul-le-mul-left, mul-le-mul-right, suc-mul, pow-le-pow-right, pow-suc}
 use native.Mathlib.Omega.{arith}
 use lib.ListN.{length, getD, drop}
-use lib.Dec.{ltb, eqb}
 use lib.Seq.{drop-cons, drop-length}
-use borrow.Author.Tests.{le-ltb, lt-ltb, ltb-true, eqb-true}
-use Rattle.requests.specs.Choice.{pick}
-use Rattle.records.specs.Numbers.{digitOf, numberFrom, hexOf}
+use borrow.Author.Tests.{le-ltb, lt-ltb}
+use Rattle.records.specs.Numbers.{digitOf, numberFrom}
 use Rattle.records.specs.declared.Number.the-variants.{Value, Bad}
 
 -- the digit at place i
@@ -39,30 +36,3 @@ product-fits v base i hv hi hb =
 pub digit-more : (bound v base d i : ℕ) → v < bound ^ i → base ≤ bound → d < base → v * base + d < bound ^ (i + 1)
 digit-more bound v base d i hv hb hd =
     rw (add-one, pow-suc) (omega (arith, mul-le-mul-left v hb, mul-le-mul-right bound hv, suc-mul v bound))
-
--- a number has at most the digits that spell it
-below-step : (t : Bool) (base i n d : ℕ) (bs : List ℕ) (v : ℕ) → n < base ^ i → (t ≡ true → d < base)
-    → ((m : ℕ) → m < base ^ (i + 1) → numberFrom base m bs ≡ Value v → v < base ^ (i + 1 + length bs))
-    → pick t (numberFrom base (n * base + d) bs) Bad ≡ Value v → v < base ^ (i + suc (length bs))
-below-step true base i n d bs v h q ih p =
-    let s : i + suc (length bs) ≡ i + 1 + length bs = omega arith in
-    rw s (ih (n * base + d) (digit-more base n base d i h (omega arith) (q refl)) p)
-below-step false base i n d bs v h q ih p = let z : _≡_ {A = ℕ} 0 1 = cc in absurd (omega arith)
-
-pub number-below : (base i n : ℕ) (f : List ℕ) (v : ℕ) → n < base ^ i → numberFrom base n f ≡ Value v → v < base ^ (i + length f)
-unfolding numberFrom
-number-below base i n [] v h e =
-    let z : n ≡ v = cc in
-    let s : i + 0 ≡ i = omega arith in
-    rw (← z, s) h
-number-below base i n (b ∷ bs) v h e =
-    below-step (ltb (digitOf b) base) base i n (digitOf b) bs v h (ltb-true (digitOf b) base) (λ m. number-below base (i + 1) m bs v) e
-
--- a hex number of w digits
-pub hex-below : (w : ℕ) (f : List ℕ) (v : ℕ) → hexOf w f ≡ Value v → v < 16 ^ w
-unfolding hexOf
-hex-below w f v e = go (eqb (length f) w) refl e
-  where
-    go : (t : Bool) → eqb (length f) w ≡ t → pick t (numberFrom 16 0 f) Bad ≡ Value v → v < 16 ^ w
-    go true t p = rw (zero-add, eqb-true (length f) w t) at (number-below 16 0 0 f v (omega arith) p)
-    go false t p = let z : _≡_ {A = ℕ} 0 1 = cc in absurd (omega arith)

@@ -1,6 +1,6 @@
 -- A text that is read format by format, and gives a record, has exactly the fields that the record's values spell. Assumes nothing.
 use mathlib.Core.Path.{_≡_, refl, ap₂, sym, _∙_}
-use mathlib.Core.Bool.{Bool, true, false}
+use mathlib.Core.Bool.{Bool, true, false, true≢false}
 use mathlib.Core.List.{List, [], _∷_}
 use Prim.Native.Nat.{ℕ, suc, _+_}
 use native.Mathlib.Omega.{arith}
@@ -12,7 +12,7 @@ use Rattle.requests.specs.declared.Device.{Device}
 use Rattle.requests.specs.declared.Device.the-variants.{G, S}
 use Rattle.requests.specs.Choice.{pick, both}
 use Rattle.requests.specs.Devices.{letterOf}
-use Rattle.requests.proofs.Tests.{true-not-false, both-parts}
+use Rattle.requests.proofs.Tests.{both-parts}
 use Rattle.records.specs.Text.{hexText, decimalText}
 use Rattle.records.specs.Records.{Decimal, Hex}
 use Rattle.records.specs.Fields.{fields, fieldAt, sameBytes}
@@ -81,13 +81,13 @@ readFrom (f ∷ fs) t closed k made = given f (fieldAt t k) k (λ x. readFrom fs
 pub same-bytes : (f g : List ℕ) → sameBytes f g ≡ true → f ≡ g
 unfolding sameBytes
 same-bytes [] [] e = refl
-same-bytes [] (b ∷ g) e = absurd (true-not-false (sym e))
-same-bytes (a ∷ f) [] e = absurd (true-not-false (sym e))
+same-bytes [] (b ∷ g) e = absurd (true≢false (sym e))
+same-bytes (a ∷ f) [] e = absurd (true≢false (sym e))
 same-bytes (a ∷ f) (b ∷ g) e = go (eqb a b) refl e (same-bytes f g)
   where
     go : (t : Bool) → eqb a b ≡ t → pick t (sameBytes f g) false ≡ true → (sameBytes f g ≡ true → f ≡ g) → a ∷ f ≡ b ∷ g
     go true p q ih = ap₂ _∷_ (eqb-true a b p) (ih q)
-    go false p q ih = absurd (true-not-false (sym q))
+    go false p q ih = absurd (true≢false (sym q))
 
 -- a number was there
 number-only : (x : Number) (k : ℕ) (next : ℕ → Parsed) (r : Record) → withNumber x k next ≡ Line r → (n : ℕ) × (x ≡ Value n) × (next n ≡ Line r)

@@ -16,7 +16,7 @@ use Rattle.records.proofs.Numerals.{length-last, by-digits, below-power
 use Rattle.records.proofs.Outcomes.{read-where}
 
 -- the text has the width
-hex-length : (w n : ℕ) → length (hexText w n) ≡ w
+pub hex-length : (w n : ℕ) → length (hexText w n) ≡ w
 unfolding hexText
 hex-length zero n = refl
 hex-length (suc w) n = length-last (hexText w (n / 16)) (hexDigit (n % 16)) ∙ ap suc (hex-length w (n / 16))

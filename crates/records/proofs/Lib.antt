@@ -15,5 +15,6 @@ pub mod DigitLoops
 pub mod FieldParts
 pub mod FieldLoops
 pub mod WordLoops
+pub mod NumberLines
 pub mod LineEnds
 pub mod VerbRows

@@ -1,6 +1,6 @@
 -- Fields without tabs, written as a line, are the fields of its text; and a text is its fields written as a line. Assumes nothing.
 use mathlib.Core.Path.{_≡_, refl, ap, sym, _∙_}
-use mathlib.Core.Bool.{Bool, true, false}
+use mathlib.Core.Bool.{Bool, true, false, true≢false}
 use mathlib.Core.List.{List, [], _∷_, _++_, append-assoc}
 use Prim.Native.Nat.{ℕ, _+_, _*_, _<_, _≤_}
 use native.Mathlib.Omega.{arith}
@@ -8,7 +8,6 @@ use lib.Dec.{ltb, eqb}
 use lib.ListN.{length, length-append}
 use borrow.Author.Tests.{ltb-true, eqb-true, ne-eqb}
 use Rattle.requests.specs.Choice.{pick}
-use Rattle.requests.proofs.Tests.{true-not-false}
 use Rattle.records.specs.Text.{tab, newline, lineOf}
 use Rattle.records.specs.Fields.{onto, fields}
 use Rattle.records.specs.Numbers.{digitOf, numberFrom}
@@ -47,7 +46,7 @@ unfolding tabFree
 free-parts b f e = go (eqb b tab) refl e
   where
     go : (t : Bool) → eqb b tab ≡ t → pick t false (tabFree f) ≡ true → Free b f
-    go true p q = absurd (true-not-false (sym q))
+    go true p q = absurd (true≢false (sym q))
     go false p q = record { first = p; others = q }
 
 -- it is one field alone

@@ -36,3 +36,7 @@ decimalOf f =
 -- "Hex is upper case of the exact width shown."
 unfoldable pub hexOf : ℕ → List ℕ → Number
 hexOf w f = pick (eqb (length f) w) (numberFrom 16 0 f) Bad
+
+-- the number of a format: of so many hex digits, or a decimal where that is 0
+abbrev pub numberOf : ℕ → List ℕ → Number
+numberOf w f = pick (eqb w 0) (decimalOf f) (hexOf w f)

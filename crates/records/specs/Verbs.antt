@@ -1,10 +1,11 @@
 -- Document 01, 'Lines': the record of each verb. Fields are read from the left; a missing field counts as an empty one.
+use mathlib.Core.Path.{_≡_}
 use mathlib.Core.Bool.{Bool}
 use mathlib.Core.List.{List, [], _∷_}
-use Prim.Native.Nat.{ℕ}
+use Prim.Native.Nat.{ℕ, _+_, _≤_}
 use Prim.Native.String.{String}
 use mathlib.Core.Option.{none, some}
-use lib.ListN.{length}
+use lib.ListN.{length, getD, set}
 use lib.Dec.{eqb}
 use Rattle.requests.specs.declared.Device.{Device}
 use Rattle.requests.specs.declared.Device.the-variants.{G, S}
@@ -14,7 +15,9 @@ use Rattle.requests.specs.Choice.{both, pick, Row, firstHolding}
 use Rattle.requests.specs.Devices.{letterOf}
 use Rattle.records.specs.Text.{bytes}
 use Rattle.records.specs.Fields.{fields, fieldAt, sameBytes}
-use Rattle.records.specs.Numbers.{decimalOf, hexOf}
+use Rattle.records.specs.Numbers.{decimalOf, hexOf, numberOf}
+use Rattle.records.specs.declared.LineNumbers.{LineNumbers}
+use Rattle.records.specs.declared.LineNumbers.the-variants as numbers
 use Rattle.records.specs.declared.Number.{Number}
 use Rattle.records.specs.declared.Number.the-variants.{Value, Bad}
 use Rattle.records.specs.declared.Record.{Record}
@@ -108,3 +111,27 @@ verbs t =
 -- the record of a text that is closed by a newline, or not
 unfoldable pub recordOf : List ℕ → Bool → Parsed
 recordOf t closed = elim (firstHolding (verbs t)) [ none ↦ Fault 0 | some read ↦ read t closed ]
+
+-- formats of at most 16 digits
+abbrev pub Narrow : List ℕ → Type 0
+Narrow [] = Unit {0}
+Narrow (w ∷ ws) = (w ≤ 16) × Narrow ws
+
+-- a record that is made of up to four numbers
+abbrev pub Made : Type 0
+Made = ℕ → ℕ → ℕ → ℕ → Record
+
+-- the record that is made of i numbers and those of the fields after them, or the field at fault
+unfoldable pub lineFrom : List ℕ → List ℕ → Bool → ℕ → List ℕ → Made → Parsed
+lineFrom [] t closed i values made = ended t closed (i + 1) (made (getD values 0 0) (getD values 1 0) (getD values 2 0) (getD values 3 0))
+lineFrom (w ∷ ws) t closed i values made =
+    withNumber (numberOf w (fieldAt t (i + 1))) (i + 1) (λ n. lineFrom ws t closed (i + 1) (set values i n) made)
+
+-- the record that is made of a line's numbers, or the field at fault
+abbrev pub madeOf : LineNumbers → Made → Parsed
+madeOf (numbers.Read a b c d) made = Line (made a b c d)
+madeOf (numbers.Fault k) made = Fault k
+
+-- they are the numbers of the line, whatever is made of them
+pub record Numbered (formats text : List ℕ) (closed : Bool) (r : LineNumbers) : Type 0 where
+  pub tells : (made : Made) → lineFrom formats text closed 0 (0 ∷ 0 ∷ 0 ∷ 0 ∷ []) made ≡ madeOf r made

@@ -6,7 +6,7 @@ use crate::numbers::hex;
 ghost use mathlib.Core.Path.{_≡_};
 ghost use Prim.Native.Nat.{_≤_, _<_};
 ghost use Rattle.records.specs.Fields.{fieldAt, sameBytes};
-ghost use Rattle.records.specs.Numbers.{decimalOf, hexOf};
+ghost use Rattle.records.specs.Numbers.{numberOf};
 ghost use Rattle.records.specs.Parts.{Parted};
 
 // Where the fields end, found in one pass.
@@ -72,18 +72,13 @@ pub fn is_word(text: &[u8], parts: Parts, k: usize, word: &[u8]) -> bool
     same(field(text, parts, k), word)
 }
 
-// Field k as a decimal.
-pub fn decimal_at(text: &[u8], parts: Parts, k: usize) -> Number
-    requires { ⌜ (k < 8) × Parted (now text) parts ⌝ }
-    ensures { λ r. ⌜ r ≡ decimalOf (fieldAt (now (text .entry)) k) ⌝ }
-{
-    decimal(field(text, parts, k))
-}
-
-// Field k as a hex number of `width` digits.
-pub fn hex_at(text: &[u8], parts: Parts, k: usize, width: usize) -> Number
+// Field k as a hex number of `width` digits, or as a decimal where that is 0.
+pub fn number_at(text: &[u8], parts: Parts, k: usize, width: usize) -> Number
     requires { ⌜ (k < 8) × Parted (now text) parts × (width ≤ 16) ⌝ }
-    ensures { λ r. ⌜ r ≡ hexOf width (fieldAt (now (text .entry)) k) ⌝ }
+    ensures { λ r. ⌜ r ≡ numberOf width (fieldAt (now (text .entry)) k) ⌝ }
 {
+    if width == 0 {
+        return decimal(field(text, parts, k));
+    }
     hex(field(text, parts, k), width)
 }

@@ -28,6 +28,12 @@ pub enum Number {
     Bad,
 }
 
+// The numbers of a line, 0 for those that it does not have; or the first field at fault.
+enum LineNumbers {
+    Read(u64, u64, u64, u64),
+    Fault(usize),
+}
+
 // Where the fields of a text end, those past the last one at its end, and how many fields it has.
 struct Parts {
     ends: [usize; 8],

@@ -11,11 +11,11 @@ use Rattle.records.proofs.verbs.drop_line.Statement.{statement}
 use Rattle.records.proofs.verbs.drop_line.Tie as tie
 
 id-read : (c : tie.After-known-told) → decimalOf (fieldAt (now (c .before .before .before .before .before .args .text)) 1) ≡ Value (c .before .id .given .0 .0)
-id-read c = sym (c .before .before .before .decimal-at .ensures) ∙ c .before .id .given .1
+id-read c = sym (c .before .before .before .number-at .ensures) ∙ c .before .id .given .1
 
 returns : tie.Need-returns
 unfolding dropLine
-returns c = rw (sym (c .before .before .decimal-at .ensures) ∙ c .enum-told .given .1)
+returns c = rw (sym (c .before .before .number-at .ensures) ∙ c .enum-told .given .1)
 
 returns-2 : tie.Need-returns-2
 unfolding dropLine

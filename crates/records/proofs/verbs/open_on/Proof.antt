@@ -10,10 +10,10 @@ use Rattle.records.proofs.verbs.open_on.Statement.{statement}
 use Rattle.records.proofs.verbs.open_on.Tie as tie
 
 usable-read : (c : tie.After-known-told) → decimalOf (fieldAt (now (c .before .before .before .before .before .args .text)) 2) ≡ Value (c .before .usable .given .0 .0)
-usable-read c = sym (c .before .before .before .decimal-at .ensures) ∙ c .before .usable .given .1
+usable-read c = sym (c .before .before .before .number-at .ensures) ∙ c .before .usable .given .1
 
 returns : tie.Need-returns
-returns c = rw (sym (c .before .before .decimal-at .ensures) ∙ c .enum-told .given .1)
+returns c = rw (sym (c .before .before .number-at .ensures) ∙ c .enum-told .given .1)
 
 returns-2 : tie.Need-returns-2
 returns-2 c =
