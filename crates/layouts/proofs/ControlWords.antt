@@ -5,7 +5,7 @@
 --     plan-words     the words of a plan of well-formed requests are such words
 use mathlib.Core.Path.{_≡_, refl, sym, _∙_}
 use mathlib.Core.Logic.{inr, ⊎-elim}
-use mathlib.Core.Bool.{Bool, true, false, not}
+use mathlib.Core.Bool.{Bool, true, false, not, false≢true}
 use mathlib.Core.List.{List, [], _∷_}
 use Prim.Native.Nat.{ℕ, _/_, _^_, _<_}
 use native.Mathlib.Decide.{decLt}
@@ -28,7 +28,6 @@ use Rattle.plans.specs.Legal.{Allowed, ofAll}
 use Rattle.plans.specs.Legal as plans
 use Rattle.layouts.specs.Layout.{tabulate, field, controlBits, enabled, eventWord, codeOf, maskOf, offcoreCode, rspMask, rspWord, packetWord}
 use Rattle.layouts.specs.Settings.{usesOf, wordAt}
-use Rattle.layouts.proofs.JoinedTests.{true-false}
 use Rattle.layouts.proofs.WordBits.{bit-high, bits-only, only-cases}
 
 -- ---- listed events
@@ -56,7 +55,7 @@ mask-below (range low high) m b h = omega (arith, leb-true m high (both-parts (l
 
 row-listed : (x c m : ℕ) (es : List ListedEvent) → table x es ≡ true → pairIn es c m ≡ true → Listed x c m
 unfolding table pairIn
-row-listed x c m [] t l = absurd (true-false l refl)
+row-listed x c m [] t l = absurd (false≢true l)
 row-listed x c m (e ∷ es) t l =
     let all = both-parts _ _ t in
     let here = both-parts _ _ (all .0) in

@@ -1,6 +1,6 @@
 -- Laws of the sets that `setFrom` makes: their counters, their sums, and what a set leaves of all counters. Assumes nothing.
 use mathlib.Core.Path.{_≡_, refl, ap, sym, _∙_}
-use mathlib.Core.Bool.{Bool, true, false, not}
+use mathlib.Core.Bool.{Bool, true, false, not, true≢false}
 use Prim.Native.Nat.{ℕ, zero, suc, _+_, _*_, _-_, _/_, _%_, _^_, _<_}
 use native.Mathlib.Nat.{pow-succ', div-one, add-zero}
 use native.Mathlib.Numerals.{add-one}
@@ -11,9 +11,8 @@ use lib.Pow.{pow-pos, shr-shr}
 use borrow.Author.Tests.{eq-eqb, ne-eqb}
 use Rattle.requests.specs.Choice.{either, pick}
 use Rattle.requests.specs.Bits.{bit}
+use Rattle.requests.proofs.Words.{half-div}
 use Rattle.layouts.specs.Settings.{setFrom}
-use Rattle.layouts.proofs.JoinedTests.{true-false}
-use Rattle.layouts.proofs.WordBits.{half-div}
 
 next : (j k : ℕ) → j + suc k ≡ suc j + k
 next j k = omega arith
@@ -62,7 +61,7 @@ set-sum (suc n) j f g h =
     go : (a b : Bool) → (a ≡ true → b ≡ false)
         → setFrom n (suc j) f + setFrom n (suc j) g ≡ setFrom n (suc j) (λ k. either (f k) (g k))
         → (pick a 1 0 + 2 * setFrom n (suc j) f) + (pick b 1 0 + 2 * setFrom n (suc j) g) ≡ pick (either a b) 1 0 + 2 * setFrom n (suc j) (λ k. either (f k) (g k))
-    go true true d e = absurd (true-false refl (d refl))
+    go true true d e = absurd (true≢false (d refl))
     go true false d e = omega arith
     go false true d e = omega arith
     go false false d e = omega arith

@@ -1,6 +1,6 @@
 -- Well-formed requests, as the checks have them and as the paragraphs describe them: `well-formed-requests` carries one into the other.
-use mathlib.Core.Path.{_≡_, refl}
-use mathlib.Core.Bool.{true}
+use mathlib.Core.Path.{_≡_, refl, sym, _∙_}
+use mathlib.Core.Bool.{true, true≢false}
 use mathlib.Core.Option.{Option, none, some}
 use mathlib.Core.List.{List}
 use Rattle.requests.specs.declared.Setup.{Setup}
@@ -11,7 +11,6 @@ use Rattle.requests.specs.WellFormedRequests.{Described}
 use Rattle.requests.proofs.WellFormed.{well-formed-requests}
 use Rattle.plans.specs.Lists.{All}
 use Rattle.plans.proofs.Sets.{all-imp}
-use Rattle.layouts.proofs.JoinedTests.{true-false}
 
 module _ (s : Setup) where
   pub describe-all : {rs : List Request} → All (Formed s) rs → All (Described s) rs
@@ -31,4 +30,4 @@ module _ (s : Setup) where
     where
       go : (o : Option Refusal) → requestRefusal s r ≡ o → Described s r
       go none e = well-formed-requests .described s r e
-      go (some x) e = absurd (true-false h (rw e))
+      go (some x) e = absurd (true≢false (sym h ∙ rw e))

@@ -20,10 +20,10 @@ use Rattle.requests.specs.declared.Request.the-variants.{Event, Packet, Offcore
 use Rattle.requests.specs.Bits.{latencyWord}
 use Rattle.requests.specs.Devices.{counterCount}
 use Rattle.requests.specs.Checks.{formed}
-use Rattle.requests.specs.WellFormedRequests.{Described, event, packet, offcore, latency}
+use Rattle.requests.specs.WellFormedRequests.{Described, event, packet, latency}
 use Rattle.requests.proofs.Tests.{both-parts, either-cases}
 use Rattle.plans.specs.declared.Place.the-variants.{Counter, WithRsp, Pair}
-use Rattle.plans.specs.Lists.{nil, cons, empty, add}
+use Rattle.plans.specs.Lists.{All, nil, cons, empty, add}
 use Rattle.plans.specs.Places.{countedOf, countersOf, first, second}
 use Rattle.plans.specs.Legal.{Usable, wordsOf, packetsOf}
 use Rattle.plans.specs.Legal as plans
@@ -75,31 +75,19 @@ module _ (s : Setup) (within : Within s) (a b : ℕ) (q : ℕ × ℕ) (k w : ℕ
         packet = cons refl nil;
       }
 
-  rsp0-item : Described s (Offcore a noCounter) → w ≡ rspWord (s .device) 0 → Item s a b q k w
+  -- on RSP register i, which holds x
+  rsp-item : (i x : ℕ) → i < 2 → All (λ (y : ℕ). y ≡ a) (pick (eqb i 0) (x ∷ []) []) → All (λ (y : ℕ). y ≡ b) (pick (eqb i 1) (x ∷ []) [])
+      → Described s (Offcore x noCounter) → w ≡ rspWord (s .device) i → Item s a b q k w
   unfolding usesOf wordsOf packetsOf first second
-  rsp0-item h e =
+  rsp-item i x two in-rsp0 in-rsp1 h e =
       record {
-        request = Offcore a (s .usable);
-        place = WithRsp k 0;
+        request = Offcore x (s .usable);
+        place = WithRsp k i;
         described = offcore-allowed (s .usable) within h;
-        allowed = plans.offcore {i = 0} (usable .1) (omega arith);
+        allowed = plans.offcore {i = i} (usable .1) two;
         one = ap (λ (x : ℕ). (k, x) ∷ []) (sym e);
-        rsp0 = cons refl nil;
-        rsp1 = nil;
-        packet = nil;
-      }
-
-  rsp1-item : Described s (Offcore b noCounter) → w ≡ rspWord (s .device) 1 → Item s a b q k w
-  unfolding usesOf wordsOf packetsOf first second
-  rsp1-item h e =
-      record {
-        request = Offcore b (s .usable);
-        place = WithRsp k 1;
-        described = offcore-allowed (s .usable) within h;
-        allowed = plans.offcore {i = 1} (usable .1) (omega arith);
-        one = ap (λ (x : ℕ). (k, x) ∷ []) (sym e);
-        rsp0 = nil;
-        rsp1 = cons refl nil;
+        rsp0 = in-rsp0;
+        rsp1 = in-rsp1;
         packet = nil;
       }
 
@@ -146,8 +134,8 @@ module _ (u : CounterSet) where
       item k n us =
           ⊎-elim
           (λ h. ⊎-elim
-          (λ e. let same = eqb-true (f k) (rspWord G 0) e in rsp0-item (on G u) within a b q k (f k) us (held 0 a k us h0 same) same)
-          (λ e. let same = eqb-true (f k) (rspWord G 1) e in rsp1-item (on G u) within a b q k (f k) us (held 1 b k us h1 same) same)
+          (λ e. let same = eqb-true (f k) (rspWord G 0) e in rsp-item (on G u) within a b q k (f k) us 0 a (omega arith) (cons refl nil) nil (held 0 a k us h0 same) same)
+          (λ e. let same = eqb-true (f k) (rspWord G 1) e in rsp-item (on G u) within a b q k (f k) us 1 b (omega arith) nil (cons refl nil) (held 1 b k us h1 same) same)
           (either-cases _ _ h))
           (λ h. event-item (on G u) within a b q k (f k) us h)
           (word-cases (on G u) (f k) (w .fits k) n)

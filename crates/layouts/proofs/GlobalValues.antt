@@ -3,7 +3,7 @@
 --     unusable-set            the first value: the bits of the counters that are not usable
 --     global-set              the last value: those and the used ones
 use mathlib.Core.Path.{_≡_, refl, sym, ap, ap₂, subst, _∙_}
-use mathlib.Core.Bool.{Bool, true, false, not}
+use mathlib.Core.Bool.{Bool, true, false, not, true≢false, false≢true}
 use mathlib.Core.Logic.{⊎-elim}
 use mathlib.Core.List.{List}
 use Prim.Native.Nat.{ℕ, _+_, _%_, _^_, _<_}
@@ -22,13 +22,12 @@ use Rattle.plans.specs.Legal.{Usable, Legal, counters}
 use Rattle.requests.proofs.Tests.{either-cases}
 use Rattle.layouts.specs.Settings.{setFrom, settingsOf}
 use Rattle.layouts.specs.Writes.{unusable}
-use Rattle.layouts.proofs.JoinedTests.{true-false}
 use Rattle.layouts.proofs.CounterSets.{bit-set, set-below, set-sum, set-left}
 
 -- what holds of all elements holds of a number in the list
 all-listed : {P : ℕ → Type 0} {ks : List ℕ} (k : ℕ) → All P ks → inList ks k ≡ true → P k
 unfolding inList
-all-listed k nil h = absurd (true-false h refl)
+all-listed k nil h = absurd (false≢true h)
 all-listed {P} k (cons {a = j} {rest = ks} g gs) h =
     ⊎-elim (λ e. subst P (eqb-true j k e) g) (λ e. all-listed k gs e) (either-cases (eqb j k) (inList ks k) h)
 
@@ -57,5 +56,5 @@ module _ (s : Setup) (rs : List Request) (ps : List Place) (legal : Legal s rs p
       ∙ set-sum (counterCount (s .device)) 0 (λ k. not (has (s .usable) k)) (inList (counters ps)) (λ k l h. apart (0 + k) h (inList (counters ps) (0 + k)) refl)
     where
       apart : (k : ℕ) → not (has (s .usable) k) ≡ true → (b : Bool) → inList (counters ps) k ≡ b → b ≡ false
-      apart k h true e = absurd (true-false (all-listed {P = Usable s} k (legal .usable-only) e .1) (not-true (has (s .usable) k) h))
+      apart k h true e = absurd (true≢false (sym (all-listed {P = Usable s} k (legal .usable-only) e .1) ∙ not-true (has (s .usable) k) h))
       apart k h false e = refl

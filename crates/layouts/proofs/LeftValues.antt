@@ -18,8 +18,8 @@ use Rattle.requests.specs.declared.Request.{Request}
 use Rattle.requests.specs.declared.Request.the-variants.{Event}
 use Rattle.requests.specs.Bits.{inList}
 use Rattle.requests.specs.Devices.{has, counterCount, capacity}
-use Rattle.requests.specs.Checks.{formed}
 use Rattle.requests.specs.WellFormedRequests.{Described, event}
+use Rattle.requests.proofs.Tests.{true-both, either-left, either-right, every-true}
 use Rattle.plans.specs.declared.Place.{Place}
 use Rattle.plans.specs.Lists.{All, nil, OneValue}
 use Rattle.plans.specs.Legal.{Legal, wordsOf, packetsOf, ofAll, counters}
@@ -34,7 +34,6 @@ use Rattle.layouts.specs.declared.FilterValues.{FilterValues}
 use Rattle.layouts.specs.declared.RegisterValues.{RegisterValues}
 use Rattle.layouts.specs.declared.CounterState.the-variants.{NotOurs}
 use Rattle.layouts.specs.declared.CounterRead.{CounterRead}
-use Rattle.layouts.proofs.JoinedTests.{true-both, either-left, either-right, every-true}
 use Rattle.layouts.proofs.ListLaws.{one-value, map-tabulate, tabulate-same}
 use Rattle.layouts.proofs.CounterSets.{set-same}
 use Rattle.layouts.proofs.RegistersAfter.{after}

@@ -1,5 +1,4 @@
 pub mod AcceptanceTests
-pub mod JoinedTests
 pub mod ListLaws
 pub mod WordBits
 pub mod CounterSets

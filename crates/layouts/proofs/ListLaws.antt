@@ -1,11 +1,12 @@
--- Laws of lists: what holds of all elements, the one value of a list, and tables by the number of each element. Assumes nothing.
+-- Laws of lists: what holds of all elements, the one value of a list, tables by the number of each element, and lists that are stored. Assumes nothing.
 use mathlib.Core.Path.{_≡_, refl, ap, sym, subst, _∙_}
 use mathlib.Core.Logic.{_⊎_, inl, inr}
-use mathlib.Core.List.{List, [], _∷_, _++_, map, List·Memᴰ, List·Memᴰ·cases-cons, List·Memᴰ·append-cases, List·Memᴰ·eq-of-singleton, List·Memᴰ·not-nil}
-use Prim.Native.Nat.{ℕ, zero, suc, _<_}
+use mathlib.Core.List.{List, [], _∷_, _++_, map, map-append, List·Memᴰ, List·Memᴰ·head, List·Memᴰ·tail, List·Memᴰ·append-cases, List·Memᴰ·eq-of-singleton, List·Memᴰ·not-nil}
+use Prim.Native.Nat.{ℕ, zero, suc, _+_, _<_}
 use native.Mathlib.Nat.{le-refl}
 use native.Mathlib.Omega.{arith}
-use lib.ListN.{getD, replicate}
+use lib.ListN.{length, getD, set, replicate}
+use lib.Seq.{sets}
 use Rattle.plans.specs.Lists.{All, nil, cons, OneValue}
 use Rattle.plans.proofs.Sets.{all-imp}
 use Rattle.layouts.specs.Layout.{tabulate}
@@ -13,12 +14,8 @@ use Rattle.layouts.specs.Settings.{headOr}
 
 module _ {A : Type 0} {P : A → Type 0} where
   pub all-member : {a : A} {l : List A} → All P l → List·Memᴰ a l → P a
-  all-member nil m = absurd (List·Memᴰ·not-nil m)
-  all-member {a = a} (cons {a = x} {rest = rest} g gs) m = go (List·Memᴰ·cases-cons m) (λ n. all-member gs n)
-    where
-      go : (a ≡ x) ⊎ List·Memᴰ a rest → (List·Memᴰ a rest → P a) → P a
-      go (inl e) below = subst P (sym e) g
-      go (inr n) below = below n
+  all-member (cons h hs) (List·Memᴰ·head e) = subst P (sym e) h
+  all-member (cons h hs) (List·Memᴰ·tail m) = all-member hs m
 
   -- the first element, where there is one
   pub all-head : (a : A) (l : List A) → P a → All P l → P (headOr a l)
@@ -49,10 +46,6 @@ module _ {A : Type 0} where
       go below (inl x) = let r = below x in (r .0, omega (arith, r .1), r .2)
       go below (inr x) = (n, le-refl (suc n), List·Memᴰ·eq-of-singleton x)
 
-pub map-append : {A B : Type 0} (g : A → B) (s t : List A) → map g (s ++ t) ≡ map g s ++ map g t
-map-append g [] t = refl
-map-append g (x ∷ s) t = ap (λ (l : List _). g x ∷ l) (map-append g s t)
-
 pub map-tabulate : {A B : Type 0} (g : A → B) (n : ℕ) (f : ℕ → A) → map g (tabulate n f) ≡ tabulate n (λ k. g (f k))
 unfolding tabulate
 map-tabulate g zero f = refl
@@ -67,3 +60,10 @@ pub zero-at : (n k : ℕ) → _≡_ {A = ℕ} (getD (replicate n 0) k 0) 0
 zero-at zero k = refl
 zero-at (suc n) zero = refl
 zero-at (suc n) (suc k) = zero-at n k
+
+-- one list stored after another is their join
+pub sets-append : {A : Type 0} (l : List A) (i : ℕ) (xs ys : List A) → sets l i (xs ++ ys) ≡ sets (sets l i xs) (i + length xs) ys
+sets-append l i [] ys = ap (λ (k : ℕ). sets l k ys) (let e : i ≡ i + 0 = omega arith in e)
+sets-append l i (x ∷ xs) ys =
+    sets-append (set l i x) (suc i) xs ys
+    ∙ ap (λ (k : ℕ). sets (sets (set l i x) (suc i) xs) k ys) (let e : suc i + length xs ≡ i + suc (length xs) = omega arith in e)

@@ -1,7 +1,7 @@
 -- No reserved bit of the published layouts is set: `NoReservedBit`, write by write (`writes-all`), register by register.
-use mathlib.Core.Path.{_≡_, refl, sym, subst}
+use mathlib.Core.Path.{_≡_, refl, sym, subst, _∙_}
 use mathlib.Core.Logic.{inl, inr, ⊎-elim}
-use mathlib.Core.Bool.{Bool, true, false, not}
+use mathlib.Core.Bool.{Bool, true, false, not, true≢false}
 use mathlib.Core.List.{List, [], _∷_, List·Memᴰ, List·Memᴰ·head, List·Memᴰ·tail, List·Memᴰ·cases-cons, flatMap}
 use Prim.Native.Nat.{ℕ, _+_, _%_, _^_, _≤_, _<_}
 use native.Mathlib.Decide.{decLt}
@@ -19,6 +19,7 @@ use Rattle.requests.specs.Bits.{bit, inList, onlyBits, outstanding, rsp0Bits, r
 use Rattle.requests.specs.Devices.{has, counterCount, capacity}
 use Rattle.requests.specs.WellFormedRequests.{Described, offcore, latency}
 use Rattle.requests.proofs.Tests.{every-at}
+use Rattle.requests.proofs.WellFormed.{no-outstanding}
 use Rattle.plans.specs.declared.Place.{Place}
 use Rattle.plans.specs.Lists.{All, nil, cons, Each}
 use Rattle.plans.specs.Legal.{Allowed, Legal, wordsOf, packetsOf, ofAll, counters}
@@ -30,7 +31,6 @@ use Rattle.layouts.specs.Writes.{Write, unusable, offcoreWrites, packetW
 use Rattle.layouts.specs.Read.{noCounter}
 use Rattle.layouts.specs.NoReservedBit.{Clean, AsksOutstanding, NoReservedBit}
 use Rattle.layouts.proofs.UsableSets.{on}
-use Rattle.layouts.proofs.JoinedTests.{true-false}
 use Rattle.layouts.proofs.ListLaws.{all-member, all-head, tabulate-member}
 use Rattle.layouts.proofs.Tabulated.{getD-tabulate}
 use Rattle.layouts.proofs.WordBits.{bit-zero, bit-above, bits-only, zero-only}
@@ -39,7 +39,7 @@ use Rattle.layouts.proofs.RegisterAddresses.{in-room, enable-bits, apar
 use Rattle.layouts.proofs.RegistersAfter.{writes-all}
 use Rattle.layouts.proofs.GlobalValues.{unusable-set, global-set}
 use Rattle.layouts.proofs.ControlWords.{word-clean, plan-words, word-at}
-use Rattle.layouts.proofs.OffcoreWords.{offcore-clean, offcore-plain, first-clean}
+use Rattle.layouts.proofs.OffcoreWords.{offcore-clean, first-clean}
 use Rattle.layouts.proofs.AskedWords.{FirstWord, offcore-word, latency-word, first-words, second-words}
 use Rattle.layouts.proofs.FormedRequests.{describe-all}
 
@@ -171,7 +171,7 @@ module _ (s : Setup) (rs : List Request) (ps : List Place) (described : All (Des
 
 -- a word of RSP0 with bit 38 is a latency request's
 first-latency : (s : Setup) (rs : List Request) (w : ℕ) → FirstWord s rs w → bit outstanding w ≡ true → AsksOutstanding rs w
-first-latency s rs w (offcore-word (offcore g h t o c)) held = absurd (true-false held (offcore-plain w h))
+first-latency s rs w (offcore-word (offcore g h t o c)) held = absurd (true≢false (sym held ∙ no-outstanding w h))
 first-latency s rs w (latency-word t a b m h e) held = (t, a, b, m, e)
 
 latency-writes : (d : Device) (u : CounterSet) (rs : List Request) (ps : List Place) → d ≡ G → All (Described (on d u)) rs → Each Allowed rs ps
@@ -179,7 +179,7 @@ latency-writes : (d : Device) (u : CounterSet) (rs : List Request) (ps : List Pl
 unfolding filterWrites offcoreWrites settingsOf rsp0At rsp1At
 latency-writes G u rs ps g f h =
     let first : bit outstanding (headOr 0 (ofAll (wordsOf 0) rs ps)) ≡ true → AsksOutstanding rs (headOr 0 (ofAll (wordsOf 0) rs ps)) =
-    all-head {P = λ w. bit outstanding w ≡ true → AsksOutstanding rs w} 0 (ofAll (wordsOf 0) rs ps) (λ e. absurd (true-false e (bit-zero outstanding)))
+    all-head {P = λ w. bit outstanding w ≡ true → AsksOutstanding rs w} 0 (ofAll (wordsOf 0) rs ps) (λ e. absurd (true≢false (sym e ∙ bit-zero outstanding)))
     (all-imp (λ w a. first-latency (on G u) rs w a) (first-words (on G u) f h)) in
     cons (λ e. first) (cons (λ (e : rsp1At ≡ rsp0At). absurd (omega arith)) nil)
 latency-writes S u rs ps g f h = let z : _≡_ {A = ℕ} 0 1 = cc in absurd (omega arith)

@@ -1,11 +1,11 @@
 -- The words of the RSP registers: of offcore requests, and of latency requests. Assumes nothing.
 --     types-below                    request types alone are below 2^16
---     offcore-clean, offcore-plain   an offcore word has no reserved bit, and not bit 38
+--     offcore-clean                  an offcore word has no reserved bit
 --     first-clean, first-outstanding   nor has a latency word of RSP0, and it has bit 38
 --     second-described               the latency word of RSP1 is an offcore word
 use mathlib.Core.Path.{_≡_, refl, sym, ap, _∙_}
 use mathlib.Core.Logic.{inl, inr, ⊎-elim}
-use mathlib.Core.Bool.{Bool, true, false, not}
+use mathlib.Core.Bool.{true, false, not}
 use mathlib.Core.List.{List, [], _∷_, _++_}
 use Prim.Native.Nat.{ℕ, suc, _+_, _^_, _≤_, _<_}
 use native.Mathlib.Nat.{pow-succ'}
@@ -21,9 +21,8 @@ use Rattle.requests.specs.declared.Setup.{Setup}
 use Rattle.requests.specs.declared.Request.the-variants.{Offcore}
 use Rattle.requests.specs.Bits.{bit, inList, anyBit, onlyBits, typeBits, anyResponse, answerBits, outstanding, rsp0Bits, rsp1Bits, latencyWord}
 use Rattle.requests.specs.WellFormedRequests.{CountersOf, Described, offcore}
-use Rattle.requests.proofs.Tests.{every-at, either-cases}
+use Rattle.requests.proofs.Tests.{every-at, either-false, either-cases, either-left, either-right}
 use Rattle.requests.proofs.BitLists.{in-append, reserved}
-use Rattle.layouts.proofs.JoinedTests.{either-left, either-right}
 use Rattle.layouts.proofs.WordBits.{bit-above, bit-more, below-bits, only-below, only-cases, bits-only, only-more, any-more}
 
 -- a longer list has more
@@ -37,11 +36,8 @@ only-with ks js j w l b more there h =
     let room : 2 ^ suc j ≤ 2 ^ 64 = pow-mono b in
     bits-only js (w + 2 ^ j) (omega (arith, pow-succ' 2 j)) (λ k lk. elim (ℕ-discrete j k) [
       | yes e ↦ inr (sym (ap (inList js) e) ∙ there)
-      | no o ↦ rw (bit-more j k w l, ne-eqb j k o) (⊎-elim (λ e. inl (off (bit k w) e)) (λ e. inr (more k e)) (only-cases ks k w h lk))
+      | no o ↦ rw (bit-more j k w l, ne-eqb j k o) (⊎-elim (λ e. inl (either-false (bit k w) ∙ e)) (λ e. inr (more k e)) (only-cases ks k w h lk))
     ])
-  where
-    off : (b : Bool) → b ≡ false → either b false ≡ false
-    off b e = rw e
 
 -- no type bit stands from 16 on
 types-low : every 64 (λ k. either (ltb k 16) (not (inList typeBits k))) ≡ true
@@ -59,10 +55,6 @@ types-below t h =
 pub offcore-clean : (w : ℕ) → onlyBits rsp1Bits w ≡ true → onlyBits rsp0Bits w ≡ true
 unfolding rsp0Bits
 offcore-clean w h = only-more rsp1Bits rsp0Bits w (λ k e. listed-left rsp1Bits (outstanding ∷ []) k e) h
-
-pub offcore-plain : (w : ℕ) → onlyBits rsp1Bits w ≡ true → bit outstanding w ≡ false
-unfolding outstanding rsp1Bits typeBits anyResponse answerBits inList either
-offcore-plain w h = reserved rsp1Bits 38 w (omega arith) refl h
 
 -- ---- latency words
 

@@ -9,6 +9,7 @@ use Rattle.requests.specs.declared.Setup.{Setup}
 use Rattle.requests.specs.declared.Request.{Request}
 use Rattle.requests.specs.Bits.{bit, inList}
 use Rattle.requests.specs.Devices.{has, counterCount}
+use Rattle.requests.proofs.Tests.{either-left}
 use Rattle.plans.specs.declared.Place.{Place}
 use Rattle.plans.specs.Legal.{Legal, counters}
 use Rattle.plans.proofs.Sets.{all-imp}
@@ -16,7 +17,6 @@ use Rattle.layouts.specs.Layout.{layoutOf}
 use Rattle.layouts.specs.Settings.{settingsOf}
 use Rattle.layouts.specs.Writes.{writes, apply}
 use Rattle.layouts.specs.OthersUntouched.{Ours, global, filter, control, counter, OthersUntouched}
-use Rattle.layouts.proofs.JoinedTests.{either-left}
 use Rattle.layouts.proofs.ListLaws.{all-member}
 use Rattle.layouts.proofs.CounterSets.{bit-set}
 use Rattle.layouts.proofs.RegisterAddresses.{in-room, apart}

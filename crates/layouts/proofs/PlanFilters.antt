@@ -3,7 +3,7 @@
 --     LatencyPair, pairs      where RSP0 holds bit 38, all of its users are latency requests
 --     LeftFilters, filters-fit   the filter values of a plan, and that they fit its control words
 use mathlib.Core.Path.{_≡_, refl, sym, ap, _∙_}
-use mathlib.Core.Bool.{Bool, true, false}
+use mathlib.Core.Bool.{Bool, true, false, true≢false}
 use mathlib.Core.List.{List, [], _∷_, _++_, flatMap}
 use Prim.Native.Nat.{ℕ, zero, suc, _+_, _%_, _^_, _≤_, _<_}
 use native.Mathlib.Nat.{le-refl, add-mod-right, mod-eq-of-lt}
@@ -21,6 +21,8 @@ use Rattle.requests.specs.declared.Request.the-variants.{Offcore, Latency}
 use Rattle.requests.specs.Bits.{bit, anyResponse, outstanding, latencyWord}
 use Rattle.requests.specs.Catalogue.{eventsOf, pairIn}
 use Rattle.requests.specs.WellFormedRequests.{Described, event, packet, offcore, latency}
+use Rattle.requests.proofs.Tests.{true-both, either-left, either-right}
+use Rattle.requests.proofs.WellFormed.{no-outstanding}
 use Rattle.plans.specs.declared.Place.{Place}
 use Rattle.plans.specs.Lists.{All, nil, cons, Each, none, and}
 use Rattle.plans.specs.Places.{second}
@@ -31,11 +33,10 @@ use Rattle.layouts.specs.Settings.{usesOf, wordAt, headOr, nonempty}
 use Rattle.layouts.specs.Read.{noCounter, rsp0Fits, rsp1Fits, latencyFits, filtersFit}
 use Rattle.layouts.specs.declared.FilterValues.{FilterValues}
 use Rattle.layouts.proofs.UsableSets.{on}
-use Rattle.layouts.proofs.JoinedTests.{true-false, true-both, either-left, either-right}
 use Rattle.layouts.proofs.ListLaws.{one-value}
 use Rattle.layouts.proofs.Counts.{hits}
 use Rattle.layouts.proofs.ControlWords.{filterCode, listed, word-parts}
-use Rattle.layouts.proofs.OffcoreWords.{types-below, offcore-plain, first-outstanding}
+use Rattle.layouts.proofs.OffcoreWords.{types-below, first-outstanding}
 use Rattle.layouts.proofs.AskedWords.{FirstWord, offcore-word, latency-word, first-words, second-words, none-within}
 use Rattle.layouts.proofs.FormedRequests.{described-passes}
 use Rattle.layouts.proofs.PlanWords.{count-uses}
@@ -133,7 +134,7 @@ module _ (s : Setup) (w v : ℕ) (held : bit outstanding w ≡ true) where
   pairs nil none xs ys = (le-refl 0, λ l. absurd (omega arith))
   pairs (cons (event h a) fs) (and (plans.event b) es) xs ys = pairs fs es xs ys
   pairs (cons (packet g a) fs) (and (plans.packet b) es) xs ys = pairs fs es xs ys
-  pairs (cons (offcore {w = x} g h t o c) fs) (and (plans.offcore {i = zero} b k) es) (cons e xs) ys = absurd (true-false held (ap (bit outstanding) (sym e) ∙ offcore-plain x h))
+  pairs (cons (offcore {w = x} g h t o c) fs) (and (plans.offcore {i = zero} b k) es) (cons e xs) ys = absurd (true≢false (sym held ∙ ap (bit outstanding) (sym e) ∙ no-outstanding x h))
   pairs (cons (offcore g h t o c) fs) (and (plans.offcore {i = suc zero} b k) es) xs (cons e ys) = let below = pairs fs es xs ys in (omega (arith, below .0), below .1)
   pairs (cons (offcore g h t o c) fs) (and (plans.offcore {i = suc (suc i)} b k) es) xs ys = absurd (omega arith)
   pairs (cons (latency {t = t} g h o c d) fs) (and (plans.latency x y) es) (cons e xs) (cons q ys) =

@@ -6,8 +6,8 @@
 --     control-left, global-left, filter-left   the registers after the writes of the plan
 use mathlib.Core.Path.{_≡_, refl, sym, ap, ap₂, subst, _∙_}
 use mathlib.Core.Logic.{_≢_}
-use mathlib.Core.Bool.{Bool, true, false, not}
-use mathlib.Core.List.{List, _++_, map, flatMap, List·Memᴰ}
+use mathlib.Core.Bool.{Bool, true, false, not, true≢false}
+use mathlib.Core.List.{List, _++_, map, flatMap, List·Memᴰ, map-append}
 use Prim.Native.Nat.{ℕ, _+_, _<_}
 use borrow.Author.Tests.{ne-eqb}
 use lib.Dec.{eqb}
@@ -26,8 +26,6 @@ use Rattle.layouts.specs.Layout.{layoutOf, controlAt, filtersAt}
 use Rattle.layouts.specs.Settings.{usesOf, wordAt, setFrom, settingsOf}
 use Rattle.layouts.specs.Writes.{unusable, filterWrites, writes, apply}
 use Rattle.layouts.specs.Read.{count}
-use Rattle.layouts.proofs.JoinedTests.{true-false}
-use Rattle.layouts.proofs.ListLaws.{map-append}
 use Rattle.layouts.proofs.Tabulated.{getD-tabulate}
 use Rattle.layouts.proofs.RegisterAddresses.{in-room}
 use Rattle.layouts.proofs.RegistersAfter.{after, apply-after, control-after, global-after, filter-after}
@@ -69,7 +67,7 @@ module _ (s : Setup) (rs : List Request) (ps : List Place) (legal : Legal s rs p
   unused-word k h =
       absent (usesIn s rs ps) k
       (subst (λ (l : List ℕ). All (λ (j : ℕ). j ≡ k → ⊥) l) (sym (uses-counters (s .device) (legal .allowed)))
-      (all-imp (λ j u e. true-false (u .1) (ap (has (s .usable)) e ∙ h)) (legal .usable-only)))
+      (all-imp (λ j u e. true≢false (sym (u .1) ∙ ap (has (s .usable)) e ∙ h)) (legal .usable-only)))
 
   pub count-uses : (w : ℕ) → (w ≡ 0 → ⊥) → count (counterCount (s .device)) (wordAt (usesIn s rs ps)) w ≡ hits w (usesIn s rs ps)
   count-uses w some =

@@ -23,7 +23,6 @@ use Rattle.plans.proofs.Sets.{all-append, all-imp}
 use Rattle.layouts.specs.Layout.{layoutOf, controlAt, counterAt, filtersAt}
 use Rattle.layouts.specs.Writes.{Write, row, rows, zeros, unusable, offcoreWrites, packetWrites, filterWrites, writesFor, store, apply}
 use Rattle.layouts.specs.declared.Settings.{Settings}
-use Rattle.layouts.proofs.JoinedTests.{pick-same}
 use Rattle.layouts.proofs.ListLaws.{all-member, zero-at}
 use Rattle.layouts.proofs.RegisterAddresses.{in-room, apart}
 
@@ -63,6 +62,10 @@ module _ (P : Write → Type 0) (s : CounterSet) (base step : ℕ) (values : Lis
       one : (b : Bool) → has s m ≡ b → All P (row b (base + step * m) (getD values m 0))
       one true e = cons (h m (le-refl (suc m)) e) nil
       one false e = nil
+
+pick-same : {A : Type 0} (b : Bool) (x : A) → pick b x x ≡ x
+pick-same true x = refl
+pick-same false x = refl
 
 module _ (s : CounterSet) (base step : ℕ) (values : List ℕ) where
   after-row : (b : Bool) (address v a x : ℕ) → after (row b address v) a x ≡ pick b (pick (eqb address a) v x) x

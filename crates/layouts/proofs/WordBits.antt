@@ -4,19 +4,16 @@ use mathlib.Core.Logic.{_⊎_, inl, inr, ⊎-elim}
 use mathlib.Core.Bool.{Bool, true, false, not}
 use mathlib.Core.List.{List, [], _∷_}
 use Prim.Native.Nat.{ℕ, zero, suc, _+_, _*_, _-_, _/_, _%_, _^_, _≤_, _<_}
-use native.Mathlib.Nat.{div-div-eq-div-mul, pow-succ', div-eq-of-lt, zero-div, div-lt-iff-lt-mul, div-one, zero-add, suc-add}
+use native.Mathlib.Nat.{pow-succ', div-eq-of-lt, zero-div, div-lt-iff-lt-mul, div-one, zero-add, suc-add}
 use native.Mathlib.Omega.{arith}
 use lib.Dec.{eqb, eqb·suc-suc}
 use lib.Pow.{pow-pos, shr-shr}
 use borrow.Author.Tests.{eqb-false, ne-eqb, ltb-true, lt-ltb}
 use Rattle.requests.specs.Choice.{either}
 use Rattle.requests.specs.Bits.{bit, inList, anyBit, onlyBits}
-use Rattle.requests.proofs.Tests.{both-parts, either-cases}
+use Rattle.requests.proofs.Tests.{either-false, both-parts, either-cases, true-both, either-left, either-right, every-true}
 use Rattle.requests.proofs.BitLists.{reserved}
-use Rattle.layouts.proofs.JoinedTests.{true-both, either-left, either-right, every-true}
-
-pub half-div : (k w : ℕ) → w / 2 ^ suc k ≡ w / 2 / 2 ^ k
-half-div k w = rw pow-succ' (sym (div-div-eq-div-mul w 2 (2 ^ k)))
+use Rattle.requests.proofs.Words.{half-div}
 
 pub bit-zero : (k : ℕ) → bit k 0 ≡ false
 unfolding bit
@@ -40,11 +37,7 @@ unfolding bit either
 bit-more zero zero w l = let e : w ≡ 0 = omega arith in rw e
 bit-more (suc j) zero w l =
     let e : (w + 2 ^ suc j) / 1 % 2 ≡ w / 1 % 2 = rw (div-one (w + 2 ^ suc j), div-one w) (omega (arith, pow-succ' 2 j)) in
-    rw (e, ne-eqb (suc j) 0 (λ q. omega arith)) (go (eqb (w / 1 % 2) 1))
-  where
-    go : (b : Bool) → b ≡ either b false
-    go true = refl
-    go false = refl
+    rw (e, ne-eqb (suc j) 0 (λ q. omega arith)) (sym (either-false (eqb (w / 1 % 2) 1)))
 bit-more zero (suc k) w l =
     let e : w ≡ 0 = omega arith in
     let p : 1 < 2 ^ suc k = omega (arith, pow-succ' 2 k, pow-pos k) in

@@ -2,7 +2,7 @@
 -- usable counters, past which nothing is searched. Assumes nothing.
 use mathlib.Core.Path.{_≡_, refl, ap, sym, _∙_}
 use Prim.Native.Nat.{ℕ, _+_, _≤_}
-use mathlib.Core.Bool.{Bool, true, false, not}
+use mathlib.Core.Bool.{false, not, Bool·not-not}
 use mathlib.Core.List.{List, [], _∷_, _++_}
 use native.Mathlib.Numerals.{add-one}
 use lib.Dec.{eqb}
@@ -70,8 +70,4 @@ searched-rows s rows count r next put back size found e =
 pub plan-alone : (s : Setup) (r : Request) (rows next : List ℕ) → next ≡ setRequest rows 0 r → requestAt next 0 ≡ r
     → (found : ℕ) → found ≡ packed (firstPlan s (rowsFrom next 0 1)) → not (eqb found 0) ≡ hasPlan s (r ∷ [])
 unfolding rowsFrom
-plan-alone s r rows next put back found e = rw (e, rows-put rows next 0 r put back, plan-packed s (r ∷ [])) (double (hasPlan s (r ∷ [])))
-  where
-    double : (b : Bool) → not (not b) ≡ b
-    double true = refl
-    double false = refl
+plan-alone s r rows next put back found e = rw (e, rows-put rows next 0 r put back, plan-packed s (r ∷ [])) (Bool·not-not (hasPlan s (r ∷ [])))

@@ -8,7 +8,7 @@ use native.Mathlib.Omega.{arith}
 use lib.ListN.{length, set, length-append}
 use Rattle.requests.specs.declared.Setup.{Setup}
 use Rattle.requests.specs.declared.Entry.{Entry}
-use Rattle.requests.specs.Devices.{size, capacity}
+use Rattle.requests.specs.Devices.{capacity}
 use Rattle.plans.specs.declared.Place.{Place}
 use Rattle.plans.specs.Legal.{HasPlan}
 use Rattle.plans.specs.Search.{firstPlan, planIn}

@@ -13,6 +13,7 @@ use Rattle.requests.specs.declared.Request.the-variants.{Event, Packet, Offcore
 use Rattle.requests.specs.Choice.{both, pick}
 use Rattle.requests.specs.Bits.{latencyWord}
 use Rattle.requests.specs.Devices.{has, counterCount}
+use Rattle.requests.proofs.Tests.{both-parts, true-both}
 use Rattle.plans.specs.declared.Place.{Place}
 use Rattle.plans.specs.declared.Place.the-variants.{Counter, WithRsp, Pair}
 use Rattle.plans.specs.declared.Register.the-variants.{Unused, Word}
@@ -52,15 +53,6 @@ module _ {A S : Type 0} (ok : S → A → Bool) (put : A → S) (start : S) (any
   same-agree v [] h = tt
   same-agree v (w ∷ ws) (cons h hs) = (free w, put-agree w ws (all-imp (λ x g. g ∙ sym h) hs))
 
-both-true : (x y : Bool) → both x y ≡ true → (x ≡ true) × (y ≡ true)
-unfolding both
-both-true true y e = (refl, e)
-both-true false y e = let z : _≡_ {A = ℕ} 0 1 = cc in absurd (omega arith)
-
-true-both : (x y : Bool) → x ≡ true → y ≡ true → both x y ≡ true
-unfolding both
-true-both x y e f = rw (e, f)
-
 pick-told : (b : Bool) (t k : Room) → pick b (Admitted t) NoRoom ≡ Admitted k → (b ≡ true) × (k ≡ t)
 pick-told true t k e = (refl, (cc))
 pick-told false t k e = let z : _≡_ {A = ℕ} 0 1 = cc in absurd (omega arith)
@@ -84,7 +76,7 @@ module _ (cs v w : List ℕ) (p : List (ℕ × ℕ)) where
   unfolding takeCounter
   counter-can a j m k e h =
       let t = pick-told (both (has a j) (has (m .free) j)) (record { free = less (m .free) j; rsp0 = m .rsp0; rsp1 = m .rsp1; packet = m .packet }) k e in
-      let b = both-true (has a j) (has (m .free) j) (t .0) in
+      let b = both-parts (has a j) (has (m .free) j) (t .0) in
       let g = subst (λ x. Can x cs v w p) (t .1) h in
       ((b .1, g .0), g .1, g .2, g .3)
 
@@ -131,7 +123,7 @@ module _ (cs v w : List ℕ) (p : List (ℕ × ℕ)) where
 counter-allowed : (a : CounterSet) (j : ℕ) (m k : Room) → takeCounter a j m ≡ Admitted k → has a j ≡ true
 unfolding takeCounter
 counter-allowed a j m k e =
-    both-true (has a j) (has (m .free) j) (pick-told (both (has a j) (has (m .free) j)) (record { free = less (m .free) j; rsp0 = m .rsp0; rsp1 = m .rsp1; packet = m .packet }) k e .0) .0
+    both-parts (has a j) (has (m .free) j) (pick-told (both (has a j) (has (m .free) j)) (record { free = less (m .free) j; rsp0 = m .rsp0; rsp1 = m .rsp1; packet = m .packet }) k e .0) .0
 
 abbrev CanAll : Room → List Request → List Place → Type 0
 CanAll m rs ps = Can m (counters ps) (ofAll (wordsOf 0) rs ps) (ofAll (wordsOf 1) rs ps) (flatMap packetsOf rs)
@@ -229,7 +221,7 @@ has-placed s m (and {a = r} {b = p} {s = rs} {t = ps} al rest) b h = place-next 
 
 packet-told : (v w : ℕ × ℕ) → okPacket (putPacket v) w ≡ true → v ≡ w
 packet-told v w e =
-    let b = both-true (eqb (v .0) (w .0)) (eqb (v .1) (w .1)) e in
+    let b = both-parts (eqb (v .0) (w .0)) (eqb (v .1) (w .1)) e in
     let first : v .0 ≡ w .0 = eqb-true _ _ (b .0) in
     let second : v .1 ≡ w .1 = eqb-true _ _ (b .1) in
     λ i. (first i, second i)

@@ -4,7 +4,7 @@ use mathlib.Core.Logic.{_≢_}
 use mathlib.Core.Bool.{true}
 use mathlib.Core.List.{List, [], _∷_, _++_}
 use Prim.Native.Nat.{ℕ, zero, suc, _-_, _/_, _%_, _^_, _≤_}
-use native.Mathlib.Nat.{div-div-eq-div-mul, pow-succ', le-div-iff-mul-le, one-mul}
+use native.Mathlib.Nat.{pow-succ', le-div-iff-mul-le, one-mul}
 use native.Mathlib.Omega.{arith}
 use lib.Dec.{eqb}
 use lib.Pow.{pow-pos}
@@ -12,6 +12,7 @@ use borrow.Author.Tests.{eqb-true}
 use Rattle.requests.specs.declared.CounterSet.{CounterSet}
 use Rattle.requests.specs.Bits.{bit}
 use Rattle.requests.specs.Devices.{has}
+use Rattle.requests.proofs.Words.{half-div}
 use Rattle.plans.specs.Lists.{All, nil, cons, Pairwise, empty, add}
 
 -- a counter that is in the set is one of its bits
@@ -24,9 +25,6 @@ has-le s k h =
 
 half-less : (k s : ℕ) → 2 ^ suc k ≤ s → (s - 2 ^ suc k) / 2 ≡ s / 2 - 2 ^ k
 half-less k s b = omega (arith, pow-succ' 2 k)
-
-half-div : (j s : ℕ) → s / 2 ^ suc j ≡ s / 2 / 2 ^ j
-half-div j s = rw pow-succ' (sym (div-div-eq-div-mul s 2 (2 ^ j)))
 
 bit-other : (k j s : ℕ) → (k ≡ j → ⊥) → s / 2 ^ k % 2 ≡ 1 → 2 ^ k ≤ s → (s - 2 ^ k) / 2 ^ j % 2 ≡ s / 2 ^ j % 2
 bit-other zero zero s d h b = absurd (d refl)

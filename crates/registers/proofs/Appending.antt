@@ -6,13 +6,14 @@ use Prim.Native.Nat.{ℕ, zero, suc, _+_, _*_, _-_, _≤_, _<_}
 use native.Mathlib.Nat.{le-refl}
 use native.Mathlib.Numerals.{add-one}
 use native.Mathlib.Omega.{arith}
-use lib.ListN.{length, getD, set, length-append}
+use lib.ListN.{length, getD, length-append}
 use lib.Seq.{sets, length-sets}
 use Rattle.requests.specs.declared.CounterSet.{CounterSet}
 use Rattle.requests.specs.Choice.{pick}
 use Rattle.requests.specs.Devices.{has, size}
 use Rattle.layouts.specs.Writes.{Write, row, rows, flat}
 use Rattle.layouts.specs.Slices.{Appended}
+use Rattle.layouts.proofs.ListLaws.{sets-append}
 
 flat-append : (xs ys : List Write) → flat (xs ++ ys) ≡ flat xs ++ flat ys
 unfolding flat
@@ -23,12 +24,6 @@ pub length-flat : (ws : List Write) → length (flat ws) ≡ 2 * length ws
 unfolding flat
 length-flat [] = refl
 length-flat (w ∷ ws) = omega (arith, length-flat ws)
-
-sets-append : (l : List ℕ) (i : ℕ) (xs ys : List ℕ) → sets l i (xs ++ ys) ≡ sets (sets l i xs) (i + length xs) ys
-sets-append l i [] ys = ap (λ (k : ℕ). sets l k ys) (let e : i ≡ i + 0 = omega arith in e)
-sets-append l i (x ∷ xs) ys =
-    sets-append (set l i x) (suc i) xs ys
-    ∙ ap (λ (k : ℕ). sets (sets (set l i x) (suc i) xs) k ys) (let e : suc i + length xs ≡ i + suc (length xs) = omega arith in e)
 
 -- stores of the list leave the slice's length
 pub appended : {before after : List ℕ} {at next : ℕ} {ws : List Write} → next ≡ at + 2 * length ws → after ≡ sets before at (flat ws) → Appended before at ws after next

@@ -3,10 +3,8 @@ use mathlib.Core.Path.{_≡_, refl, ap, _∙_}
 use mathlib.Core.List.{List, [], _∷_, _++_, flatMap, map}
 use mathlib.Core.Bool.{Bool, false}
 use Prim.Native.Nat.{ℕ, zero, suc, _+_, _-_, _<_, _≤_, min}
-use native.Mathlib.Numerals.{add-one}
 use native.Mathlib.Omega.{arith}
-use lib.ListN.{length, getD, take, drop, set, replicate, length-take, drop-of-length-le}
-use lib.Seq.{drop-cons, getD-take}
+use lib.ListN.{length, getD, take, drop, set, replicate}
 use Rattle.requests.specs.declared.Device.{Device}
 use Rattle.requests.specs.declared.Request.{Request}
 use Rattle.requests.specs.Choice.{either}
@@ -21,6 +19,7 @@ use Rattle.layouts.specs.Settings.{usesOf, wordAt, setFrom, headOr, nonempty, s
 use Rattle.registers.specs.Adding.{withUses, withPackets, settingsWith}
 use Rattle.registers.proofs.UsedCounters.{setOf, used-more}
 use Rattle.layouts.proofs.Tabulated.{tabulate-set}
+use Rattle.requests.proofs.Windows.{window-past, window-step}
 
 head-more : {A : Type 0} (a : A) (xs ys : List A) → headOr a (xs ++ ys) ≡ headOr (headOr a ys) xs
 head-more a [] ys = refl
@@ -69,14 +68,6 @@ settings-none d = rw (set-none (counterCount d) 0 (inList []) (λ j. refl))
 -- the places from number i on
 abbrev placesFrom : ℕ → ℕ → List Given → List Place
 placesFrom count i gs = map (λ (g : Given). g .place) (drop i (take count gs))
-
-window-step : {A : Type 0} (l : List A) (count i : ℕ) (a : A) → i < count → i < length l → drop i (take count l) ≡ getD l i a ∷ drop (i + 1) (take count l)
-window-step l count i a below within =
-    let inside : i < length (take count l) = rw length-take (omega arith) in
-    rw (drop-cons (take count l) i a inside, add-one, getD-take count l i a below)
-
-window-past : {A : Type 0} (l : List A) (count i : ℕ) → min count (length l) ≤ i → drop i (take count l) ≡ []
-window-past l count i past = drop-of-length-le (take count l) {i = i} (rw length-take past)
 
 module _ (d : Device) (count : ℕ) (rs : List Request) (gs : List Given) where
   -- past the last request

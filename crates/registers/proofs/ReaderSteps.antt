@@ -1,7 +1,6 @@
--- The reader's answer from its tests: the filter registers of each device, the whole of the values, and the opening.
-use mathlib.Core.Path.{_≡_, refl, sym, ap, _∙_}
+-- The reader's answer from its tests: the filter registers of each device, and the whole of the values.
+use mathlib.Core.Path.{_≡_, sym, ap, _∙_}
 use mathlib.Core.Bool.{Bool, true, false, not}
-use mathlib.Core.Option.{Option, none, some}
 use mathlib.Core.List.{List}
 use Prim.Native.Nat.{ℕ, _+_, _%_, _^_}
 use native.Mathlib.Nat.{mod-eq-of-lt}
@@ -12,10 +11,9 @@ use borrow.Author.Tests.{eq-eqb, ne-eqb}
 use Rattle.requests.specs.declared.CounterSet.{CounterSet}
 use Rattle.requests.specs.declared.Device.{Device}
 use Rattle.requests.specs.declared.Device.the-variants.{G, S}
-use Rattle.requests.specs.declared.Opened.the-variants.{With, Nothing}
 use Rattle.requests.specs.declared.Setup.{Setup}
 use Rattle.requests.specs.Choice.{both, every, pick}
-use Rattle.requests.specs.Devices.{counterCount, openedAs}
+use Rattle.requests.specs.Devices.{counterCount}
 use Rattle.layouts.specs.Layout.{mmEnable, rspWord, packetWord}
 use Rattle.layouts.specs.Settings.{setFrom}
 use Rattle.layouts.specs.Writes.{unusable}
@@ -23,12 +21,9 @@ use Rattle.layouts.specs.Read.{ours, count, controlFits, rsp1Fits, rsp0Fits, fi
 use Rattle.layouts.specs.declared.FilterValues.{FilterValues}
 use Rattle.layouts.specs.declared.RegisterValues.{RegisterValues}
 use Rattle.layouts.proofs.CounterSets.{set-below}
+use Rattle.layouts.proofs.UsableSets.{on}
 
 -- ---- the filter registers
-
--- the setup of a device
-abbrev on : Device → CounterSet → Setup
-on d u = record { device = d; usable = u }
 
 module _ (f : ℕ → ℕ) (v : FilterValues) where
   pub filters-G : (d : Device) (u : CounterSet) (n0 n1 : ℕ) → d ≡ G → n0 ≡ count (counterCount d) f (rspWord G 0) → n1 ≡ count (counterCount d) f (rspWord G 1)
@@ -82,15 +77,3 @@ module _ (s : Setup) (v : RegisterValues) (words : List ℕ) (same : (λ k. getD
   pub controls-refused : every limit (λ k. controlFits s (getD words k 0)) ≡ false → false ≡ accepts s v
   unfolding accepts both
   controls-refused fails = rw (sym controls ∙ fails)
-
--- ---- the opening
-
-pub opened-with : (x : Option Setup) (s : Setup) → openedAs x ≡ With s → x ≡ some s
-unfolding openedAs
-opened-with none s e = let z : _≡_ {A = ℕ} 0 1 = cc in absurd (omega arith)
-opened-with (some t) s e = cc
-
-pub opened-nothing : (x : Option Setup) → openedAs x ≡ Nothing → x ≡ none
-unfolding openedAs
-opened-nothing none e = refl
-opened-nothing (some t) e = let z : _≡_ {A = ℕ} 0 1 = cc in absurd (omega arith)

@@ -1,13 +1,13 @@
 -- Lists of bits: joined, and with a bit more that a word has not. Assumes nothing.
 use mathlib.Core.Path.{_≡_, refl, ap, sym, _∙_}
-use mathlib.Core.Bool.{Bool, true, false, not}
+use mathlib.Core.Bool.{Bool, true, false, not, true≢false}
 use mathlib.Core.List.{List, [], _∷_, _++_}
 use Prim.Native.Nat.{ℕ, _<_, _^_}
 use lib.Dec.{eqb, ltb}
 use borrow.Author.Tests.{eqb-true, not-true}
 use Rattle.requests.specs.Choice.{both, either}
 use Rattle.requests.specs.Bits.{bit, inList, anyBit, onlyBits}
-use Rattle.requests.proofs.Tests.{true-not-false, either-false, either-assoc, both-parts, every-same, every-at}
+use Rattle.requests.proofs.Tests.{either-false, either-assoc, both-parts, every-same, every-at}
 
 -- a bit of two lists joined
 pub any-append : (ks js : List ℕ) (w : ℕ) → anyBit (ks ++ js) w ≡ either (anyBit ks w) (anyBit js w)
@@ -29,7 +29,7 @@ only-without ks j w none =
     (every-same 64 (λ k. either (not (bit k w)) (inList (ks ++ (j ∷ [])) k)) (λ k. either (not (bit k w)) (inList ks k)) (λ k l. go k (bit k w) refl))
   where
     last : (k : ℕ) → bit k w ≡ true → (b : Bool) → eqb j k ≡ b → either (inList ks k) (either b false) ≡ inList ks k
-    last k h true e = absurd (true-not-false (sym h ∙ ap (λ (x : ℕ). bit x w) (sym (eqb-true j k e)) ∙ none))
+    last k h true e = absurd (true≢false (sym h ∙ ap (λ (x : ℕ). bit x w) (sym (eqb-true j k e)) ∙ none))
     last k h false e = either-false (inList ks k)
 
     go : (k : ℕ) (b : Bool) → bit k w ≡ b → either (not b) (inList (ks ++ (j ∷ [])) k) ≡ either (not b) (inList ks k)

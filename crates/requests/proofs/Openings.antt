@@ -67,6 +67,17 @@ opened-nothing o e =
     let refused : setupOf o ≡ none = rw (e, setupOf) in
     ap openedAs refused
 
+-- the setup of what was opened
+pub opened-some : (x : Option Setup) (s : Setup) → openedAs x ≡ With s → x ≡ some s
+unfolding openedAs
+opened-some none s e = let z : _≡_ {A = ℕ} 0 1 = cc in absurd (omega arith)
+opened-some (some t) s e = cc
+
+pub opened-none : (x : Option Setup) → openedAs x ≡ Nothing → x ≡ none
+unfolding openedAs
+opened-none none e = refl
+opened-none (some t) e = let z : _≡_ {A = ℕ} 0 1 = cc in absurd (omega arith)
+
 -- the letter that names a device is its own
 pub letter-is : (letter : ℕ) (d : Device) → deviceOf letter ≡ some d → letterOf d ≡ letter
 unfolding deviceOf

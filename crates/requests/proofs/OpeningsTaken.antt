@@ -3,9 +3,7 @@ use mathlib.Core.Path.{_≡_, refl, ap, _∙_}
 use mathlib.Core.Bool.{Bool, true, false}
 use mathlib.Core.Option.{Option, none, some, Option·none-ne-some, Option·some-injective}
 use Prim.Native.Nat.{_≤_}
-use lib.Dec.{ltb, leb}
 use borrow.Author.Tests.{lt-ltb, le-leb, ltb-true, leb-true}
-use Rattle.requests.specs.Choice.{both}
 use Rattle.requests.specs.Devices.{counterCount, allCounters, letterOf, deviceOf, usableSet, setupOf, openingOf}
 use Rattle.requests.specs.Openings.{Opens, Openings}
 use Rattle.requests.specs.declared.CounterSet.{CounterSet}
@@ -14,7 +12,7 @@ use Rattle.requests.specs.declared.Device.the-variants.{G, S}
 use Rattle.requests.specs.declared.Opening.{Opening}
 use Rattle.requests.specs.declared.Setup.{Setup}
 use Rattle.requests.proofs.Openings.{setup-on, opening-is}
-use Rattle.requests.proofs.Tests.{both-parts}
+use Rattle.requests.proofs.Tests.{both-parts, true-both}
 
 -- the letter of a device names it
 letter-names : (d : Device) → deviceOf (letterOf d) ≡ some d
@@ -23,15 +21,15 @@ letter-names G = refl
 letter-names S = refl
 
 -- the test of a usable set, both ways
-set-tested : (d : Device) (u : CounterSet) → 1 ≤ u .0 → u .0 ≤ allCounters d → usableSet d u ≡ true
-unfolding usableSet both
-set-tested d u h k = rw (lt-ltb 0 (u .0) h, le-leb (u .0) (allCounters d) k)
-
 set-bounds : (d : Device) (u : CounterSet) → usableSet d u ≡ true → (1 ≤ u .0) × (u .0 ≤ allCounters d)
 unfolding usableSet
 set-bounds d u h =
-    let parts = both-parts (ltb 0 (u .0)) (leb (u .0) (allCounters d)) h in
+    let parts = both-parts _ _ h in
     (ltb-true 0 (u .0) (parts .0), leb-true (u .0) (allCounters d) (parts .1))
+
+set-tested : (d : Device) (u : CounterSet) → 1 ≤ u .0 → u .0 ≤ allCounters d → usableSet d u ≡ true
+unfolding usableSet
+set-tested d u h k = true-both _ _ (lt-ltb 0 (u .0) h) (le-leb (u .0) (allCounters d) k)
 
 taken : (o : Opening) (s : Setup) → Opens o s → setupOf o ≡ some s
 taken o s h =
@@ -39,9 +37,9 @@ taken o s h =
     setup-on o (s .device) named ∙ rw (set-tested (s .device) (o .usable) (h .at-least) (h .at-most), h .usable)
 
 -- an opening that is taken has a set of the device's counters
-bounds : (o : Opening) (s : Setup) → setupOf o ≡ some s → (1 ≤ s .usable .0) × (s .usable .0 ≤ allCounters (s .device))
+pub usable-bounds : (o : Opening) (s : Setup) → setupOf o ≡ some s → (1 ≤ s .usable .0) × (s .usable .0 ≤ allCounters (s .device))
 unfolding setupOf
-bounds o s e = go (deviceOf (o .device)) refl
+usable-bounds o s e = go (deviceOf (o .device)) refl
   where
     tested : (d : Device) → deviceOf (o .device) ≡ some d → (b : Bool) → usableSet d (o .usable) ≡ b → (1 ≤ s .usable .0) × (s .usable .0 ≤ allCounters (s .device))
     tested d h true k =
@@ -57,7 +55,7 @@ only : (o : Opening) (s : Setup) → setupOf o ≡ some s → Opens o s
 unfolding openingOf
 only o s e =
     let is = opening-is o s e in
-    let within = bounds o s e in
+    let within = usable-bounds o s e in
     rw (← is) (record { device = refl; usable = refl; at-least = within .0; at-most = within .1 })
 
 refused : (o : Opening) → ((s : Setup) → ¬ Opens o s) → setupOf o ≡ none

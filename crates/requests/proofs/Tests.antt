@@ -1,14 +1,12 @@
 -- Laws of tests joined by `both`, `either` and `every`. Assumes nothing.
 use mathlib.Core.Path.{_≡_, refl, ap, ap₂, sym, _∙_}
 use mathlib.Core.Logic.{_⊎_, inl, inr}
-use mathlib.Core.Bool.{Bool, true, false}
+use mathlib.Core.Bool.{Bool, true, false, true≢false, false≢true}
 use Prim.Native.Nat.{ℕ, zero, suc, _<_}
+use native.Mathlib.Nat.{le-refl}
 use native.Mathlib.Decide.{decLt}
 use native.Mathlib.Omega.{arith}
 use Rattle.requests.specs.Choice.{both, either, every}
-
-pub true-not-false : true ≡ false → ⊥
-true-not-false h = let z : _≡_ {A = ℕ} 0 1 = cc in omega arith
 
 pub either-false : (b : Bool) → either b false ≡ b
 unfolding either
@@ -44,12 +42,17 @@ both-swap false b = sym (both-false b)
 pub both-parts : (a b : Bool) → both a b ≡ true → (a ≡ true) × (b ≡ true)
 unfolding both
 both-parts true b h = (refl, h)
-both-parts false b h = absurd (true-not-false (sym h))
+both-parts false b h = absurd (false≢true h)
+
+-- a pair whose tests both hold
+pub true-both : (a b : Bool) → a ≡ true → b ≡ true → both a b ≡ true
+unfolding both
+true-both a b p q = rw (p, q)
 
 -- both tests of a choice that fails
 pub either-parts : (a b : Bool) → either a b ≡ false → (a ≡ false) × (b ≡ false)
 unfolding either
-either-parts true b h = absurd (true-not-false h)
+either-parts true b h = absurd (true≢false h)
 either-parts false b h = (refl, h)
 
 -- one test of a choice that holds
@@ -58,11 +61,27 @@ unfolding either
 either-cases true b e = inl refl
 either-cases false b e = inr e
 
+-- a choice of which one test holds
+pub either-left : (a b : Bool) → a ≡ true → either a b ≡ true
+unfolding either
+either-left a b p = rw p
+
+pub either-right : (a b : Bool) → b ≡ true → either a b ≡ true
+unfolding either
+either-right true b p = refl
+either-right false b p = p
+
 -- tests that agree below n agree on every number below n
 pub every-same : (n : ℕ) (p q : ℕ → Bool) → ((k : ℕ) → k < n → p k ≡ q k) → every n p ≡ every n q
 unfolding every
 every-same zero p q h = refl
 every-same (suc n) p q h = ap₂ both (every-same n p q (λ k l. h k (omega arith))) (h n (omega arith))
+
+-- what holds of each number below n holds of every one
+pub every-true : (n : ℕ) (p : ℕ → Bool) → ((k : ℕ) → k < n → p k ≡ true) → every n p ≡ true
+unfolding every
+every-true zero p h = refl
+every-true (suc n) p h = true-both (every n p) (p n) (every-true n p (λ k l. h k (omega arith))) (h n (le-refl (suc n)))
 
 -- what holds of every number below n holds of each
 pub every-at : (n : ℕ) (p : ℕ → Bool) → every n p ≡ true → (k : ℕ) → k < n → p k ≡ true

@@ -1,7 +1,7 @@
 -- The refusals 7 to 11 refuse exactly the requests that the paragraphs do not describe. Assumes nothing.
 use mathlib.Core.Path.{_≡_, refl, ap, sym, _∙_}
 use mathlib.Core.Logic.{inl, inr}
-use mathlib.Core.Bool.{Bool, true, false, not}
+use mathlib.Core.Bool.{Bool, true, false, not, true≢false, false≢true}
 use mathlib.Core.List.{List, [], _∷_}
 use Prim.Native.Nat.{ℕ, _≤_}
 use lib.Dec.{eqb, lit<}
@@ -18,7 +18,7 @@ use Rattle.requests.specs.declared.Device.the-variants.{G, S}
 use Rattle.requests.specs.declared.Setup.{Setup}
 use Rattle.requests.specs.declared.Request.{Request}
 use Rattle.requests.specs.declared.Request.the-variants.{Event, Packet, Offcore, Latency}
-use Rattle.requests.proofs.Tests.{true-not-false, both-false, either-parts}
+use Rattle.requests.proofs.Tests.{both-false, either-parts}
 use Rattle.requests.proofs.BitLists.{only-without, reserved}
 use Rattle.requests.proofs.Passes.{Passes, passes, formed-by}
 
@@ -79,7 +79,7 @@ event-passes d c m a pair counters =
 
 only-s : (d : Device) (x y : ℕ) (a : CounterSet) → kindNotOn d (Packet x y a) ≡ false → d ≡ S
 unfolding kindNotOn
-only-s G x y a h = absurd (true-not-false h)
+only-s G x y a h = absurd (true≢false h)
 only-s S x y a h = refl
 
 packet-passes : (d : Device) (x y : ℕ) (a : CounterSet) → d ≡ S → a .0 ≤ allCounters d → Passes d (Packet x y a)
@@ -91,14 +91,15 @@ packet-passes d x y a s counters = record { kind = rw s; listed = refl; in-range
 offcore-on-g : (d : Device) (w : ℕ) (a : CounterSet) → kindNotOn d (Offcore w a) ≡ false → d ≡ G
 unfolding kindNotOn
 offcore-on-g G w a h = refl
-offcore-on-g S w a h = absurd (true-not-false h)
+offcore-on-g S w a h = absurd (true≢false h)
 
 -- without bit 38, the permitted bits are those of RSP1
 rsp1-bits : (w : ℕ) → bit outstanding w ≡ false → onlyBits rsp0Bits w ≡ onlyBits rsp1Bits w
 unfolding rsp0Bits
 rsp1-bits w none = only-without rsp1Bits outstanding w none
 
-no-outstanding : (w : ℕ) → onlyBits rsp1Bits w ≡ true → bit outstanding w ≡ false
+-- a word with bits of RSP1 only has not bit 38
+pub no-outstanding : (w : ℕ) → onlyBits rsp1Bits w ≡ true → bit outstanding w ≡ false
 unfolding inList rsp1Bits typeBits anyResponse answerBits outstanding either
 no-outstanding w only = reserved rsp1Bits outstanding w (lit< tt) refl only
 
@@ -115,8 +116,8 @@ module _ (w : ℕ) (none : bit outstanding w ≡ false) where
       go : (x : Bool) → bit anyResponse w ≡ x → (y : Bool) → anyBit answerBits w ≡ y → OneResponse w
       go true p false q = inl (p, q)
       go false p true q = inr (p, q)
-      go true p true q = absurd (true-not-false (rw (p, q) at few))
-      go false p false q = absurd (true-not-false (sym (rw (p, none, q) at some)))
+      go true p true q = absurd (true≢false (rw (p, q) at few))
+      go false p false q = absurd (false≢true (rw (p, none, q) at some))
 
   response-tests : OneResponse w → (anyBit (anyResponse ∷ outstanding ∷ answerBits) w ≡ true) × (both (anyBit (anyResponse ∷ []) w) (anyBit answerBits w) ≡ false)
   unfolding anyBit either both
@@ -153,7 +154,7 @@ offcore-passes d w a g only types one counters =
 latency-on-g : (d : Device) (t : ℕ) (a b : CounterSet) → kindNotOn d (Latency t a b) ≡ false → d ≡ G
 unfolding kindNotOn
 latency-on-g G t a b h = refl
-latency-on-g S t a b h = absurd (true-not-false h)
+latency-on-g S t a b h = absurd (true≢false h)
 
 latency-passes : (d : Device) (t : ℕ) (a b : CounterSet) → d ≡ G → onlyBits typeBits t ≡ true → anyBit typeBits t ≡ true → a .0 ≤ allCounters d → b .0 ≤ allCounters d
     → Passes d (Latency t a b)

@@ -2,7 +2,7 @@
 use mathlib.Core.Path.{_≡_, refl, ap, sym, _∙_}
 use mathlib.Core.Bool.{Bool, true, false, not}
 use Prim.Native.Nat.{ℕ, zero, suc, _+_, _*_, _/_, _%_, _^_, _<_, _≤_, min}
-use native.Mathlib.Nat.{div-eq-of-lt, lt-of-lt-of-le, lt-of-le-of-lt, zero-min, min-le-left, mod-lt}
+use native.Mathlib.Nat.{div-div-eq-div-mul, pow-succ', div-eq-of-lt, lt-of-lt-of-le, lt-of-le-of-lt, zero-min, min-le-left, mod-lt}
 use native.Mathlib.Omega.{arith}
 use lib.Arith.{digits-mod}
 use lib.Bits.{bitAnd, and-step, and-shr}
@@ -17,6 +17,10 @@ use Rattle.requests.proofs.Tests.{either-false, either-true, both-false
 pub bit-past : (k w : ℕ) → w < 2 ^ 64 → 64 ≤ k → bit k w ≡ false
 unfolding bit
 bit-past k w fits l = rw (div-eq-of-lt (lt-of-lt-of-le fits (pow-mono l)))
+
+-- without its lowest bit, a word has its others one place lower
+pub half-div : (k w : ℕ) → w / 2 ^ suc k ≡ w / 2 / 2 ^ k
+half-div k w = rw pow-succ' (sym (div-div-eq-div-mul w 2 (2 ^ k)))
 
 -- the digit of a bit
 pub digit-true : (k w : ℕ) → bit k w ≡ true → w / 2 ^ k % 2 ≡ 1

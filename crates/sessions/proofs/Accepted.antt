@@ -4,7 +4,8 @@
 --     accepted-turn    row 14 does not apply to an accepted turn
 use mathlib.Core.Path.{_≡_, refl, sym, _∙_}
 use mathlib.Core.List.{List, [], _∷_}
-use mathlib.Core.Bool.{false}
+use mathlib.Core.Bool.{false, false≢true}
+use mathlib.Mathlib.Data.Bool.Basic.{eq-false-of-not-eq-true, eq-true-of-not-eq-false}
 use mathlib.Core.Option.{Option, none, some}
 use Prim.Native.Nat.{ℕ, _*_, _≤_, _<_}
 use native.Mathlib.Nat.{lt-of-not-le}
@@ -17,16 +18,14 @@ use Rattle.requests.specs.Choice.{firstHolding}
 use Rattle.requests.specs.Devices.{setupOf}
 use Rattle.requests.specs.Checks.{kindNotOn, notListed, outOfRange, incomplete, conflicting, requestRows, requestRefusal, Formed}
 use Rattle.plans.specs.Legal.{HasPlan}
-use Rattle.plans.specs.Search.{hasPlan}
 use Rattle.layouts.specs.Writes.{writes}
 use Rattle.sessions.specs.Turns.{requestsOf, taken, placesOf}
 use Rattle.sessions.specs.Calls.{Open, Add, Turn, notOpen, opened, waits}
-use Rattle.sessions.specs.Table.{outsideIds, refusal}
+use Rattle.sessions.specs.Table.{refusal}
 use Rattle.sessions.specs.RefusalTable.{IsId, Applies, no-setup, add-id, id-waits, kind, not-listed, lacks, range, conflict, alone, full, short}
-use Rattle.sessions.proofs.Tests.{false-true, false-unless, true-unless, le-of-not-lt}
 use Rattle.plans.proofs.PlanTestHolds.{plan-test}
 use Rattle.sessions.proofs.TakenPlan.{taken-first}
-use Rattle.sessions.proofs.Conditions.{outside, inside, waits-yes}
+use Rattle.sessions.proofs.Conditions.{le-of-not-lt, outside, inside, waits-yes}
 use Rattle.sessions.proofs.Rows.{refusal-table}
 
 -- ---- open
@@ -57,20 +56,20 @@ module _ (limit : ℕ) (s : Setup) (q : List Entry) where
     unfolding requestRefusal requestRows firstHolding
     request-formed =
         rw (
-          false-unless (kindNotOn (s .device) r) (λ h. no-row 7 (kind h)),
-          false-unless (notListed (s .device) r) (λ h. no-row 8 (not-listed h)),
-          false-unless (outOfRange (s .device) r) (λ h. no-row 10 (range h)),
-          false-unless (incomplete (s .device) r) (λ h. no-row 9 (lacks h)),
-          false-unless (conflicting (s .device) r) (λ h. no-row 11 (conflict h)),
+          eq-false-of-not-eq-true {b = kindNotOn (s .device) r} (λ h. no-row 7 (kind h)),
+          eq-false-of-not-eq-true {b = notListed (s .device) r} (λ h. no-row 8 (not-listed h)),
+          eq-false-of-not-eq-true {b = outOfRange (s .device) r} (λ h. no-row 10 (range h)),
+          eq-false-of-not-eq-true {b = incomplete (s .device) r} (λ h. no-row 9 (lacks h)),
+          eq-false-of-not-eq-true {b = conflicting (s .device) r} (λ h. no-row 11 (conflict h)),
         )
 
     pub accepted-add : AcceptedAdd limit s q id r
     accepted-add =
         record {
-          is-id = inside id (false-unless (outsideIds id) (λ h. no-row 4 (add-id (outside id h))));
-          new = false-unless (waits id q) (λ h. no-row 5 (id-waits (waits-yes id q h)));
+          is-id = inside id (eq-false-of-not-eq-true (λ h. no-row 4 (add-id (outside id h))));
+          new = eq-false-of-not-eq-true (λ h. no-row 5 (id-waits (waits-yes id q h)));
           formed = request-formed;
-          plan = plan-test .has-plan s (r ∷ []) (true-unless (hasPlan s (r ∷ [])) (λ h. no-row 12 (alone (λ p. false-true (sym h ∙ plan-test .planned s (r ∷ []) p)))));
+          plan = plan-test .has-plan s (r ∷ []) (eq-true-of-not-eq-false (λ h. no-row 12 (alone (λ p. false≢true (sym h ∙ plan-test .planned s (r ∷ []) p)))));
           room = lt-of-not-le (λ l. no-row 13 (full l));
         }
 

@@ -22,6 +22,7 @@ use Rattle.sessions.specs.Plain.{removed, unlessRefused, change, step, r
 use Rattle.sessions.specs.Sessions.{queueLimit, vacant, queued, padded, sessionOf, plainOf, refusedBy, answered, openOf, addOf, dropOf, turnAnswer, turnOf, answerTo, nextSession, sessionAfter, queueAfter}
 use Rattle.sessions.specs.Agreement.{Agreement}
 use Rattle.sessions.specs.declared.Session.{Session}
+use Rattle.sessions.proofs.TableAnswers.{plain-closed}
 
 -- a queue is read back from its array
 stored : (q : List Entry) → take (length q) (padded q) ≡ q
@@ -94,12 +95,8 @@ unfolding sessionAfter run
 after-is s [] = refl
 after-is s (c ∷ cs) = after-is (nextSession s c) cs ∙ ap (λ (p : Plain). run queueLimit p cs) (next-is s c)
 
-pub not-open : (s : Session) → s .opened ≡ false → plainOf s ≡ notOpen
-unfolding plainOf
-not-open s h = rw h
-
 same : (s : Session) → s .opened ≡ false → (calls : List Call) → plainOf (sessionAfter s calls) ≡ queueAfter calls
-same s h calls = after-is s calls ∙ ap (λ (p : Plain). run queueLimit p calls) (not-open s h)
+same s h calls = after-is s calls ∙ ap (λ (p : Plain). run queueLimit p calls) (plain-closed s h)
 
 answers : (s : Session) → s .opened ≡ false → (calls : List Call) (c : Call) → answerTo (sessionAfter s calls) c ≡ answerFor (refusal queueLimit (queueAfter calls) c)
 unfolding refusedBy

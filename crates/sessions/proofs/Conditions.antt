@@ -3,7 +3,7 @@
 use mathlib.Core.Path.{_≡_, refl, ap, sym, subst, _∙_}
 use mathlib.Core.List.{List, [], _∷_, map, List·Memᴰ·head, List·Memᴰ·tail, List·Memᴰ·cases-cons, List·Memᴰ·not-nil}
 use mathlib.Core.Logic.{_⊎_, inl, inr}
-use mathlib.Core.Bool.{true, false, not}
+use mathlib.Core.Bool.{true, false, not, false≢true}
 use mathlib.Core.Option.{Option, none, some}
 use Prim.Native.Nat.{ℕ, zero, suc, _*_, _≤_, _<_}
 use native.Mathlib.Nat.{lt-of-not-le}
@@ -19,17 +19,19 @@ use Rattle.requests.specs.Choice.{either, isSome}
 use Rattle.requests.specs.Devices.{setupOf}
 use Rattle.plans.specs.declared.Place.{Place}
 use Rattle.plans.specs.Legal.{HasPlan}
-use Rattle.requests.proofs.Tests.{either-cases}
+use Rattle.requests.proofs.Tests.{either-parts, either-cases}
 use Rattle.plans.proofs.FirstFound.{first-plan}
 use Rattle.layouts.specs.Writes.{writes}
 use Rattle.sessions.specs.Turns.{requestsOf, taken, placesOf, writesOf}
 use Rattle.sessions.specs.Calls.{Open, Add, Drop, Turn, notOpen, opened, waiting, waits}
 use Rattle.sessions.specs.Table.{badOpening, outsideIds, badId, idWaiting, idNotWaiting, noPlanAlone, queueFull, sliceTooShort}
 use Rattle.sessions.specs.RefusalTable.{IsId, Waits, Applies, no-setup, add-id, drop-id, id-waits, id-not-waits, alone, full, short}
-use Rattle.sessions.proofs.Tests.{false-true, either-false, le-of-not-lt}
 use Rattle.sessions.proofs.Fair.{Exact}
 use Rattle.plans.proofs.PlanTestHolds.{plan-test}
 use Rattle.sessions.proofs.TakenPlan.{taken-first}
+
+pub le-of-not-lt : {m n : ℕ} → ¬ (n < m) → m ≤ n
+le-of-not-lt h = omega (arith, lt-of-not-le h)
 
 -- ---- ids
 
@@ -48,7 +50,7 @@ outside id e i = go (either-cases (eqb id 0) (ltb 65535 id) e)
 
 pub inside : (id : ℕ) → outsideIds id ≡ false → IsId id
 unfolding outsideIds
-inside id e = let t = either-false (eqb id 0) (ltb 65535 id) e in (positive id (eqb-false id 0 (t .0)), ltb-false 65535 id (t .1))
+inside id e = let t = either-parts (eqb id 0) (ltb 65535 id) e in (positive id (eqb-false id 0 (t .0)), ltb-false 65535 id (t .1))
   where
     positive : (n : ℕ) → ¬ (n ≡ 0) → 1 ≤ n
     positive zero h = absurd (h refl)
@@ -56,7 +58,7 @@ inside id e = let t = either-false (eqb id 0) (ltb 65535 id) e in (positive id (
 
 pub waits-yes : (id : ℕ) (q : List Entry) → waits id q ≡ true → Waits id q
 unfolding waits
-waits-yes id [] e = false-true e
+waits-yes id [] e = absurd (false≢true e)
 waits-yes id (x ∷ q) e = go (either-cases (eqb id (x .id)) (waits id q) e) (waits-yes id q)
   where
     go : (eqb id (x .id) ≡ true) ⊎ (waits id q ≡ true) → (waits id q ≡ true → Waits id q) → Waits id (x ∷ q)
@@ -66,10 +68,10 @@ waits-yes id (x ∷ q) e = go (either-cases (eqb id (x .id)) (waits id q) e) (wa
 waits-no : (id : ℕ) (q : List Entry) → waits id q ≡ false → Waits id q → ⊥
 unfolding waits
 waits-no id [] e m = List·Memᴰ·not-nil m
-waits-no id (x ∷ q) e m = go (List·Memᴰ·cases-cons m) (waits-no id q (either-false (eqb id (x .id)) (waits id q) e .1))
+waits-no id (x ∷ q) e m = go (List·Memᴰ·cases-cons m) (waits-no id q (either-parts (eqb id (x .id)) (waits id q) e .1))
   where
     go : (id ≡ x .id) ⊎ Waits id q → (Waits id q → ⊥) → ⊥
-    go (inl h) below = eqb-false id (x .id) (either-false (eqb id (x .id)) (waits id q) e .0) h
+    go (inl h) below = eqb-false id (x .id) (either-parts (eqb id (x .id)) (waits id q) e .0) h
     go (inr n) below = below n
 
 -- ---- the rows
@@ -81,10 +83,10 @@ setup-exact limit o = record { holds = λ e. no-setup (setup-none (setupOf o) e)
   where
     setup-none : (x : Option Setup) → not (isSome x) ≡ true → x ≡ none
     setup-none none e = refl
-    setup-none (some t) e = false-true e
+    setup-none (some t) e = absurd (false≢true e)
 
     setup-some : Applies limit notOpen (Open o) 3 → isSome (setupOf o) ≡ true → ⊥
-    setup-some (no-setup e) h = false-true (sym (ap (λ (x : Option Setup). isSome x) e) ∙ h)
+    setup-some (no-setup e) h = false≢true (sym (ap (λ (x : Option Setup). isSome x) e) ∙ h)
 
 module _ (limit : ℕ) (s : Setup) (q : List Entry) where
   -- 4: id 0 or above 65535
@@ -132,7 +134,7 @@ module _ (limit : ℕ) (s : Setup) (q : List Entry) where
   no-plan-refuses id r n = ap not (plan-test .unplanned s (r ∷ []) n)
 
   pub alone-exact : (id : ℕ) (r : Request) → Exact (noPlanAlone (opened s q) (Add id r)) (Applies limit (opened s q) (Add id r) 12)
-  alone-exact id r = record { holds = λ e. alone (λ p. false-true (sym (plan-passes id r p) ∙ e)); fails = λ e a. false-true (sym e ∙ no-plan-refuses id r (fact a)) }
+  alone-exact id r = record { holds = λ e. alone (λ p. false≢true (sym (plan-passes id r p) ∙ e)); fails = λ e a. false≢true (sym e ∙ no-plan-refuses id r (fact a)) }
     where
       fact : Applies limit (opened s q) (Add id r) 12 → ¬ HasPlan s (r ∷ [])
       fact (alone n) = n
@@ -148,7 +150,7 @@ module _ (limit : ℕ) (s : Setup) (q : List Entry) where
 
   pub full-exact : (id : ℕ) (r : Request) → Exact (queueFull limit (opened s q) (Add id r)) (Applies limit (opened s q) (Add id r) 13)
   full-exact id r =
-      record { holds = λ e. full (le-of-not-lt (λ l. false-true (sym (room-passes id r l) ∙ e))); fails = λ e a. false-true (sym e ∙ full-refuses id r (fact a)) }
+      record { holds = λ e. full (le-of-not-lt (λ l. false≢true (sym (room-passes id r l) ∙ e))); fails = λ e a. false≢true (sym e ∙ full-refuses id r (fact a)) }
     where
       fact : Applies limit (opened s q) (Add id r) 13 → limit ≤ length q
       fact (full l) = l
@@ -168,8 +170,8 @@ module _ (limit : ℕ) (s : Setup) (q : List Entry) where
   pub short-exact : (room : ℕ) → Exact (sliceTooShort (opened s q) (Turn room)) (Applies limit (opened s q) (Turn room) 14)
   short-exact room =
       record {
-        holds = λ e. short (taken-first s q) (lt-of-not-le (λ l. false-true (sym (long-passes room l) ∙ e)));
-        fails = λ e a. false-true (sym e ∙ short-refuses room (fact a));
+        holds = λ e. short (taken-first s q) (lt-of-not-le (λ l. false≢true (sym (long-passes room l) ∙ e)));
+        fails = λ e a. false≢true (sym e ∙ short-refuses room (fact a));
       }
     where
       fact : Applies limit (opened s q) (Turn room) 14 → room < needed

@@ -11,6 +11,7 @@ use native.Mathlib.Omega.{arith}
 use lib.ListN.{length, take, length-append}
 use Rattle.requests.specs.declared.Setup.{Setup}
 use Rattle.requests.specs.declared.Entry.{Entry}
+use Rattle.layouts.proofs.ListLaws.{all-member}
 use Rattle.sessions.specs.Calls.{Call, Plain, notOpen, opened, waiting}
 use Rattle.sessions.specs.Plain.{run}
 use Rattle.sessions.specs.Sessions.{queueLimit, plainOf, sessionAfter}
@@ -18,8 +19,9 @@ use Rattle.sessions.specs.Completed.{CompletedTurn, turnsOf}
 use Rattle.sessions.specs.Demand3.{InOneOf, Dropped, Promise, Demand3}
 use Rattle.sessions.specs.Demand3From.{Demand3From}
 use Rattle.sessions.specs.declared.Session.{Session}
-use Rattle.sessions.proofs.Lists.{all-at, map-member, among}
-use Rattle.sessions.proofs.Agreed.{after-is, not-open}
+use Rattle.sessions.proofs.Lists.{map-member, among}
+use Rattle.sessions.proofs.Agreed.{after-is}
+use Rattle.sessions.proofs.TableAnswers.{plain-closed}
 use Rattle.sessions.proofs.SoundKept.{SoundIn, sound-run}
 use Rattle.sessions.proofs.Settled.{TakenAt, Settled}
 use Rattle.sessions.proofs.Waiting.{Ahead, bound}
@@ -37,7 +39,7 @@ promised e p session same after n (inr o) =
     go found =
         let t : CompletedTurn = found .0 in
         let takes : TakenAt queueLimit e (stateOf t) = subst (TakenAt queueLimit e) (found .2) (o .serves) in
-        let planned : Planned t = all-at (plans-are p session same after) (among (suc n) (turnsOf p session after) (found .1)) in
+        let planned : Planned t = all-member (plans-are p session same after) (among (suc n) (turnsOf p session after) (found .1)) in
         record { turn = t; member = found .1; in-plan = in-plan queueLimit t e planned (takes .sound) (takes .member) }
 
 -- a plain queue in which something waits is open
@@ -67,4 +69,4 @@ pub demand3-from : Demand3From
 demand3-from session s q same sound = from-start (opened s q) session same sound
 
 pub demand3 : Demand3
-demand3 session closed = from-start notOpen session (not-open session closed) tt
+demand3 session closed = from-start notOpen session (plain-closed session closed) tt

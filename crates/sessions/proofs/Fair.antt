@@ -4,7 +4,7 @@
 --     fair-some, fair-none  what the first row that holds then says, and what it says that none does
 use mathlib.Core.Path.{_≡_, refl, ap, sym, subst, _∙_}
 use mathlib.Core.List.{List, [], _∷_}
-use mathlib.Core.Bool.{Bool, true, false}
+use mathlib.Core.Bool.{Bool, true, false, false≢true}
 use mathlib.Core.Option.{none, some, Option·none-ne-some, Option·some-injective}
 use Prim.Native.Nat.{ℕ}
 use lib.Dec.{eqb}
@@ -13,7 +13,6 @@ use Rattle.requests.specs.declared.Refusal.{Refusal}
 use Rattle.requests.specs.Refusals.{numberOf, inFront}
 use Rattle.requests.specs.Choice.{pick, Row, firstHolding}
 use Rattle.plans.specs.Lists.{All, nil, cons}
-use Rattle.sessions.proofs.Tests.{false-true}
 
 pub record Exact (condition : Bool) (A : Type 0) : Type 0 where
   pub holds : condition ≡ true → A
@@ -21,7 +20,7 @@ pub record Exact (condition : Bool) (A : Type 0) : Type 0 where
 
 -- a row that never applies has the condition false
 pub never : {A : Type 0} → (A → ⊥) → Exact false A
-never n = record { holds = λ e. false-true e; fails = λ e. n }
+never n = record { holds = λ e. absurd (false≢true e); fails = λ e. n }
 
 pub data Fair (A : ℕ → Type 0) : List (Row Refusal) → List ℕ → Type 0 where
   end : Fair A [] []

@@ -3,7 +3,7 @@
 --     in-plan         so a completed turn's plan has every entry that the turn takes
 use mathlib.Core.Path.{_≡_, refl, ap, sym}
 use mathlib.Core.Logic.{_⊎_, inl, inr}
-use mathlib.Core.List.{List, [], _∷_, map, map-append, List·Memᴰ, List·Memᴰ·head, List·Memᴰ·tail, List·Memᴰ·not-nil, List·Memᴰ·cases-cons}
+use mathlib.Core.List.{List, [], _∷_, map, map-append, List·Memᴰ, Memᴰ·map, List·Memᴰ·head, List·Memᴰ·tail, List·Memᴰ·not-nil, List·Memᴰ·cases-cons}
 use Prim.Native.Nat.{ℕ}
 use Rattle.requests.specs.declared.Setup.{Setup}
 use Rattle.requests.specs.declared.Entry.{Entry}
@@ -11,13 +11,14 @@ use Rattle.plans.specs.declared.Place.{Place}
 use Rattle.plans.specs.Lists.{add, Each, and}
 use Rattle.plans.specs.Places.{countersOf}
 use Rattle.plans.specs.Legal.{Allowed, counters}
+use Rattle.layouts.proofs.ListLaws.{all-member}
 use Rattle.sessions.specs.Turns.{requestsOf, taken, passed, turned, placesOf, assign}
 use Rattle.sessions.specs.DistinctIds.{Distinct}
 use Rattle.sessions.specs.Sound.{Sound}
 use Rattle.sessions.specs.Completed.{CompletedTurn}
 use Rattle.sessions.specs.Demand3.{InPlan}
 use Rattle.sessions.specs.declared.Assigned.{Assigned}
-use Rattle.sessions.proofs.Lists.{all-at, all-joined, member-map, pairwise-right}
+use Rattle.sessions.proofs.Lists.{all-joined, pairwise-right}
 use Rattle.sessions.proofs.TakenPlan.{taken-first}
 use Rattle.sessions.proofs.SoundKept.{sound-turned}
 use Rattle.sessions.proofs.Plans.{Planned}
@@ -55,11 +56,11 @@ assign-gives (x ∷ es) (p ∷ ps) e (and a each) (add h d) m = go (List·Memᴰ
     -- the first entry's id has no other place
     first-only : e ≡ x → (other : Place) → (withPlace e other ≡ withPlace x p) ⊎ List·Memᴰ (withPlace e other) (assign es ps) → other ≡ p
     first-only k other (inl r) = ap (λ (y : Assigned). y .place) r
-    first-only k other (inr n) = absurd (all-at h (assigned-id es ps (withPlace e other) n) (ap (λ (y : Entry). y .id) (sym k)))
+    first-only k other (inr n) = absurd (all-member h (assigned-id es ps (withPlace e other) n) (ap (λ (y : Entry). y .id) (sym k)))
 
     -- nor has the id of a later entry
     later-only : List·Memᴰ e es → (g : Gives es ps e) (other : Place) → (withPlace e other ≡ withPlace x p) ⊎ List·Memᴰ (withPlace e other) (assign es ps) → other ≡ g .place
-    later-only n g other (inl r) = absurd (all-at h (member-map (λ (y : Entry). y .id) n) (sym (ap (λ (y : Assigned). y .id) r)))
+    later-only n g other (inl r) = absurd (all-member h (Memᴰ·map (λ (y : Entry). y .id) n) (sym (ap (λ (y : Assigned). y .id) r)))
     later-only n g other (inr k) = g .only other k
 
     go : (e ≡ x) ⊎ List·Memᴰ e es → (List·Memᴰ e es → Gives es ps e) → Gives (x ∷ es) (p ∷ ps) e

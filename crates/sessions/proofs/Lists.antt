@@ -1,5 +1,5 @@
 -- Facts of lists that the queue's laws share. Assumes nothing.
-use mathlib.Core.Path.{_≡_, refl, ap, sym, subst}
+use mathlib.Core.Path.{_≡_, refl}
 use mathlib.Core.Logic.{_⊎_, inl, inr}
 use mathlib.Core.List.{List, [], _∷_, _++_, map, flatMap, List·Memᴰ, List·Memᴰ·head, List·Memᴰ·tail, List·Memᴰ·not-nil, List·Memᴰ·cases-cons}
 use Prim.Native.Nat.{ℕ, zero, suc}
@@ -21,10 +21,6 @@ module _ {A : Type 0} {P : A → Type 0} where
   all-left [] b p = nil
   all-left (x ∷ a) b (cons h p) = cons h (all-left a b p)
 
-  pub all-at : {l : List A} {a : A} → All P l → List·Memᴰ a l → P a
-  all-at (cons h hs) (List·Memᴰ·head e) = subst P (sym e) h
-  all-at (cons h hs) (List·Memᴰ·tail m) = all-at hs m
-
 -- ---- a function of each element
 
 module _ {A B : Type 0} (f : A → B) where
@@ -43,10 +39,6 @@ module _ {A B : Type 0} (f : A → B) where
   pub map-pairwise : {R : B → B → Type 0} (l : List A) → Pairwise R (map f l) → Pairwise (λ (a b : A). R (f a) (f b)) l
   map-pairwise [] empty = empty
   map-pairwise (x ∷ l) (add h p) = add (map-all l h) (map-pairwise l p)
-
-  pub member-map : {l : List A} {a : A} → List·Memᴰ a l → List·Memᴰ (f a) (map f l)
-  member-map (List·Memᴰ·head e) = List·Memᴰ·head (ap f e)
-  member-map (List·Memᴰ·tail m) = List·Memᴰ·tail (member-map m)
 
   -- one of the first n of the values belongs to one of the first n elements
   pub map-member : (n : ℕ) (l : List A) {b : B} → List·Memᴰ b (take n (map f l)) → (a : A) × List·Memᴰ a (take n l) × (b ≡ f a)

@@ -13,9 +13,10 @@ use lib.ListN.{length}
 use borrow.Author.Tests.{eq-eqb, ne-eqb}
 use Rattle.requests.specs.declared.Entry.{Entry}
 use Rattle.plans.specs.Lists.{All, nil, cons, Pairwise, empty, add}
+use Rattle.layouts.proofs.ListLaws.{all-member}
 use Rattle.sessions.specs.Plain.{removed}
 use Rattle.sessions.specs.DistinctIds.{Distinct}
-use Rattle.sessions.proofs.Lists.{all-at, map-all}
+use Rattle.sessions.proofs.Lists.{map-all}
 
 module _ (id : ℕ) where
   removed-none : removed id [] ≡ []
@@ -72,5 +73,5 @@ pub removed-one : (ahead behind : List Entry) (e : Entry) → Distinct (ahead ++
 removed-one [] behind e (add h d) =
     removed-same (e .id) e behind (eq-eqb (e .id) (e .id) refl) ∙ removed-absent (e .id) behind (map-all (λ (x : Entry). x .id) behind h)
 removed-one (x ∷ ahead) behind e (add h d) =
-    let apart : x .id ≢ e .id = all-at (map-all (λ (y : Entry). y .id) (ahead ++ e ∷ behind) h) (Memᴰ·append-right ahead (List·Memᴰ·head refl)) in
+    let apart : x .id ≢ e .id = all-member (map-all (λ (y : Entry). y .id) (ahead ++ e ∷ behind) h) (Memᴰ·append-right ahead (List·Memᴰ·head refl)) in
     removed-other (e .id) x (ahead ++ e ∷ behind) (ne-eqb (e .id) (x .id) (λ same. apart (sym same))) ∙ ap (λ (l : List Entry). x ∷ l) (removed-one ahead behind e d)

@@ -4,7 +4,7 @@
 --     refusal-table    so the table says what document 01 says
 use mathlib.Core.Path.{_≡_, refl, sym, subst, _∙_}
 use mathlib.Core.List.{List, [], _∷_, map, List·Memᴰ, List·Memᴰ·head, List·Memᴰ·tail}
-use mathlib.Core.Bool.{true}
+use mathlib.Core.Bool.{true, false, false≢true}
 use mathlib.Core.Option.{none, some, Option·none-ne-some, Option·some-injective}
 use Prim.Native.Nat.{ℕ, zero, suc, _<_}
 use native.Mathlib.Omega.{arith}
@@ -14,7 +14,7 @@ use Rattle.requests.specs.declared.Setup.{Setup}
 use Rattle.requests.specs.declared.Request.{Request}
 use Rattle.requests.specs.declared.Entry.{Entry}
 use Rattle.requests.specs.declared.Refusal.{Refusal}
-use Rattle.requests.specs.declared.Refusal.the-variants.{CallOrder}
+use Rattle.requests.specs.declared.Refusal.the-variants.{CallOrder, NoPlanAlone, QueueFull}
 use Rattle.requests.specs.Refusals.{numberOf, checkOrder, inFront, checkedBefore}
 use Rattle.requests.specs.Choice.{Row, firstHolding}
 use Rattle.requests.specs.Checks.{kindNotOn, notListed, incomplete, outOfRange, conflicting, requestRows}
@@ -23,8 +23,7 @@ use Rattle.sessions.specs.Calls.{Call, Open, Add, Drop, Turn, Plain, not
 use Rattle.sessions.specs.Table.{callOrder, badOpening, badId, idWaiting, idNotWaiting, addRows, noPlanAlone, queueFull, sliceTooShort, table, refusal}
 use Rattle.sessions.specs.Sessions.{queueLimit}
 use Rattle.sessions.specs.RefusalTable.{Applies, add-before, drop-before, turn-before, second-open, no-setup, add-id, drop-id, id-waits, id-not-waits, kind, not-listed, lacks, range, conflict, alone, full, short, RefusalTable}
-use Rattle.sessions.proofs.Tests.{false-true}
-use Rattle.sessions.proofs.Lists.{all-at}
+use Rattle.layouts.proofs.ListLaws.{all-member}
 use Rattle.sessions.proofs.Fair.{never, Fair, end, row, skip, fair-some, fair-none}
 use Rattle.sessions.proofs.Conditions.{setup-exact, id-exact-add, id-exact-drop, waits-exact, not-waits-exact, alone-exact, full-exact, short-exact}
 
@@ -36,6 +35,12 @@ in-order limit s q id r = refl
 abbrev Rows : ℕ → Plain → Call → Type 0
 Rows limit p c = Fair (Applies limit p c) (table limit p c) checkOrder
 
+-- rows 7 to 13 are those of an add: of another call the table has not the rows 7 to 11, and 12 and 13 do not hold
+add-only : {A : ℕ → Type 0} {rows : List (Row Refusal)} {ns : List ℕ} → (A 7 → ⊥) → (A 8 → ⊥) → (A 10 → ⊥) → (A 9 → ⊥) → (A 11 → ⊥) → (A 12 → ⊥) → (A 13 → ⊥)
+    → Fair A rows ns → Fair A ((false, NoPlanAlone) ∷ (false, QueueFull) ∷ rows) (7 ∷ 8 ∷ 10 ∷ 9 ∷ 11 ∷ 12 ∷ 13 ∷ ns)
+unfolding numberOf
+add-only a b c d e f g rest = skip a (skip b (skip c (skip d (skip e (row refl (never f) (row refl (never g) rest))))))
+
 module _ (limit : ℕ) where
   closed-open : (o : Opening) → Rows limit notOpen (Open o)
   unfolding table callOrder badId idWaiting idNotWaiting addRows noPlanAlone queueFull sliceTooShort checkOrder numberOf
@@ -46,15 +51,9 @@ module _ (limit : ℕ) where
       (row {n = 4} refl (never (λ a. elim a [ ]))
       (row {n = 5} refl (never (λ a. elim a [ ]))
       (row {n = 6} refl (never (λ a. elim a [ ]))
-      (skip {n = 7} (λ a. elim a [ ])
-      (skip {n = 8} (λ a. elim a [ ])
-      (skip {n = 10} (λ a. elim a [ ])
-      (skip {n = 9} (λ a. elim a [ ])
-      (skip {n = 11} (λ a. elim a [ ])
-      (row {n = 12} refl (never (λ a. elim a [ ]))
-      (row {n = 13} refl (never (λ a. elim a [ ]))
+      (add-only (λ a. elim a [ ]) (λ a. elim a [ ]) (λ a. elim a [ ]) (λ a. elim a [ ]) (λ a. elim a [ ]) (λ a. elim a [ ]) (λ a. elim a [ ])
       (row {n = 14} refl (never (λ a. elim a [ ]))
-      end)))))))))))))
+      end)))))))
 
   module _ (s : Setup) (q : List Entry) where
     open-add : (id : ℕ) (r : Request) → Rows limit (opened s q) (Add id r)
@@ -66,11 +65,11 @@ module _ (limit : ℕ) where
         (row {n = 4} refl (id-exact-add limit s q id r)
         (row {n = 5} refl (waits-exact limit s q id r)
         (row {n = 6} refl (never (λ a. elim a [ ]))
-        (row {n = 7} refl (record { holds = λ e. kind e; fails = λ e a. false-true (sym e ∙ row-7 a) })
-        (row {n = 8} refl (record { holds = λ e. not-listed e; fails = λ e a. false-true (sym e ∙ row-8 a) })
-        (row {n = 10} refl (record { holds = λ e. range e; fails = λ e a. false-true (sym e ∙ row-10 a) })
-        (row {n = 9} refl (record { holds = λ e. lacks e; fails = λ e a. false-true (sym e ∙ row-9 a) })
-        (row {n = 11} refl (record { holds = λ e. conflict e; fails = λ e a. false-true (sym e ∙ row-11 a) })
+        (row {n = 7} refl (record { holds = λ e. kind e; fails = λ e a. false≢true (sym e ∙ row-7 a) })
+        (row {n = 8} refl (record { holds = λ e. not-listed e; fails = λ e a. false≢true (sym e ∙ row-8 a) })
+        (row {n = 10} refl (record { holds = λ e. range e; fails = λ e a. false≢true (sym e ∙ row-10 a) })
+        (row {n = 9} refl (record { holds = λ e. lacks e; fails = λ e a. false≢true (sym e ∙ row-9 a) })
+        (row {n = 11} refl (record { holds = λ e. conflict e; fails = λ e a. false≢true (sym e ∙ row-11 a) })
         (row {n = 12} refl (alone-exact limit s q id r)
         (row {n = 13} refl (full-exact limit s q id r)
         (row {n = 14} refl (never (λ a. elim a [ ]))
@@ -100,15 +99,9 @@ module _ (limit : ℕ) where
         (row {n = 4} refl (id-exact-drop limit s q id)
         (row {n = 5} refl (never (λ a. elim a [ ]))
         (row {n = 6} refl (not-waits-exact limit s q id)
-        (skip {n = 7} (λ a. elim a [ ])
-        (skip {n = 8} (λ a. elim a [ ])
-        (skip {n = 10} (λ a. elim a [ ])
-        (skip {n = 9} (λ a. elim a [ ])
-        (skip {n = 11} (λ a. elim a [ ])
-        (row {n = 12} refl (never (λ a. elim a [ ]))
-        (row {n = 13} refl (never (λ a. elim a [ ]))
+        (add-only (λ a. elim a [ ]) (λ a. elim a [ ]) (λ a. elim a [ ]) (λ a. elim a [ ]) (λ a. elim a [ ]) (λ a. elim a [ ]) (λ a. elim a [ ])
         (row {n = 14} refl (never (λ a. elim a [ ]))
-        end)))))))))))))
+        end)))))))
 
     open-turn : (room : ℕ) → Rows limit (opened s q) (Turn room)
     unfolding table callOrder badOpening badId idWaiting idNotWaiting addRows noPlanAlone queueFull checkOrder numberOf
@@ -119,15 +112,9 @@ module _ (limit : ℕ) where
         (row {n = 4} refl (never (λ a. elim a [ ]))
         (row {n = 5} refl (never (λ a. elim a [ ]))
         (row {n = 6} refl (never (λ a. elim a [ ]))
-        (skip {n = 7} (λ a. elim a [ ])
-        (skip {n = 8} (λ a. elim a [ ])
-        (skip {n = 10} (λ a. elim a [ ])
-        (skip {n = 9} (λ a. elim a [ ])
-        (skip {n = 11} (λ a. elim a [ ])
-        (row {n = 12} refl (never (λ a. elim a [ ]))
-        (row {n = 13} refl (never (λ a. elim a [ ]))
+        (add-only (λ a. elim a [ ]) (λ a. elim a [ ]) (λ a. elim a [ ]) (λ a. elim a [ ]) (λ a. elim a [ ]) (λ a. elim a [ ]) (λ a. elim a [ ])
         (row {n = 14} refl (short-exact limit s q room)
-        end)))))))))))))
+        end)))))))
 
 -- ---- the table
 
@@ -178,14 +165,14 @@ refused limit (opened s q) (Turn room) x e = fair-some (Applies limit (opened s 
 
 accepted : (limit : ℕ) (p : Plain) (c : Call) → refusal limit p c ≡ none → (n : ℕ) → ¬ Applies limit p c n
 unfolding refusal table firstHolding callOrder
-accepted limit notOpen (Open o) e n a = all-at (fair-none (Applies limit notOpen (Open o)) (closed-open limit o) e) (numbered a) a
+accepted limit notOpen (Open o) e n a = all-member (fair-none (Applies limit notOpen (Open o)) (closed-open limit o) e) (numbered a) a
 accepted limit notOpen (Add id r) e n a = Option·none-ne-some CallOrder (sym e)
 accepted limit notOpen (Drop id) e n a = Option·none-ne-some CallOrder (sym e)
 accepted limit notOpen (Turn room) e n a = Option·none-ne-some CallOrder (sym e)
 accepted limit (opened s q) (Open o) e n a = Option·none-ne-some CallOrder (sym e)
-accepted limit (opened s q) (Add id r) e n a = all-at (fair-none (Applies limit (opened s q) (Add id r)) (open-add limit s q id r) e) (numbered a) a
-accepted limit (opened s q) (Drop id) e n a = all-at (fair-none (Applies limit (opened s q) (Drop id)) (open-drop limit s q id) e) (numbered a) a
-accepted limit (opened s q) (Turn room) e n a = all-at (fair-none (Applies limit (opened s q) (Turn room)) (open-turn limit s q room) e) (numbered a) a
+accepted limit (opened s q) (Add id r) e n a = all-member (fair-none (Applies limit (opened s q) (Add id r)) (open-add limit s q id r) e) (numbered a) a
+accepted limit (opened s q) (Drop id) e n a = all-member (fair-none (Applies limit (opened s q) (Drop id)) (open-drop limit s q id) e) (numbered a) a
+accepted limit (opened s q) (Turn room) e n a = all-member (fair-none (Applies limit (opened s q) (Turn room)) (open-turn limit s q room) e) (numbered a) a
 
 pub refusal-table : RefusalTable
 unfolding queueLimit

@@ -19,6 +19,7 @@ use Rattle.requests.specs.declared.Entry.{Entry}
 use Rattle.requests.specs.declared.Refusal.{Refusal}
 use Rattle.requests.specs.Devices.{setupOf, openingOf}
 use Rattle.plans.specs.Lists.{All, nil, cons, Pairwise, empty}
+use Rattle.requests.proofs.Tests.{either-parts}
 use Rattle.requests.proofs.Openings.{opening-is}
 use Rattle.plans.proofs.Sets.{all-append}
 use Rattle.sessions.specs.Turns.{fits, taken, passed, turned}
@@ -29,7 +30,6 @@ use Rattle.sessions.specs.Sessions.{queueLimit, queueAfter}
 use Rattle.sessions.specs.DistinctIds.{Distinct, DistinctIds}
 use Rattle.sessions.specs.Sound.{Sound}
 use Rattle.sessions.specs.WellFormed.{WellFormed}
-use Rattle.sessions.proofs.Tests.{either-false}
 use Rattle.sessions.proofs.Steps.{step-accepted, step-refused}
 use Rattle.sessions.proofs.Accepted.{AcceptedAdd, accepted-add}
 use Rattle.sessions.proofs.Lists.{pairwise-map, map-pairwise, pairwise-middle}
@@ -56,7 +56,7 @@ distinct p = pairwise-map (λ (e : Entry). e .id) p
 unused : (id : ℕ) (q : List Entry) → waits id q ≡ false → All (λ (e : Entry). id ≢ e .id) q
 unfolding waits
 unused id [] h = nil
-unused id (e ∷ q) h = let t = either-false (eqb id (e .id)) (waits id q) h in cons (eqb-false id (e .id) (t .0)) (unused id q (t .1))
+unused id (e ∷ q) h = let t = either-parts (eqb id (e .id)) (waits id q) h in cons (eqb-false id (e .id) (t .0)) (unused id q (t .1))
 
 -- ---- one call
 

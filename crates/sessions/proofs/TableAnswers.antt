@@ -24,6 +24,7 @@ use Rattle.requests.specs.Choice.{Row, firstHolding}
 use Rattle.requests.specs.Refusals.{answerFor}
 use Rattle.requests.specs.Devices.{setupOf, openedAs}
 use Rattle.requests.specs.Checks.{requestRows, requestRefusal}
+use Rattle.requests.proofs.Openings.{opened-some, opened-none}
 use Rattle.plans.specs.Search.{hasPlan}
 use Rattle.sessions.specs.Turns.{taken, writesOf}
 use Rattle.sessions.specs.Calls.{Call, Open, Add, Drop, Turn, notOpen, opened, waiting, waits}
@@ -59,16 +60,6 @@ module _ {A : Type 0} where
   holding-rest ((false, a) ∷ xs) ys h = holding-rest xs ys h
 
 -- ---- open
-
-opened-nothing : (x : Option Setup) → openedAs x ≡ Nothing → x ≡ none
-unfolding openedAs
-opened-nothing none h = refl
-opened-nothing (some t) h = let z : _≡_ {A = ℕ} 0 1 = cc in absurd (omega arith)
-
-opened-with : (x : Option Setup) (t : Setup) → openedAs x ≡ With t → x ≡ some t
-unfolding openedAs
-opened-with none t h = let z : _≡_ {A = ℕ} 0 1 = cc in absurd (omega arith)
-opened-with (some t) u h = cc
 
 open-again : (limit : ℕ) (t : Setup) (q : List Entry) (o : Opening) → refusal limit (opened t q) (Open o) ≡ some CallOrder
 unfolding refusal table firstHolding callOrder
@@ -215,8 +206,8 @@ module _ (s : Session) (o : Opening) where
 
   pub open-refused : s .opened ≡ false → openedAs (setupOf o) ≡ Nothing → record { answer = Refused BadOpening; session = s } ≡ openOf s o
   unfolding openOf answered answerFor refusedBy
-  open-refused h e = let n = opened-nothing (setupOf o) e in rw (plain-closed s h, open-bad queueLimit o n)
+  open-refused h e = let n = opened-none (setupOf o) e in rw (plain-closed s h, open-bad queueLimit o n)
 
   pub open-with : (t : Setup) → s .opened ≡ false → openedAs (setupOf o) ≡ With t → record { answer = Accepted; session = sessionOf t [] } ≡ openOf s o
   unfolding openOf answered answerFor refusedBy
-  open-with t h e = let n = opened-with (setupOf o) t e in rw (plain-closed s h, open-accepted queueLimit o t n, n)
+  open-with t h e = let n = opened-some (setupOf o) t e in rw (plain-closed s h, open-accepted queueLimit o t n, n)

@@ -4,7 +4,7 @@
 --     taken-few      so they are no more than arrays have room for
 use mathlib.Core.Path.{_≡_, refl, ap, sym, subst, _∙_}
 use mathlib.Core.List.{List, [], _∷_, _++_, append-nil, append-assoc}
-use mathlib.Core.Bool.{Bool, true, false}
+use mathlib.Core.Bool.{Bool, true, false, false≢true}
 use mathlib.Core.Option.{Option, none, some}
 use Prim.Native.Nat.{_≤_}
 use native.Mathlib.Omega.{arith}
@@ -21,7 +21,6 @@ use Rattle.plans.proofs.PartsHold.{parts}
 use Rattle.plans.proofs.PlanLengthHolds.{plan-length}
 use Rattle.sessions.specs.Choose.{takenAfter}
 use Rattle.sessions.specs.Turns.{requestsOf, fits, taken, placesOf}
-use Rattle.sessions.proofs.Tests.{false-true}
 use Rattle.sessions.proofs.Takes.{taken-yes, taken-no}
 
 kept-fits : (test : List Entry → Bool) (done q : List Entry) → test done ≡ true → test (done ++ takenAfter test done q) ≡ true
@@ -59,7 +58,7 @@ unfolding fits
 first-places s es h = go (firstPlan s (requestsOf es)) refl
   where
     go : (o : Option (List Place)) → firstPlan s (requestsOf es) ≡ o → First s (requestsOf es) (placesOf s es)
-    go none e = false-true (sym (has-none s (requestsOf es) e) ∙ h)
+    go none e = absurd (false≢true (sym (has-none s (requestsOf es) e) ∙ h))
     go (some ps) e = subst (λ (x : List Place). First s (requestsOf es) x) (sym (places-are s es ∙ ap placesIn e)) (first-plan .sound s (requestsOf es) ps e)
 
 taken-fit : (s : Setup) (q : List Entry) → fits s (taken s q) ≡ true

@@ -35,39 +35,27 @@ module _ {A : Type 0} (test : List A → Bool) where
   unfolding passedAfter
   passed-no done e rest h = rw (h, passedAfter)
 
+  -- a choice over two parts of a queue, one after the other, which takes `yes` of an entry that passes the test and `no` of another
+  module _ (chosen : List A → List A → List A) (yes no : A → List A) (chosen-none : (done : List A) → chosen done [] ≡ [])
+      (chosen-yes : (done : List A) (e : A) (rest : List A) → test (done ++ e ∷ []) ≡ true → chosen done (e ∷ rest) ≡ yes e ++ chosen (done ++ e ∷ []) rest)
+      (chosen-no : (done : List A) (e : A) (rest : List A) → test (done ++ e ∷ []) ≡ false → chosen done (e ∷ rest) ≡ no e ++ chosen done rest) where
+    chosen-append : (done q rest : List A) → chosen done (q ++ rest) ≡ chosen done q ++ chosen (done ++ takenAfter test done q) rest
+    chosen-append done [] rest = rw (chosen-none done, taken-none done, append-nil)
+    chosen-append done (e ∷ q) rest = go (test (done ++ e ∷ [])) refl (λ d. chosen-append d q rest)
+      where
+        go : (b : Bool) → test (done ++ e ∷ []) ≡ b
+            → ((d : List A) → chosen d (q ++ rest) ≡ chosen d q ++ chosen (d ++ takenAfter test d q) rest)
+            → chosen done (e ∷ q ++ rest) ≡ chosen done (e ∷ q) ++ chosen (done ++ takenAfter test done (e ∷ q)) rest
+        go true h below =
+            rw (chosen-yes done e (q ++ rest) h, chosen-yes done e q h, taken-yes done e q h, below (done ++ e ∷ []), append-assoc done (e ∷ []) (takenAfter test (done ++ e ∷ []) q))
+            (sym (append-assoc (yes e) _ _))
+        go false h below = rw (chosen-no done e (q ++ rest) h, chosen-no done e q h, taken-no done e q h, below done) (sym (append-assoc (no e) _ _))
+
   pub taken-append : (done q rest : List A) → takenAfter test done (q ++ rest) ≡ takenAfter test done q ++ takenAfter test (done ++ takenAfter test done q) rest
-  unfolding takenAfter
-  taken-append done [] rest = ap (λ (d : List A). takenAfter test d rest) (sym (append-nil done))
-  taken-append done (e ∷ q) rest = go (test (done ++ e ∷ [])) refl (λ d. taken-append d q rest)
-    where
-      go : (b : Bool) → test (done ++ e ∷ []) ≡ b
-          → ((d : List A) → takenAfter test d (q ++ rest) ≡ takenAfter test d q ++ takenAfter test (d ++ takenAfter test d q) rest)
-          → takenAfter test done (e ∷ q ++ rest) ≡ takenAfter test done (e ∷ q) ++ takenAfter test (done ++ takenAfter test done (e ∷ q)) rest
-      go true h below =
-          taken-yes done e (q ++ rest) h
-          ∙ ap (λ (l : List A). e ∷ l) (below (done ++ e ∷ []) ∙ ap (λ (d : List A). takenAfter test (done ++ e ∷ []) q ++ takenAfter test d rest) (append-assoc done (e ∷ []) (takenAfter test (done ++ e ∷ []) q)))
-          ∙ ap (λ (l : List A). l ++ takenAfter test (done ++ l) rest) (sym (taken-yes done e q h))
-      go false h below = taken-no done e (q ++ rest) h ∙ below done ∙ ap (λ (l : List A). l ++ takenAfter test (done ++ l) rest) (sym (taken-no done e q h))
+  taken-append = chosen-append (takenAfter test) (λ e. e ∷ []) (λ e. []) taken-none taken-yes taken-no
 
   pub passed-append : (done q rest : List A) → passedAfter test done (q ++ rest) ≡ passedAfter test done q ++ passedAfter test (done ++ takenAfter test done q) rest
-  unfolding passedAfter takenAfter
-  passed-append done [] rest = ap (λ (d : List A). passedAfter test d rest) (sym (append-nil done))
-  passed-append done (e ∷ q) rest = go (test (done ++ e ∷ [])) refl (λ d. passed-append d q rest)
-    where
-      go : (b : Bool) → test (done ++ e ∷ []) ≡ b
-          → ((d : List A) → passedAfter test d (q ++ rest) ≡ passedAfter test d q ++ passedAfter test (d ++ takenAfter test d q) rest)
-          → passedAfter test done (e ∷ q ++ rest) ≡ passedAfter test done (e ∷ q) ++ passedAfter test (done ++ takenAfter test done (e ∷ q)) rest
-      go true h below =
-          passed-yes done e (q ++ rest) h
-          ∙ below (done ++ e ∷ [])
-          ∙ ap (λ (d : List A). passedAfter test (done ++ e ∷ []) q ++ passedAfter test d rest) (append-assoc done (e ∷ []) (takenAfter test (done ++ e ∷ []) q))
-          ∙ ap (λ (l : List A). l ++ passedAfter test (done ++ e ∷ takenAfter test (done ++ e ∷ []) q) rest) (sym (passed-yes done e q h))
-          ∙ ap (λ (l : List A). passedAfter test done (e ∷ q) ++ passedAfter test (done ++ l) rest) (sym (taken-yes done e q h))
-      go false h below =
-          passed-no done e (q ++ rest) h
-          ∙ ap (λ (l : List A). e ∷ l) (below done)
-          ∙ ap (λ (l : List A). l ++ passedAfter test (done ++ takenAfter test done q) rest) (sym (passed-no done e q h))
-          ∙ ap (λ (l : List A). passedAfter test done (e ∷ q) ++ passedAfter test (done ++ l) rest) (sym (taken-no done e q h))
+  passed-append = chosen-append (passedAfter test) (λ e. []) (λ e. e ∷ []) passed-none passed-yes passed-no
 
 pub taking : Taking
 unfolding taken passed turned fits takenAfter passedAfter
