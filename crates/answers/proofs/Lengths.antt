@@ -1,8 +1,7 @@
 -- How long the texts of numbers and of lines are, by their definitions. Assumes nothing.
---     decimal-length, hex-length      numbers
+--     decimal-length                  numbers
 --     take-lines-length, set-lines-length, answer-length    the lines of a reply
 --     joined-length                   texts one after another
-use mathlib.Core.Path.{_≡_, refl}
 use mathlib.Core.Bool.{Bool, true, false}
 use mathlib.Core.List.{List, [], _∷_, flatMap}
 use mathlib.Core.Option.{Option, none, some}
@@ -18,7 +17,8 @@ use Rattle.plans.specs.declared.Place.{Place}
 use Rattle.plans.specs.declared.Place.the-variants.{Counter, WithRsp, Pair}
 use Rattle.plans.specs.Places.{Counted, countedOf}
 use Rattle.sessions.specs.declared.Assigned.{Assigned}
-use Rattle.records.specs.Text.{bytes, hexText, decimalDigits, decimalText, lineOf}
+use Rattle.records.specs.Text.{bytes, decimalDigits, decimalText, lineOf}
+use Rattle.records.proofs.Hexes.{hex-length}
 use Rattle.answers.specs.Replies.{answerText, registerText, takeLines, setLines}
 
 -- ---- numbers
@@ -35,11 +35,6 @@ digits-length (suc f) n = simp length-append (go (ltb n 10) (digits-length f (n 
 pub decimal-length : (n : ℕ) → length (decimalText n) ≤ 20
 unfolding decimalText
 decimal-length n = digits-length 20 n
-
-pub hex-length : (w n : ℕ) → length (hexText w n) ≡ w
-unfolding hexText
-hex-length zero n = refl
-hex-length (suc w) n = simp length-append (omega (arith, hex-length w (n / 16)))
 
 -- ---- lines
 

@@ -1,18 +1,31 @@
 -- Laws of numbers as text: the last digit, and what stands in front of it.
 -- Assumes nothing.
-use mathlib.Core.Path.{_≡_, ap, sym, _∙_}
+use mathlib.Core.Path.{_≡_, refl, ap, sym, _∙_}
+use mathlib.Core.Bool.{true}
 use mathlib.Core.List.{List, [], _∷_, _++_}
 use Prim.Native.Nat.{ℕ, zero, suc, _+_, _/_, _%_, _^_, _<_, _≤_}
 use native.Mathlib.Numerals.{add-one}
 use native.Mathlib.Nat.{pow-suc}
 use native.Mathlib.Omega.{arith}
-use lib.Dec.{ltb}
-use lib.ListN.{length, length-append}
-use borrow.Author.Tests.{lt-ltb, le-ltb}
-use Rattle.requests.specs.Choice.{pick}
-use Rattle.records.specs.Text.{hexDigit, hexText, decimalDigits, decimalText}
+use lib.Dec.{ltb, eqb}
+use lib.ListN.{length, getD, length-append}
+use borrow.Author.Tests.{lt-ltb, le-ltb, eqb-true}
+use Rattle.requests.specs.Choice.{pick, both, every}
+use Rattle.requests.proofs.Tests.{every-at}
+use Rattle.records.specs.Text.{bytes, hexDigit, hexText, decimalDigits, decimalText}
 
 -- ---- hex
+
+-- the digits in their order
+abbrev digits : List ℕ
+digits = bytes "0123456789ABCDEF"
+
+digits-listed : every 16 (λ d. eqb (getD digits d 0) (hexDigit d)) ≡ true
+unfolding every both hexDigit bytes
+digits-listed = refl
+
+pub digit-at : (d : ℕ) → d < 16 → getD digits d 0 ≡ hexDigit d
+digit-at d h = eqb-true (getD digits d 0) (hexDigit d) (every-at 16 (λ d. eqb (getD digits d 0) (hexDigit d)) digits-listed d h)
 
 -- the digits in front of the last are those of the sixteenth part
 pub hex-next : (i n : ℕ) → hexText (i + 1) n ≡ hexText i (n / 16) ++ hexDigit (n % 16) ∷ []

@@ -8,14 +8,8 @@ use native.Mathlib.Nat.{add-zero}
 use native.Mathlib.Omega.{arith}
 use lib.ListN.{length, getD, take, drop, set, length-append, length-take}
 use lib.Seq.{sets, take-suc, drop-cons, drop-length, length-sets, set-comm, take-at, getD-at, getD-take, take-take}
+use Rattle.layouts.proofs.ListLaws.{sets-append}
 use Rattle.answers.specs.Texts.{Put}
-
--- a run of stores in two parts
-sets-append : (d : List ℕ) (i : ℕ) (a b : List ℕ) → sets d i (a ++ b) ≡ sets (sets d i a) (i + length a) b
-sets-append d i [] b = rw add-zero
-sets-append d i (x ∷ a) b =
-    let e : suc i + length a ≡ i + suc (length a) = omega arith in
-    sets-append (set d i x) (suc i) a b ∙ ap (λ (k : ℕ). sets (sets (set d i x) (suc i) a) k b) e
 
 -- the slice keeps its length
 pub put-length : {d e b : List ℕ} {at n : ℕ} → Put d at b e n → length e ≡ length d

@@ -24,9 +24,9 @@ answer-short : (a : Answer) → length (answerText a) ≤ replyRoom
 unfolding replyRoom
 answer-short a = omega (arith, answer-length a)
 
--- the reply to a turn whose plan has at most 8 requests and whose slice at most 36 numbers
-turn-short : (a : TurnAnswered) (slice : List ℕ) → length (planOf a) ≤ 8 → 2 * a .writes ≤ 36 → length (turnReply a slice .text) ≤ replyRoom
-unfolding turnReply replyRoom
+-- the reply to a turn whose plan has at most 8 requests and whose writes fit the slice that a line lends
+turn-short : (a : TurnAnswered) (slice : List ℕ) → length (planOf a) ≤ 8 → 2 * a .writes ≤ turnRoom → length (turnReply a slice .text) ≤ replyRoom
+unfolding turnReply turnRoom replyRoom
 turn-short a slice few room =
     simp length-append
     (omega (
@@ -38,11 +38,11 @@ turn-short a slice few room =
     ))
 
 record-short : (s : Session) (r : Record) → length (recordReply s r .text) ≤ replyRoom
-unfolding recordReply replyOf turnRoom
+unfolding recordReply replyOf
 record-short s (Open d u) = answer-short (openOf s (record { device = letterOf d; usable = u }) .answer)
 record-short s (Add id r) = answer-short (addOf s id r .answer)
 record-short s (Drop id) = answer-short (dropOf s id .answer)
-record-short s Turn = let l = turn-at-most s 36 in turn-short (turnOf s 36) (turnSlice s (replicate 36 0)) (l .plan) (l .writes)
+record-short s Turn = let l = turn-at-most s turnRoom in turn-short (turnOf s turnRoom) (turnSlice s (replicate turnRoom 0)) (l .plan) (l .writes)
 
 pub reply-length : ReplyLength
 unfolding parsedReply

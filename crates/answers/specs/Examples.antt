@@ -21,9 +21,9 @@ pub record Example : Type 0 where
   pub text : List ℕ
   pub lines : List String
 
--- what a turn takes: a latency request, then an event
+-- what a turn takes, in an order that is not that of the counters: a latency request, an event, an offcore request
 unfoldable pub taken : List Assigned
-taken = record { id = 2; place = Pair 1 2 } ∷ record { id = 1; place = Counter 0 } ∷ []
+taken = record { id = 2; place = Pair 1 2 } ∷ record { id = 1; place = Counter 0 } ∷ record { id = 3; place = WithRsp 3 0 } ∷ []
 
 -- the answers with their numbers, `take` lines, and whole replies to turns
 abbrev pub examples : List Example
@@ -50,7 +50,7 @@ examples =
     -- two writes, and two numbers past them
     ∷ record {
       text = turnReply (turnAnswer Accepted newSession taken 2) (0x038F ∷ 0 ∷ 0x01A6 ∷ 0x4000000001 ∷ 7 ∷ 8 ∷ []) .text;
-      lines = "take 2 1 0" ∷ "take 2 2 1" ∷ "take 1 0 -" ∷ "set 038F 0000000000000000" ∷ "set 01A6 0000004000000001" ∷ "ok" ∷ [];
+      lines = "take 2 1 0" ∷ "take 2 2 1" ∷ "take 1 0 -" ∷ "take 3 3 0" ∷ "set 038F 0000000000000000" ∷ "set 01A6 0000004000000001" ∷ "ok" ∷ [];
     }
     ∷ record { text = turnReply (turnAnswer (Refused CallOrder) newSession [] 0) (0x038F ∷ 0 ∷ []) .text; lines = "no 2" ∷ [] }
     ∷ []

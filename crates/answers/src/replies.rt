@@ -24,7 +24,7 @@ ghost use Rattle.answers.specs.Written.{replyRoom, repliedIn, repliedOut
 ghost use Rattle.answers.specs.Texts.{Delivered};
 
 // The room for any reply, in bytes.
-const REPLY_ROOM: usize = 2048;
+pub const REPLY_ROOM: usize = 2048;
 
 // The reply to an open, add or drop.
 fn call_reply(answered: Answered, out: &mut [u8]) -> Replied

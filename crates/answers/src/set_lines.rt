@@ -5,8 +5,20 @@ use crate::texts::put_hex;
 ghost use mathlib.Core.List.{[], _∷_};
 ghost use Prim.Native.Nat.{_+_, _*_, _≤_};
 ghost use lib.ListN.{length, take};
+ghost use Rattle.records.specs.Text.{hexText};
 ghost use Rattle.answers.specs.Replies.{setLines};
 ghost use Rattle.answers.specs.Texts.{Put};
+
+// Puts a value in 16 hex digits; most of those of a write list are 0.
+fn put_value(out: &mut [u8], at: usize, value: u64) -> usize
+    requires { ⌜ at + 16 ≤ length (now out) ⌝ }
+    ensures { λ r. ⌜ Put (now (out .entry)) at (hexText 16 value) (now (out .exit)) r ⌝ }
+{
+    if value == 0 {
+        return put_bytes(out, at, b"0000000000000000");
+    }
+    put_hex(out, at, 16, value)
+}
 
 // Puts the `set` line of a write.
 fn put_set(out: &mut [u8], at: usize, address: u64, value: u64) -> usize
@@ -16,7 +28,7 @@ fn put_set(out: &mut [u8], at: usize, address: u64, value: u64) -> usize
     let verb_end = put_bytes(out, at, b"set\t");
     let address_end = put_hex(out, verb_end, 4, address);
     let next = put_byte(out, address_end, b'\t');
-    let value_end = put_hex(out, next, 16, value);
+    let value_end = put_value(out, next, value);
     put_byte(out, value_end, b'\n')
 }
 

@@ -1,9 +1,9 @@
 // Texts, put into a lent slice from a place on; each function answers the place after its text.
 ghost use mathlib.Core.Path.{_≡_};
 ghost use mathlib.Core.List.{[], _∷_};
-ghost use Prim.Native.Nat.{_+_, _%_, _≤_};
+ghost use Prim.Native.Nat.{_+_, _≤_};
 ghost use lib.ListN.{length};
-ghost use Rattle.records.specs.Text.{hexDigit, hexText, decimalText};
+ghost use Rattle.records.specs.Text.{hexText, decimalText};
 ghost use Rattle.answers.specs.Texts.{Put};
 
 // Puts a byte.
@@ -30,24 +30,17 @@ pub fn put_bytes(out: &mut [u8], at: usize, bytes: &[u8]) -> usize
     next
 }
 
-// The digit of a number's last four bits.
-fn hex_digit(n: u64) -> u8
-    ensures { λ r. ⌜ r ≡ hexDigit (n % 16) ⌝ }
-{
-    let digits = b"0123456789ABCDEF";
-    digits[(n % 16) as usize]
-}
-
 // Puts the last `width` hex digits of n, from the last to the first.
 pub fn put_hex(out: &mut [u8], at: usize, width: usize, n: u64) -> usize
     requires { ⌜ at + width ≤ length (now out) ⌝ }
     ensures { λ r. ⌜ Put (now (out .entry)) at (hexText width n) (now (out .exit)) r ⌝ }
 {
+    let digits = b"0123456789ABCDEF";
     let mut rest = n;
     let mut i = width;
     while 0 < i {
         i -= 1;
-        out[at + i] = hex_digit(rest);
+        out[at + i] = digits[(rest % 16) as usize];
         rest = rest / 16;
     }
     at + width

@@ -2,7 +2,7 @@
 use borrow.Author.Needs.{needs}
 use native.Mathlib.Omega.{arith}
 use Rattle.records.specs.Text.{bytes, tab, newline, lineOf}
-use Rattle.answers.proofs.Lengths.{hex-length}
+use Rattle.records.proofs.Hexes.{hex-length}
 use Rattle.answers.proofs.Putting.{then}
 use Rattle.answers.proofs.LineTexts.{set-line}
 use Rattle.answers.proofs.set_lines.put_set.Statement.{statement}
@@ -20,8 +20,8 @@ put-hex-requires c κs = search needs
 put-byte-requires : tie.Need-put-byte-requires
 put-byte-requires c κs = omega (arith, hex-length 4 (c .before .before .before .before .before .before .before .before .before .before .before .args .address))
 
-put-hex-requires-2 : tie.Need-put-hex-requires-2
-put-hex-requires-2 c κs = omega (arith, hex-length 4 (c .before .before .before .before .before .before .before .before .before .before .before .before .before .before .before .args .address))
+put-value-requires : tie.Need-put-value-requires
+put-value-requires c κs = omega (arith, hex-length 4 (c .before .before .before .before .before .before .before .before .before .before .before .before .before .before .before .args .address))
 
 put-byte-requires-2 : tie.Need-put-byte-requires-2
 put-byte-requires-2 c κs = let a = c .before .before .before .before .before .before .before .before .before .before .before .before .before .before .before .before .before .before .before .args in omega (arith, hex-length 4 (a .address), hex-length 16 (a .value))
@@ -38,7 +38,7 @@ returns c =
     let address = tab .before .before .before .before in
     let verb = address .before .before .before .before in
     rw set-line
-    (then (verb .put-bytes .ensures) (then (address .put-hex .ensures) (then (tab .put-byte .ensures) (then (value .put-hex2 .ensures) (newline .put-byte2 .ensures)))))
+    (then (verb .put-bytes .ensures) (then (address .put-hex .ensures) (then (tab .put-byte .ensures) (then (value .put-value .ensures) (newline .put-byte2 .ensures)))))
 
 pub put-set-spec : {M : Type 1} → statement M
 put-set-spec =
@@ -48,7 +48,7 @@ put-set-spec =
     put-bytes-requires
     put-hex-requires
     put-byte-requires
-    put-hex-requires-2
+    put-value-requires
     put-byte-requires-2
     same-length
     returns)

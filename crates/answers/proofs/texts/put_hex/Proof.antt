@@ -3,24 +3,23 @@
 use mathlib.Core.Path.{_≡_, ap, sym, _∙_}
 use mathlib.Core.List.{[], _∷_, _++_}
 use Prim.Native.Nat.{ℕ, _+_, _-_, _/_, _%_, _≤_}
-use borrow.Author.Needs.{needs}
 use native.Mathlib.Omega.{arith}
 use denote.Ref.{now}
 use lib.ListN.{take}
 use lib.Seq.{take-all}
-use Rattle.records.specs.Text.{hexDigit, hexText}
-use Rattle.answers.proofs.Lengths.{hex-length}
+use Rattle.records.specs.Text.{bytes, hexDigit, hexText}
+use Rattle.records.proofs.Hexes.{hex-length}
 use Rattle.answers.proofs.Putting.{PutFrom, from-length, none-put, digit-before, all-put}
-use Rattle.answers.proofs.Numerals.{hex-next}
+use Rattle.answers.proofs.Numerals.{hex-next, digit-at}
 use Rattle.answers.proofs.texts.put_hex.Statement.{statement}
 use Rattle.answers.proofs.texts.put_hex.Tie as tie
 
 abbrev Inv-loop : tie.InvT-loop
-Inv-loop out₀ at width n rest₀ i₀ out rest i =
+Inv-loop out₀ at width n digits rest₀ i₀ out rest i =
     (i ≤ width) × (hexText i rest ≡ take i (hexText width n)) × PutFrom i out₀ at (hexText width n) out
 
 abbrev μ-loop : tie.MeasureT-loop
-μ-loop out₀ at width n rest₀ i₀ out rest i = i
+μ-loop out₀ at width n digits rest₀ i₀ out rest i = i
 
 loop-holds : tie.Need-loop-holds Inv-loop μ-loop
 loop-holds c =
@@ -31,8 +30,8 @@ loop-holds c =
 sub-i : tie.Need-sub-i Inv-loop μ-loop
 sub-i c = omega arith
 
-hex-digit-requires : tie.Need-hex-digit-requires Inv-loop μ-loop
-hex-digit-requires c κs = search needs
+element-copy-out-out : tie.Need-element-copy-out-out Inv-loop μ-loop
+element-copy-out-out c = omega arith
 
 add-out : tie.Need-add-out Inv-loop μ-loop
 add-out c = omega arith
@@ -47,6 +46,7 @@ loop-less : tie.Need-loop-less Inv-loop μ-loop
 loop-less c = omega arith
 
 loop-again : tie.Need-loop-again Inv-loop μ-loop
+unfolding bytes
 loop-again c =
     let l = c .before .before .loop in
     let a = c .before .before .before .before .args in
@@ -55,7 +55,7 @@ loop-again c =
     let s : hexText k (l .rest / 16) ++ hexDigit (l .rest % 16) ∷ [] ≡ take (l .i) (hexText (a .width) (a .n)) =
     sym (hex-next k (l .rest)) ∙ ap (λ (m : ℕ). hexText m (l .rest)) (sym p) ∙ l .inv .1 in
     let b = digit-before (now (a .out)) (l .out) (hexText (a .width) (a .n)) (hexText k (l .rest / 16)) (a .at) (l .i) k (hexDigit (l .rest % 16)) p (hex-length k (l .rest / 16)) s (l .inv .2) in
-    (omega arith, b .0, rw (c .hex-digit .ensures) (b .1))
+    (omega arith, b .0, rw (digit-at (l .rest % 16) (omega arith)) (b .1))
 
 add-result : tie.Need-add-result Inv-loop μ-loop
 add-result c = omega arith
@@ -81,7 +81,7 @@ put-hex-spec =
     μ-loop
     loop-holds
     sub-i
-    hex-digit-requires
+    element-copy-out-out
     add-out
     slice-write-out
     loop-less
