@@ -3,11 +3,10 @@ use mathlib.Core.List.{List, [], _∷_, _++_, append-assoc, append-nil}
 use mathlib.Core.Path.{_≡_, refl, sym, ap, _∙_}
 use Prim.Native.Nat.{ℕ, suc, _+_, _-_, _≤_, _<_}
 use native.Mathlib.Nat.{zero-add, add-zero, sub-zero, sub-add-eq}
-use native.Mathlib.Numerals.{add-one}
 use native.Mathlib.Omega.{arith}
 use borrow.Author.Tests.{le-ltb}
 use lib.ListN.{length, take, drop, drop-of-length-le, take-append-drop, length-append, length-drop}
-use lib.Seq.{take-all, take-add, take-suc, take-length, drop-length, drop-cons, drop-drop, take-at, drop-at, length-take-le}
+use lib.Seq.{take-length, drop-length, drop-drop, take-at, drop-at}
 use Rattle.records.specs.Text.{newline}
 use Rattle.sessions.specs.declared.Session.{Session}
 use Rattle.records.specs.declared.Parsed.{Parsed}
@@ -15,14 +14,16 @@ use Rattle.answers.specs.Replies.{parsedReply}
 use Rattle.answers.specs.Written.{replyRoom, atStart, repliedIn, repliedOut}
 use Rattle.answers.specs.declared.Replied.{Replied}
 use Rattle.lines.specs.Blocks.{takenOf, takenFrom, fedOf, fedOut}
-use Rattle.lines.specs.Pieces.{NewlineFree, NextNewline, keptLine}
-use Rattle.lines.specs.Stream.{lineStart, lineReply, byteState, byteText, feedState, feedText}
+use Rattle.lines.specs.Pieces.{NewlineFree, FirstNewline, keptLine}
+use Rattle.lines.specs.Stream.{lineStart, lineReply, feedState, feedText}
 use Rattle.lines.specs.declared.Feed.{Feed}
 use Rattle.lines.specs.declared.Fed.{Fed}
 use Rattle.lines.proofs.Cut.{state-append, text-append}
 use Rattle.lines.proofs.Kept.{run-silent}
+use Rattle.lines.proofs.LineByLine.{newline-state, newline-text}
+use Rattle.lines.proofs.NextLine.{all-left, piece, piece-free, piece-length, with-newline, from-newline}
 use Rattle.lines.proofs.Progress.{line-reply-length}
-use Rattle.lines.proofs.Runs.{ended-reply, part-free}
+use Rattle.lines.proofs.Runs.{ended-reply}
 use Rattle.lines.proofs.Taking.{taken-run, taken-newline, taken-full}
 
 -- what has been taken and written when so many bytes of a block are taken, and how many will be
@@ -59,15 +60,6 @@ start-more a b out =
       append-assoc a b (drop (length a + length b) out),
     )
 
--- the newline that ends a line
-ended-state : (f : Feed) → feedState f (newline ∷ []) ≡ lineStart (lineReply f .session)
-unfolding feedState byteState newline
-ended-state f = refl
-
-ended-text : (f : Feed) → feedText f (newline ∷ []) ≡ lineReply f .text
-unfolding feedText byteText newline
-ended-text f = append-nil (lineReply f .text)
-
 -- a reply where there is room for it
 replied-in : (s : Session) (p : Parsed) (room : ℕ) → replyRoom ≤ room
     → repliedIn s p room ≡ record { session = parsedReply s p .session; written = length (parsedReply s p .text) }
@@ -77,23 +69,6 @@ replied-in s p room h = rw (le-ltb room replyRoom h, repliedIn)
 replied-out : (s : Session) (p : Parsed) (out : List ℕ) → replyRoom ≤ length out → repliedOut s p out ≡ atStart (parsedReply s p .text) out
 unfolding repliedOut
 replied-out s p out h = rw (le-ltb (length out) replyRoom h, repliedOut)
-
--- a block up to and with its next newline, and from a place before it on
-module _ {block : List ℕ} {from at : ℕ} (next : NextNewline block from at) (inside : at < length block) where
-  with-newline : take (at + 1) block ≡ take from block ++ (take (at - from) (drop from block) ++ newline ∷ [])
-  with-newline =
-      let e : at ≡ from + (at - from) = omega (arith, next .after) in
-      rw (add-one, take-suc block at 0 inside, next .found inside) (ap (λ (n : ℕ). take n block ++ newline ∷ []) e ∙ rw (take-add from (at - from) block, append-assoc))
-
-  from-newline : drop from block ≡ take (at - from) (drop from block) ++ newline ∷ drop (at + 1) block
-  from-newline =
-      let e : from + (at - from) ≡ at = omega (arith, next .after) in
-      sym (take-append-drop (at - from) (drop from block))
-      ∙ ap (λ (bs : List ℕ). take (at - from) (drop from block) ++ bs)
-      (drop-drop (at - from) from block ∙ ap (λ (n : ℕ). drop n block) e ∙ drop-cons block at 0 inside ∙ rw (next .found inside, add-one))
-
-  piece-length : length (take (at - from) (drop from block)) ≡ at - from
-  piece-length = length-take-le (at - from) (drop from block) (rw length-drop (omega (arith, next .within)))
 
 -- what is added to it
 module _ {f : Feed} {block out : List ℕ} {next : Feed} {taken written : ℕ} {output : List ℕ} (so : FedSoFar f block out next taken written output) where
@@ -109,46 +84,46 @@ module _ {f : Feed} {block out : List ℕ} {next : Feed} {taken written : ℕ} {
   fed-all e = (rw (so .state, so .count, ← e), rw (← e) (so .text))
 
   -- a line that ends within the block
-  module _ {at : ℕ} (newline-at : NextNewline block taken at) (inside : at < length block) (h : replyRoom ≤ length out - written) where
+  module _ {n : ℕ} (first : FirstNewline (take (length block - taken) (drop taken block)) n) (inside : taken + n < length block) (h : replyRoom ≤ length out - written) where
     -- the state at the newline, and the reply to the line
     abbrev pub ended : Feed
-    ended = feedState next (take (at - taken) (drop taken block))
+    ended = feedState next (piece block taken n)
 
-    line-state : lineStart (lineReply ended .session) ≡ feedState f (take (at + 1) block)
+    line-state : lineStart (lineReply ended .session) ≡ feedState f (take (taken + n + 1) block)
     line-state =
         sym
         (rw (
-          with-newline newline-at inside,
-          state-append f (take taken block) (take (at - taken) (drop taken block) ++ newline ∷ []),
+          with-newline block taken first inside,
+          state-append f (take taken block) (piece block taken n ++ newline ∷ []),
           ← so .state,
-          state-append next (take (at - taken) (drop taken block)) (newline ∷ []),
+          state-append next (piece block taken n) (newline ∷ []),
         )
-        (ended-state ended))
+        (newline-state ended))
 
-    line-text : feedText f (take (at + 1) block) ≡ feedText f (take taken block) ++ lineReply ended .text
+    line-text : feedText f (take (taken + n + 1) block) ≡ feedText f (take taken block) ++ lineReply ended .text
     line-text =
         rw (
-          with-newline newline-at inside,
-          text-append f (take taken block) (take (at - taken) (drop taken block) ++ newline ∷ []),
+          with-newline block taken first inside,
+          text-append f (take taken block) (piece block taken n ++ newline ∷ []),
           ← so .state,
-          text-append next (take (at - taken) (drop taken block)) (newline ∷ []),
-          run-silent next (take (at - taken) (drop taken block)) (part-free newline-at),
-          ended-text ended,
+          text-append next (piece block taken n) (newline ∷ []),
+          run-silent next (piece block taken n) (piece-free block taken first),
+          newline-text ended,
         )
 
     line-taken : takenOf (length out - written) next (drop taken block)
-        ≡ at - taken + suc (takenOf (length out - (written + length (lineReply ended .text))) (lineStart (lineReply ended .session)) (drop (at + 1) block))
+        ≡ n + suc (takenOf (length out - (written + length (lineReply ended .text))) (lineStart (lineReply ended .session)) (drop (taken + n + 1) block))
     line-taken =
-        ap (takenOf (length out - written) next) (from-newline newline-at inside)
-        ∙ taken-run (length out - written) next (take (at - taken) (drop taken block)) (newline ∷ drop (at + 1) block) h (part-free newline-at)
+        ap (takenOf (length out - written) next) (from-newline block taken first inside)
+        ∙ taken-run (length out - written) next (piece block taken n) (newline ∷ drop (taken + n + 1) block) h (piece-free block taken first)
         ∙ rw (
-          piece-length newline-at inside,
-          taken-newline (length out - written) ended (drop (at + 1) block) h,
+          piece-length block taken first,
+          taken-newline (length out - written) ended (drop (taken + n + 1) block) h,
           sub-add-eq (length out) written (length (lineReply ended .text)),
         )
 
     pub fed-line : length (lineReply ended .text) ≤ replyRoom
-        → FedSoFar f block out (lineStart (lineReply ended .session)) (at + 1) (written + length (lineReply ended .text))
+        → FedSoFar f block out (lineStart (lineReply ended .session)) (taken + n + 1) (written + length (lineReply ended .text))
         (take written output ++ atStart (lineReply ended .text) (drop written output))
     fed-line short =
         record {
@@ -157,7 +132,7 @@ module _ {f : Feed} {block out : List ℕ} {next : Feed} {taken written : ℕ} {
           state = line-state;
           count = rw (line-text, length-append, ← so .count);
           text = rw (line-text, so .text, so .count) (start-more (feedText f (take taken block)) (lineReply ended .text) out);
-          rest = omega (arith, so .rest, line-taken, newline-at .after);
+          rest = omega (arith, so .rest, line-taken);
         }
 
     -- the same of what the reply to the line leaves in the lent part of the output
@@ -167,53 +142,47 @@ module _ {f : Feed} {block out : List ℕ} {next : Feed} {taken written : ℕ} {
         (text : part ≡ repliedOut (next .session) parsed (take (length output - written) (drop written output)))
         (begins : after ≡ lineStart (r .session))
       where
-        lent : take (length output - written) (drop written output) ≡ drop written output
-        lent = take-all (length output - written) (drop written output) (omega (arith, length-drop written output))
-
         roomy : replyRoom ≤ length (drop written output)
         roomy = omega (arith, length-drop written output, fed-length)
 
         reply-is : parsedReply (next .session) parsed ≡ lineReply ended
-        reply-is = rw is (sym (ended-reply next (take (at - taken) (drop taken block)) (part-free newline-at)))
+        reply-is = rw is (sym (ended-reply next (piece block taken n) (piece-free block taken first)))
 
         answer-is : r ≡ record { session = lineReply ended .session; written = length (lineReply ended .text) }
-        answer-is = answer ∙ rw (lent, replied-in (next .session) parsed (length (drop written output)) roomy, reply-is)
+        answer-is = answer ∙ rw (all-left output written, replied-in (next .session) parsed (length (drop written output)) roomy, reply-is)
 
         text-is : part ++ drop (length output - written) (drop written output) ≡ atStart (lineReply ended .text) (drop written output)
         text-is =
             rw (drop-of-length-le (drop written output) {i = length output - written} (omega (arith, length-drop written output)), append-nil)
-            (text ∙ rw (lent, replied-out (next .session) parsed (drop written output) roomy, reply-is))
+            (text ∙ rw (all-left output written, replied-out (next .session) parsed (drop written output) roomy, reply-is))
 
-        pub fed-reply : FedSoFar f block out after (at + 1) (written + r .written)
+        pub fed-reply : FedSoFar f block out after (taken + n + 1) (written + r .written)
             (take written output ++ (part ++ drop (length output - written) (drop written output)))
         fed-reply = rw (begins, answer-is, text-is) (fed-line (line-reply-length ended))
 
   -- the rest of a block without a newline
-  module _ (none : NextNewline block taken (length block)) (h : replyRoom ≤ length out - written) where
-    all-left : take (length block - taken) (drop taken block) ≡ drop taken block
-    all-left = take-all (length block - taken) (drop taken block) (omega (arith, length-drop taken block))
-
-    rest-free : NewlineFree (drop taken block)
-    rest-free = rw all-left at (part-free none)
+  module _ (free : NewlineFree (take (length block - taken) (drop taken block))) (h : replyRoom ≤ length out - written) where
+    rest-is-free : NewlineFree (drop taken block)
+    rest-is-free = rw (all-left block taken) at free
 
     whole : take (length block) block ≡ take taken block ++ drop taken block
     whole = take-length block ∙ sym (take-append-drop taken block)
 
     rest-text : feedText f (take (length block) block) ≡ feedText f (take taken block)
     rest-text =
-        rw (whole, text-append f (take taken block) (drop taken block), ← so .state, run-silent next (drop taken block) rest-free, append-nil)
+        rw (whole, text-append f (take taken block) (drop taken block), ← so .state, run-silent next (drop taken block) rest-is-free, append-nil)
 
     rest-taken : takenOf (length out - written) next (drop taken block) ≡ length (drop taken block)
     unfolding takenOf
     rest-taken =
         ap (takenOf (length out - written) next) (sym (append-nil (drop taken block)))
-        ∙ taken-run (length out - written) next (drop taken block) [] h rest-free
+        ∙ taken-run (length out - written) next (drop taken block) [] h rest-is-free
         ∙ add-zero (length (drop taken block))
 
     pub fed-rest : FedSoFar f block out (feedState next (take (length block - taken) (drop taken block))) (length block) written output
     unfolding takenOf
     fed-rest =
-        rw all-left
+        rw (all-left block taken)
         (record {
           within = omega arith;
           room = so .room;

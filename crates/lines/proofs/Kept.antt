@@ -1,17 +1,15 @@
 -- What a run of bytes without a newline leaves, from any state: of the line 80 bytes are kept, and nothing is answered. By induction on the run.
---     free-places    a run none of whose places has a newline has none
 --     kept-run       the state that it leaves
 --     run-silent     it gives no text
 use mathlib.Core.Path.{_≡_, refl, sym, _∙_}
 use mathlib.Core.Bool.{Bool, true, false}
-use mathlib.Core.List.{List, [], _∷_, List·Memᴰ, List·Memᴰ·head, List·Memᴰ·tail, List·Memᴰ·cases-cons, List·Memᴰ·not-nil}
-use mathlib.Core.Logic.{_⊎_, inl, inr}
+use mathlib.Core.List.{List, [], _∷_, List·Memᴰ·head, List·Memᴰ·tail}
 use Prim.Native.Nat.{ℕ, suc, _+_, _-_, _≤_, _<_}
 use native.Mathlib.Omega.{arith}
 use native.Mathlib.Nat.{add-zero}
 use native.Mathlib.Numerals.{add-one}
 use lib.Dec.{ltb, eqb, leb·suc-suc}
-use lib.ListN.{length, getD, take, set}
+use lib.ListN.{length, take, set}
 use lib.Seq.{take-nil, sets}
 use borrow.Author.Tests.{ltb-true, ltb-false, lt-ltb, le-ltb, ne-eqb}
 use Rattle.requests.specs.Choice.{either}
@@ -23,14 +21,6 @@ use Rattle.lines.specs.Stream.{keepByte, byteState, byteText, feedState,
 use Rattle.lines.specs.declared.Feed.{Feed}
 
 -- ---- runs without a newline
-
-pub free-places : (text : List ℕ) → ((k : ℕ) → k < length text → ¬ (getD text k 0 ≡ newline)) → NewlineFree text
-free-places [] h m = List·Memᴰ·not-nil m
-free-places (b ∷ bs) h m = go (List·Memᴰ·cases-cons m) (free-places bs (λ k l. h (suc k) (omega arith)))
-  where
-    go : (newline ≡ b) ⊎ List·Memᴰ newline bs → NewlineFree bs → ⊥
-    go (inl e) below = h 0 (omega arith) (sym e)
-    go (inr n) below = below n
 
 pub head-free : (b : ℕ) (bs : List ℕ) → NewlineFree (b ∷ bs) → eqb b newline ≡ false
 head-free b bs free = ne-eqb b newline (λ e. free (List·Memᴰ·head (sym e)))

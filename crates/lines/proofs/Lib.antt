@@ -4,6 +4,7 @@ pub mod LineByLine
 pub mod TranscriptHolds
 pub mod Progress
 pub mod Runs
+pub mod NextLine
 pub mod Taking
 pub mod Feeding
 pub mod Ending

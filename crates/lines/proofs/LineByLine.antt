@@ -79,13 +79,13 @@ module _ (text : List ℕ) where
 
 -- ---- the line
 
-newline-state : (f : Feed) → feedState f (newline ∷ []) ≡ lineStart (lineReply f .session)
-unfolding feedState byteState
-newline-state f = rw (eq-eqb newline newline refl, byteState)
+pub newline-state : (f : Feed) → feedState f (newline ∷ []) ≡ lineStart (lineReply f .session)
+unfolding feedState byteState newline
+newline-state f = refl
 
-newline-text : (f : Feed) → feedText f (newline ∷ []) ≡ lineReply f .text
-unfolding feedText byteText
-newline-text f = append-nil (byteText f newline) ∙ rw (eq-eqb newline newline refl, byteText)
+pub newline-text : (f : Feed) → feedText f (newline ∷ []) ≡ lineReply f .text
+unfolding feedText byteText newline
+newline-text f = append-nil (lineReply f .text)
 
 -- at the beginning of a line there is none
 nothing : (s : Session) → endText (lineStart s) ≡ []

@@ -1,7 +1,8 @@
--- Pieces of a line as the code meets them: kept byte by byte, parsed at once where they are a whole line, and found between two newlines.
-use mathlib.Core.Bool.{Bool, true, false}
-use mathlib.Core.List.{List, _∷_}
-use mathlib.Core.Path.{_≡_, refl, sym, ap, _∙_}
+-- Pieces of a line as the code meets them: found byte by byte, kept byte by byte, and parsed at once where they are a whole line.
+use mathlib.Core.Bool.{true, false}
+use mathlib.Core.List.{List, _∷_, List·Memᴰ·append-cases, List·Memᴰ·eq-of-singleton}
+use mathlib.Core.Logic.{⊎-elim}
+use mathlib.Core.Path.{_≡_, sym, ap, _∙_}
 use Prim.Native.Nat.{ℕ, suc, _+_, _-_, _≤_, _<_}
 use native.Mathlib.Nat.{add-zero, sub-zero}
 use native.Mathlib.Numerals.{add-one}
@@ -9,16 +10,23 @@ use native.Mathlib.Omega.{arith}
 use borrow.Author.Tests.{lt-ltb, ltb-false}
 use lib.Dec.{ltb}
 use lib.ListN.{length, getD, take, drop, set, length-take}
-use lib.Seq.{drop-cons, getD-take, getD-drop}
+use lib.Seq.{drop-cons, take-suc}
 use Rattle.requests.specs.Choice.{either}
-use Rattle.requests.proofs.Tests.{either-true}
+use Rattle.requests.proofs.Tests.{either-true, either-parts}
+use Rattle.records.specs.Text.{newline}
 use Rattle.records.specs.Parse.{longest, parseText}
 use Rattle.answers.specs.Replies.{parsedReply}
-use Rattle.lines.specs.Pieces.{NewlineFree, NextNewline, keptLine}
+use Rattle.lines.specs.Pieces.{NewlineFree, keptLine}
 use Rattle.lines.specs.Stream.{keepByte, lineReply, feedState}
 use Rattle.lines.specs.declared.Feed.{Feed}
-use Rattle.lines.proofs.Kept.{free-places, head-free, tail-free, not-ending, keep-fitting, afterRun, kept-run}
+use Rattle.lines.proofs.Kept.{head-free, tail-free, not-ending, keep-fitting, afterRun, kept-run}
 use Rattle.lines.proofs.LineByLine.{front}
+
+-- a block without a newline up to a place that has none either
+pub free-next : (block : List ℕ) (at : ℕ) → at < length block → NewlineFree (take at block) → ¬ (getD block at 0 ≡ newline) → NewlineFree (take (at + 1) block)
+free-next block at inside free other =
+    rw (add-one, take-suc block at 0 inside) (λ m.
+    ⊎-elim free (λ last. other (sym (List·Memᴰ·eq-of-singleton last))) (List·Memᴰ·append-cases (take at block) m))
 
 -- a run leaves the session
 pub run-session : (f : Feed) (bs : List ℕ) → NewlineFree bs → feedState f bs .session ≡ f .session
@@ -64,33 +72,16 @@ module _ (piece : List ℕ) (i : ℕ) (inside : i < length piece) (free : Newlin
       → _≡_ {A = Feed} (record { session = f .session; kept = f .kept; used = f .used; long = true }) (feedState f (drop i piece))
   keep-no-more f h = rw (drop-cons piece i 0 inside) (sym (overlong f (getD piece i 0) (drop (suc i) piece) h here))
 
--- neither of two tests holds
-neither : (a b : Bool) → either a b ≡ false → (a ≡ false) × (b ≡ false)
-unfolding either
-neither true b e = let z : _≡_ {A = ℕ} 0 1 = cc in absurd (omega arith)
-neither false b e = (refl, e)
-
 -- a piece that ends a line of which nothing is kept is the line
 pub whole-line : (f : Feed) (bs : List ℕ) → length (f .kept) ≡ longest → either (f .long) (ltb 0 (f .used)) ≡ false → NewlineFree bs
     → keptLine (feedState f bs) ≡ parseText (take longest bs) true (ltb longest (length bs))
 unfolding keptLine afterRun either
 whole-line f bs full none free =
-    let unused : f .used ≡ 0 = omega (arith, ltb-false 0 (f .used) (neither (f .long) (ltb 0 (f .used)) none .1)) in
+    let unused : f .used ≡ 0 = omega (arith, ltb-false 0 (f .used) (either-parts (f .long) (ltb 0 (f .used)) none .1)) in
     rw (
       kept-run f bs free,
       unused,
-      neither (f .long) (ltb 0 (f .used)) none .0,
+      either-parts (f .long) (ltb 0 (f .used)) none .0,
       sub-zero longest,
       front (take longest bs) (f .kept) (omega (arith, length-take longest bs)),
     )
-
--- the part of a block up to the next newline has none
-module _ {block : List ℕ} {from at : ℕ} (next : NextNewline block from at) where
-  place : (k : ℕ) → k < at - from → getD (take (at - from) (drop from block)) k 0 ≡ getD block (from + k) 0
-  place k h = getD-take (at - from) (drop from block) k 0 h ∙ getD-drop from block k 0
-
-  pub part-free : NewlineFree (take (at - from) (drop from block))
-  part-free =
-      free-places (take (at - from) (drop from block)) (λ k inside e.
-      let h : k < at - from = omega (arith, length-take (at - from) (drop from block)) in
-      next .none-before (from + k) (omega (arith, next .after)) (omega arith) (sym (place k h) ∙ e))

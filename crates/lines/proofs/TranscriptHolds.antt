@@ -15,7 +15,7 @@ use Rattle.records.specs.Text.{newline}
 use Rattle.records.specs.Parse.{parseLine}
 use Rattle.records.specs.declared.Parsed.{Parsed}
 use Rattle.records.specs.declared.Parsed.the-variants.{Line, Fault}
-use Rattle.answers.specs.Replies.{Reply, parsedReply, answerLine}
+use Rattle.answers.specs.Replies.{parsedReply, answerLine}
 use Rattle.answers.specs.LinesAreCalls.{callsIn}
 use Rattle.answers.proofs.LinesAreCalls.{lines-are-calls}
 use Rattle.lines.specs.Stream.{lineStart, feedStart, feedState, feedText, endText, transcript}

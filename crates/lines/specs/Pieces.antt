@@ -13,11 +13,10 @@ use Rattle.lines.specs.declared.Feed.{Feed}
 abbrev pub NewlineFree : List ℕ → Type 0
 NewlineFree bytes = ¬ List·Memᴰ newline bytes
 
--- the place of the first newline from a place on, or the end where there is none
-pub record NextNewline (block : List ℕ) (from at : ℕ) : Type 0 where
-  pub after : from ≤ at
+-- the place of the first newline of a block, or its length where there is none
+pub record FirstNewline (block : List ℕ) (at : ℕ) : Type 0 where
   pub within : at ≤ length block
-  pub none-before : (k : ℕ) → k < at → from ≤ k → getD block k 0 ≡ newline → ⊥
+  pub before : NewlineFree (take at block)
   pub found : at < length block → getD block at 0 ≡ newline
 
 -- what the kept bytes are as a line that has just ended

@@ -1,14 +1,11 @@
 // The search for the end of a line.
-ghost use Prim.Native.Nat.{_≤_};
-ghost use lib.ListN.{length};
-ghost use Rattle.lines.specs.Pieces.{NextNewline};
+ghost use Rattle.lines.specs.Pieces.{FirstNewline};
 
-// The place of the first newline from a place on, or the block's length where there is none.
-pub fn newline_from(block: &[u8], from: usize) -> usize
-    requires { ⌜ from ≤ length (now block) ⌝ }
-    ensures { λ r. ⌜ NextNewline (now (block .entry)) from r ⌝ }
+// The place of the first newline of a block, or the block's length where there is none.
+pub fn newline_in(block: &[u8]) -> usize
+    ensures { λ r. ⌜ FirstNewline (now (block .entry)) r ⌝ }
 {
-    let mut at = from;
+    let mut at = 0;
     while at < block.len() {
         if block[at] == b'\n' {
             return at;

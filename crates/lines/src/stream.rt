@@ -1,11 +1,12 @@
 // The line program over blocks of input.
 use crate::Fed;
 use crate::Feed;
-use crate::newlines::newline_from;
+use crate::newlines::newline_in;
 use crate::pieces::begun;
 use crate::pieces::keep;
 use crate::pieces::parse_ended;
 use answers::LineReply;
+use answers::replies::REPLY_ROOM;
 use answers::replies::reply;
 use planner::open::new_session;
 use sessions::Session;
@@ -14,9 +15,6 @@ ghost use lib.ListN.{length};
 ghost use Rattle.answers.specs.Written.{inArray};
 ghost use Rattle.lines.specs.Stream.{lineStart, feedStart, endReply};
 ghost use Rattle.lines.specs.Blocks.{fedOf, fedOut};
-
-// Room for any reply, in bytes.
-const REPLY_ROOM: usize = 2048;
 
 // The state at the beginning of a line.
 fn line_start(session: Session) -> Feed
@@ -53,7 +51,7 @@ pub fn feed(feed: Feed, block: &[u8], out: &mut [u8]) -> Fed
                 written,
             };
         }
-        let end = newline_from(block, taken);
+        let end = taken + newline_in(&block[taken..]);
         if end == block.len() {
             return Fed {
                 feed: keep(next, &block[taken..]),

@@ -4,7 +4,7 @@ use mathlib.Core.Path.{_≡_, sym, ap, _∙_}
 use Prim.Native.Nat.{ℕ, suc, _+_, _-_, _≤_, _<_}
 use native.Mathlib.Omega.{arith}
 use lib.ListN.{length, getD, take, drop, length-append, length-drop}
-use lib.Seq.{take-all, take-add, drop-cons}
+use lib.Seq.{take-add, drop-cons}
 use Rattle.answers.specs.Written.{replyRoom, inArray}
 use Rattle.answers.specs.Replies.{Reply}
 use Rattle.lines.specs.Blocks.{takenOf, takenFrom, fedOf}
@@ -12,6 +12,7 @@ use Rattle.lines.specs.Stream.{feedState}
 use Rattle.lines.specs.declared.Feed.{Feed}
 use Rattle.lines.specs.declared.Fed.{Fed}
 use Rattle.lines.proofs.Cut.{state-append}
+use Rattle.lines.proofs.NextLine.{all-left}
 use Rattle.lines.proofs.Progress.{progress}
 
 -- what is known when so many bytes of a block are answered
@@ -46,8 +47,7 @@ module _ {f : Feed} {block : List ℕ} {next : Feed} {taken : ℕ} (room : ℕ) 
 
   pub part-passed : {fed : Fed} → taken < length block → replyRoom ≤ room → fed ≡ fedOf next (take (length block - taken) (drop taken block)) room
       → PartPassed f block taken room fed
-  part-passed left roomy answer =
-      rw (answer, take-all (length block - taken) (drop taken block) (omega (arith, length-drop taken block))) (part-passed-by left roomy)
+  part-passed left roomy answer = rw (answer, all-left block taken) (part-passed-by left roomy)
 
 -- a reply in an array of its own lies within it
 pub array-holds : (x : Reply) → inArray x .length ≤ length (inArray x .text)

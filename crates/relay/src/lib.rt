@@ -1,17 +1,17 @@
 // The line program over two descriptors: lines come from one, and the replies go to the other.
 // No contract can say what is read and written there: what is read is answered by `lines`, and `pass_block` says that all of it is.
+use answers::replies::REPLY_ROOM;
 use lines::Feed;
 use lines::stream::end;
 use lines::stream::feed;
 use lines::stream::start;
-ghost use Prim.Native.Nat.{_≤_};
+ghost use mathlib.Core.Bool.{false};
+ghost use mathlib.Core.Path.{_≡_};
+ghost use Prim.Native.Nat.{_≤_, _<_};
 ghost use lib.ListN.{length};
 ghost use Rattle.io.specs.Counts.{Counts};
 ghost use Rattle.relay.specs.Passing.{Passing};
 ghost use Rattle.answers.specs.Written.{replyRoom};
-
-// Room for any reply, in bytes.
-const REPLY_ROOM: usize = 2048;
 
 // What a block leaves: the state, the number of bytes answered, and whether all their replies were written.
 struct Passed {
@@ -98,8 +98,11 @@ fn answer_all(input: i32, output: i32, block: &mut [u8], out: &mut [u8]) -> bool
 }
 
 // Answers the lines that come from the input, a session of their own, until it ends or a write fails: whether all was written.
-// An output without room for a reply is not used.
-pub fn answer_input(input: i32, output: i32, block: &mut [u8], out: &mut [u8]) -> bool {
+// An output without room for a reply is not used, and the answer is then false.
+pub fn answer_input(input: i32, output: i32, block: &mut [u8], out: &mut [u8]) -> bool
+    ensures refused { λ r. ⌜ (length (now (out .entry)) < replyRoom → r ≡ false) ⌝ }
+    ensures unused { λ _. ⌜ (length (now (out .entry)) < replyRoom → now (out .exit) ≡ now (out .entry)) ⌝ }
+{
     if out.len() < REPLY_ROOM {
         return false;
     }

@@ -1,7 +1,7 @@
+-- The part lies within the text.
 use mathlib.Core.Path.{sym}
 use denote.Ref.{now}
 use lib.Seq.{length-take-le}
--- The part lies within the text.
 use borrow.Author.Needs.{needs}
 use Rattle.relay.proofs.write_start.Statement.{statement}
 use Rattle.relay.proofs.write_start.Tie as tie

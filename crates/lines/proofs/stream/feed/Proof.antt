@@ -6,7 +6,7 @@ use borrow.Author.Needs.{needs}
 use denote.Ref.{now}
 use lib.ListN.{length}
 use Rattle.answers.specs.Written.{replyRoom}
-use Rattle.lines.proofs.Runs.{part-free}
+use Rattle.lines.proofs.NextLine.{left-within, piece-free, rest-free}
 use Rattle.lines.proofs.Feeding.{FedSoFar, fed-none, fed-length, fed-reply, fed-rest, fed-full, fed-end}
 use Rattle.lines.proofs.stream.feed.Statement.{statement}
 use Rattle.lines.proofs.stream.feed.Tie as tie
@@ -21,26 +21,35 @@ loop-holds : tie.Need-loop-holds Inv-loop μ-loop
 loop-holds c = let a = c .before .before .args in fed-none (a .feed) (now (a .block)) (now (a .out))
 
 sub-if1 : tie.Need-sub-if1 Inv-loop μ-loop
-sub-if1 c =
-    let l = c .before .loop in
-    omega (arith, l .inv .room, fed-length (l .inv))
+sub-if1 c = let l = c .before .loop in omega (arith, l .inv .room, fed-length (l .inv))
 
 same-length : tie.Need-same-length Inv-loop μ-loop
-same-length c =
-    let l = c .before .before .loop in
-    fed-length (l .inv)
+same-length c = fed-length (c .before .before .loop .inv)
 
 returns : tie.Need-returns Inv-loop μ-loop
 unfolding replyRoom
-returns c =
-    let l = c .before .before .loop in
-    fed-full (l .inv) (omega (arith, c .if1 .taken, fed-length (l .inv)))
+returns c = let l = c .before .before .loop in fed-full (l .inv) (omega (arith, c .if1 .taken, fed-length (l .inv)))
 
-newline-from-requires : tie.Need-newline-from-requires Inv-loop μ-loop
-newline-from-requires c κs = c .before .before .loop .inv .within
+sub-newline-in : tie.Need-sub-newline-in Inv-loop μ-loop
+sub-newline-in c = c .before .before .loop .inv .within
+
+part-newline-in-start : tie.Need-part-newline-in-start Inv-loop μ-loop
+part-newline-in-start c = search needs
+
+part-newline-in-end : tie.Need-part-newline-in-end Inv-loop μ-loop
+part-newline-in-end c = search needs
+
+newline-in-requires : tie.Need-newline-in-requires Inv-loop μ-loop
+newline-in-requires c κs = tt
+
+add-end : tie.Need-add-end Inv-loop μ-loop
+add-end c =
+    let start = c .before .before .before .before .before .before .before in
+    let l = c .before .before .before .before .loop in
+    omega (arith, left-within (now (start .args .block)) (l .taken) (c .newline-in .ensures), l .inv .within, start .good)
 
 sub-keep : tie.Need-sub-keep Inv-loop μ-loop
-sub-keep c = c .before .before .before .before .loop .inv .within
+sub-keep c = c .before .before .before .before .before .loop .inv .within
 
 part-keep-start : tie.Need-part-keep-start Inv-loop μ-loop
 part-keep-start c = search needs
@@ -50,37 +59,40 @@ part-keep-end c = search needs
 
 keep-requires : tie.Need-keep-requires Inv-loop μ-loop
 keep-requires c κs =
-    rw (c .before .if2 .taken) at (part-free (c .before .before .newline-from .ensures))
+    let turn = c .before .before .before .before .before .before in
+    rest-free (now (turn .before .before .before .args .block)) (turn .loop .taken) (c .before .before .newline-in .ensures) (c .before .if2 .taken)
 
 same-length-2 : tie.Need-same-length-2 Inv-loop μ-loop
-same-length-2 c =
-    let l = c .before .before .before .before .before .before .loop in
-    fed-length (l .inv)
+same-length-2 c = fed-length (c .before .before .before .before .before .before .before .loop .inv)
 
 returns-2 : tie.Need-returns-2 Inv-loop μ-loop
 unfolding replyRoom
 returns-2 c =
-    let l = c .before .before .before .before .before .before .loop in
-    let none = rw (c .before .before .if2 .taken) at (c .before .before .before .newline-from .ensures) in
-    let rest = fed-rest (l .inv) none (omega (arith, c .before .before .before .before .if1 .left, fed-length (l .inv))) in
-    rw (c .keep .ensures, c .before .before .if2 .taken) (fed-end rest refl)
+    let l = c .before .before .before .before .before .before .before .loop in
+    let end = c .before .before .if2 .taken in
+    let free = rest-free (now (c .before .before .before .before .before .before .before .before .before .before .args .block)) (l .taken) (c .before .before .before .newline-in .ensures) end in
+    let rest = fed-rest (l .inv) free (omega (arith, c .before .before .before .before .before .if1 .left, fed-length (l .inv))) in
+    rw (c .keep .ensures, end) (fed-end rest refl)
 
 sub-parse-ended : tie.Need-sub-parse-ended Inv-loop μ-loop
-sub-parse-ended c = c .before .newline-from .ensures .after
+sub-parse-ended c = omega arith
 
 part-parse-ended-start : tie.Need-part-parse-ended-start Inv-loop μ-loop
 part-parse-ended-start c = search needs
 
 part-parse-ended-end : tie.Need-part-parse-ended-end Inv-loop μ-loop
-part-parse-ended-end c = search needs
+part-parse-ended-end c =
+    let start = c .before .before .before .before .before .before .before .before in
+    let l = c .before .before .before .before .before .loop in
+    omega (arith, left-within (now (start .args .block)) (l .taken) (c .before .newline-in .ensures), l .inv .within)
 
 parse-ended-requires : tie.Need-parse-ended-requires Inv-loop μ-loop
-parse-ended-requires c κs = part-free (c .before .before .newline-from .ensures)
+parse-ended-requires c κs =
+    let turn = c .before .before .before .before .before .before in
+    piece-free (now (turn .before .before .before .args .block)) (turn .loop .taken) (c .before .before .newline-in .ensures)
 
 sub-reply : tie.Need-sub-reply Inv-loop μ-loop
-sub-reply c =
-    let l = c .before .before .before .before .before .before .before .loop in
-    omega (arith, l .inv .room, fed-length (l .inv))
+sub-reply c = let l = c .before .before .before .before .before .before .before .before .loop in omega (arith, l .inv .room, fed-length (l .inv))
 
 part-reply-start : tie.Need-part-reply-start Inv-loop μ-loop
 part-reply-start c = search needs
@@ -98,36 +110,35 @@ line-start-requires c κs = tt
 loop-again : tie.Need-loop-again Inv-loop μ-loop
 unfolding replyRoom
 loop-again c =
-    let l = c .before .before .before .before .before .before .before .before .before .before .before .before .before .before .loop in
-    let n = c .before .before .before .before .before .before .before .before .before .before .before .newline-from in
+    let replied = c .before .before .before .before .before .reply in
+    let found = c .before .before .before .before .before .before .before .before .before .before in
+    let first = found .before .newline-in .ensures in
+    let l = found .before .before .before .before .before .loop in
+    let block = now (found .before .before .before .before .before .before .before .before .args .block) in
     fed-reply
     (l .inv)
-    (n .ensures)
-    (omega (arith, n .ensures .within, c .before .before .before .before .before .before .before .before .before .before .if2 .left))
-    (omega (arith, c .before .before .before .before .before .before .before .before .before .before .before .before .if1 .left, fed-length (l .inv)))
+    first
+    (omega (arith, left-within block (l .taken) first, l .inv .within, found .if2 .left))
+    (omega (arith, found .before .before .before .if1 .left, fed-length (l .inv)))
     (c .before .before .before .before .before .before .before .before .parse-ended .ensures)
-    (c .before .before .before .before .before .reply .ensures .0)
-    (c .before .before .before .before .before .reply .ensures .1)
+    (replied .ensures .0)
+    (replied .ensures .1)
     (c .before .line-start .ensures)
 
 add-written : tie.Need-add-written Inv-loop μ-loop
-add-written c = omega (arith, loop-again c .room, c .before .before .before .before .before .before .before .before .before .before .before .before .before .before .before .before .before .good)
+add-written c = omega (arith, loop-again c .room, c .before .before .before .before .before .before .before .before .before .before .before .before .before .before .before .before .before .before .good)
 
 add-taken : tie.Need-add-taken Inv-loop μ-loop
-add-taken c = omega (arith, loop-again c .within, c .before .before .before .before .before .before .before .before .before .before .before .before .before .before .before .before .before .good)
+add-taken c = omega (arith, loop-again c .within, c .before .before .before .before .before .before .before .before .before .before .before .before .before .before .before .before .before .before .good)
 
 loop-less : tie.Need-loop-less Inv-loop μ-loop
-loop-less c = omega (arith, c .before .before .before .before .before .before .before .before .before .before .before .newline-from .ensures .after, loop-again c .within)
+loop-less c = omega (arith, loop-again c .within)
 
 same-length-3 : tie.Need-same-length-3 Inv-loop μ-loop
-same-length-3 c =
-    let l = c .before .loop in
-    fed-length (l .inv)
+same-length-3 c = fed-length (c .before .loop .inv)
 
 returns-3 : tie.Need-returns-3 Inv-loop μ-loop
-returns-3 c =
-    let l = c .before .loop in
-    fed-end (l .inv) (omega (arith, l .inv .within))
+returns-3 c = let l = c .before .loop in fed-end (l .inv) (omega (arith, l .inv .within))
 
 pub feed-spec : {M : Type 1} → statement M
 feed-spec =
@@ -139,7 +150,11 @@ feed-spec =
     sub-if1
     same-length
     returns
-    newline-from-requires
+    sub-newline-in
+    part-newline-in-start
+    part-newline-in-end
+    newline-in-requires
+    add-end
     sub-keep
     part-keep-start
     part-keep-end
