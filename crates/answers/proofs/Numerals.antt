@@ -32,6 +32,14 @@ pub hex-next : (i n : ℕ) → hexText (i + 1) n ≡ hexText i (n / 16) ++ hexDi
 unfolding hexText
 hex-next i n = rw add-one
 
+-- in front of the digits of a number stand zeros
+pub hex-zeros : (w n : ℕ) → n < 16 ^ w → hexText (8 + w) n ≡ bytes "00000000" ++ hexText w n
+unfolding hexText hexDigit bytes
+hex-zeros zero n h = let e : n ≡ 0 = omega arith in rw e
+hex-zeros (suc w) n h =
+    let e : 8 + suc w ≡ suc (8 + w) = omega arith in
+    rw e (ap (λ (x : List ℕ). x ++ hexDigit (n % 16) ∷ []) (hex-zeros w (n / 16) (omega (arith, pow-suc 16 w))))
+
 -- ---- decimal
 
 -- one digit is enough for a number below 10

@@ -9,13 +9,17 @@ ghost use Rattle.records.specs.Text.{hexText};
 ghost use Rattle.answers.specs.Replies.{setLines};
 ghost use Rattle.answers.specs.Texts.{Put};
 
-// Puts a value in 16 hex digits; most of those of a write list are 0.
+// Puts a value in 16 hex digits. Most of those of a write list are 0, and few have more than 32 bits.
 fn put_value(out: &mut [u8], at: usize, value: u64) -> usize
     requires { ⌜ at + 16 ≤ length (now out) ⌝ }
     ensures { λ r. ⌜ Put (now (out .entry)) at (hexText 16 value) (now (out .exit)) r ⌝ }
 {
     if value == 0 {
         return put_bytes(out, at, b"0000000000000000");
+    }
+    if value < 0x1_0000_0000 {
+        let half = put_bytes(out, at, b"00000000");
+        return put_hex(out, half, 8, value);
     }
     put_hex(out, at, 16, value)
 }
