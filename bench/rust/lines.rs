@@ -16,7 +16,7 @@ use std::process::{exit, Command, Stdio};
 use std::time::Instant;
 
 const SEED: u64 = 1;
-const RUNS: usize = 5;
+const RUNS: usize = 15;
 
 /// Runs a program on a transcript, from its start to its end, and tells the seconds.
 fn seconds(program: &str, input: &str, output: Stdio) -> f64 {
