@@ -4,6 +4,7 @@ pub mod WordBits
 pub mod CounterSets
 pub mod RegisterAddresses
 pub mod RegistersAfter
+pub mod WriteByWrite
 pub mod GlobalValues
 pub mod OthersUntouched
 pub mod WriteCount
@@ -20,6 +21,8 @@ pub mod PlanWords
 pub mod PlanFilters
 pub mod PlanTold
 pub mod LeftValues
+pub mod WritesAtRest
+pub mod RestWhileWritten
 pub mod RoundTrip
 pub mod BuiltPlans
 pub mod FoundPlans

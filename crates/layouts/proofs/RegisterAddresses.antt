@@ -39,6 +39,7 @@ write-room S = omega arith
 -- no two registers have one address
 pub record Apart (d : Device) : Type 0 where
   pub control-control : (j k : ℕ) → controlAt d j ≡ controlAt d k → j ≡ k
+  pub counter-counter : (j k : ℕ) → counterAt d j ≡ counterAt d k → j ≡ k
   pub counter-control : (j k : ℕ) → j < capacity → k < capacity → counterAt d j ≡ controlAt d k → ⊥
   pub global-control : (k : ℕ) → k < capacity → layoutOf d .global ≡ controlAt d k → ⊥
   pub global-counter : (k : ℕ) → k < capacity → layoutOf d .global ≡ counterAt d k → ⊥
@@ -51,6 +52,7 @@ unfolding capacity layoutOf controlAt counterAt filtersAt rsp0At rsp1At mmCfgAt 
 apart G =
     record {
       control-control = λ j k e. omega arith;
+      counter-counter = λ j k e. omega arith;
       counter-control = λ j k a b e. omega arith;
       global-control = λ k a e. omega arith;
       global-counter = λ k a e. omega arith;
@@ -61,6 +63,7 @@ apart G =
 apart S =
     record {
       control-control = λ j k e. omega arith;
+      counter-counter = λ j k e. omega arith;
       counter-control = λ j k a b e. omega arith;
       global-control = λ k a e. omega arith;
       global-counter = λ k a e. omega arith;

@@ -36,7 +36,7 @@ unfolding apply after
 apply-after [] r a = refl
 apply-after (w ∷ ws) r a = apply-after ws (store w r) a
 
-after-append : (xs ys : List Write) (a x : ℕ) → after (xs ++ ys) a x ≡ after ys a (after xs a x)
+pub after-append : (xs ys : List Write) (a x : ℕ) → after (xs ++ ys) a x ≡ after ys a (after xs a x)
 unfolding after
 after-append [] ys a x = refl
 after-append (w ∷ xs) ys a x = after-append xs ys a (pick (eqb (w .0) a) (w .1) x)

@@ -5,6 +5,7 @@ pub mod Read
 pub mod Told
 pub mod NoReservedBit
 pub mod OthersUntouched
+pub mod RestWhileWritten
 pub mod WriteCount
 pub mod RoundTrip
 pub mod ExactReader

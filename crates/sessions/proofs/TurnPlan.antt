@@ -12,6 +12,7 @@ use Rattle.requests.specs.Checks.{Formed}
 use Rattle.plans.specs.Lists.{All}
 use Rattle.layouts.proofs.NoReservedBit.{no-reserved-bit}
 use Rattle.layouts.proofs.OthersUntouched.{others-untouched}
+use Rattle.layouts.proofs.RestWhileWritten.{rest-while-written}
 use Rattle.layouts.proofs.RoundTrip.{round-trip}
 use Rattle.sessions.specs.Turns.{requestsOf, taken, passed, turned, placesOf, writesOf}
 use Rattle.sessions.specs.Calls.{Turn, Plain, opened}
@@ -47,6 +48,7 @@ turn-done s q session slice same sound accepted =
       clean = no-reserved-bit .clean s _ _ formed (first .legal);
       others = others-untouched .kept s _ _ (first .legal);
       enabled = others-untouched .enabled s _ _ (first .legal);
+      rests = rest-while-written s _ _ (first .legal);
       read = round-trip s _ _ (sound .setup) formed (first .legal);
       next = turn-next-is session s q same (length slice) accepted;
     }

@@ -16,6 +16,7 @@ use Rattle.layouts.specs.Layout.{layoutOf}
 use Rattle.layouts.specs.Writes.{writes, filled, apply}
 use Rattle.layouts.specs.NoReservedBit.{Clean}
 use Rattle.layouts.specs.OthersUntouched.{Ours}
+use Rattle.layouts.specs.RestWhileWritten.{Rests}
 use Rattle.layouts.specs.RoundTrip.{ReadBack}
 use Rattle.sessions.specs.Turns.{requestsOf, taken, turned, assign}
 use Rattle.sessions.specs.Calls.{Call, opened}
@@ -38,6 +39,8 @@ pub record TurnDone (s : Setup) (q : List Entry) (before : Session) (slice : Lis
   pub others : (registers : ℕ → ℕ) (a : ℕ) → ¬ Ours s a → apply (writes s (requestsOf (taken s q)) places) registers a ≡ registers a
   pub enabled : (v k : ℕ) → List·Memᴰ (layoutOf (s .device) .global, v) (writes s (requestsOf (taken s q)) places) → k < counterCount (s .device)
       → has (s .usable) k ≡ false → bit k v ≡ true
+  -- counters rest while their registers are written, and are enabled by the last write
+  pub rests : Rests s (requestsOf (taken s q)) (writes s (requestsOf (taken s q)) places)
   -- "applied to any registers and read, give that turn's plan counter by counter"
   pub read : (registers : ℕ → ℕ) → ReadBack s (requestsOf (taken s q)) places (writes s (requestsOf (taken s q)) places) registers
   -- the queue afterwards

@@ -1,0 +1,284 @@
+-- Counters rest while their registers are written: `RestWhileWritten`, write by write (`Along`), part by part of the list. Assumes nothing.
+use mathlib.Core.Path.{_≡_, refl, sym, ap, subst, _∙_}
+use mathlib.Core.Logic.{_≢_}
+use mathlib.Core.Bool.{Bool, true, false, not, true≢false, false≢true}
+use mathlib.Core.List.{List, [], _∷_, _++_, List·Memᴰ, List·Memᴰ·head, List·Memᴰ·tail, flatMap}
+use Prim.Native.Nat.{ℕ, suc, _+_, _%_, _^_, _≤_, _<_}
+use native.Mathlib.Nat.{zero-add, le-refl}
+use native.Mathlib.Decide.{ℕ-discrete}
+use native.Mathlib.Omega.{arith}
+use lib.ListN.{getD}
+use Rattle.requests.specs.Choice.{either}
+use Rattle.requests.specs.declared.CounterSet.{CounterSet}
+use Rattle.requests.specs.declared.Device.{Device}
+use Rattle.requests.specs.declared.Device.the-variants.{G, S}
+use Rattle.requests.specs.declared.Setup.{Setup}
+use Rattle.requests.specs.declared.Request.{Request}
+use Rattle.requests.specs.Bits.{bit, inList}
+use Rattle.requests.specs.Devices.{has, counterCount, capacity}
+use Rattle.plans.specs.declared.Place.{Place}
+use Rattle.plans.specs.Lists.{nil, cons}
+use Rattle.plans.specs.Legal.{Usable, Legal, packetsOf, counters}
+use Rattle.plans.proofs.Sets.{all-append, all-imp}
+use Rattle.layouts.specs.Layout.{layoutOf, controlAt, counterAt, filtersAt, rsp0At, rsp1At, mmCfgAt, matchAt, maskAt, mmEnable}
+use Rattle.layouts.specs.Settings.{headOr, nonempty, settingsOf}
+use Rattle.layouts.specs.Writes.{Write, rows, zeros, unusable, offcoreWrites, packetWrites, filterWrites, writesFor, writes}
+use Rattle.layouts.specs.RestWhileWritten.{LastWritten, EnablesNone, Disabled, Cleared, Quiet, Matching, AtRest, StoppedFirst, EnabledLast, RestWhileWritten}
+use Rattle.layouts.specs.declared.Settings.{Settings}
+use Rattle.layouts.proofs.ListLaws.{all-member, zero-at}
+use Rattle.layouts.proofs.UsableSets.{on}
+use Rattle.layouts.proofs.CounterSets.{bit-set}
+use Rattle.layouts.proofs.RegisterAddresses.{in-room, apart}
+use Rattle.layouts.proofs.RegistersAfter.{rows-all, filter-addresses}
+use Rattle.layouts.proofs.WriteByWrite.{Along, last-here, last-other, last-member, member-other, along-then, along-at, rows-along}
+use Rattle.layouts.proofs.WritesAtRest.{global-rests, control-rests, count-rests, filter-rests}
+use Rattle.layouts.proofs.GlobalValues.{used-has, used-usable, unusable-set, global-set}
+use Rattle.layouts.proofs.PlanFilters.{devices-differ}
+
+-- ---- the filter registers
+
+-- a write of another register leaves the last value of the global one
+disabled-other : (s : Setup) {b : List Write} (w : Write) → w .0 ≢ layoutOf (s .device) .global → Disabled s b → Disabled s (b ++ w ∷ [])
+disabled-other s w g h = (h .0, last-other w g (h .1), h .2)
+
+-- no usable counter is enabled, and none has an event
+abbrev AllQuiet : Setup → List Write → Type 0
+AllQuiet s b = Disabled s b × Quiet s b
+
+quiet-filter : (s : Setup) (w : Write) (b : List Write) → List·Memᴰ (w .0) (filtersAt (s .device)) → AllQuiet s b → AllQuiet s (b ++ w ∷ [])
+quiet-filter s w b m q = (
+  disabled-other s w (all-member (apart (s .device) .filter-global) m) (q .0),
+  λ k u. last-other w (all-member (apart (s .device) .filter-control k (in-room (s .device) k (u .0))) m) (q .1 k u),
+)
+
+no-match : List·Memᴰ mmCfgAt (matchAt ∷ maskAt ∷ []) → ⊥
+unfolding mmCfgAt matchAt maskAt
+no-match m = all-member {P = λ (a : ℕ). a ≡ mmCfgAt → ⊥} (cons {a = matchAt} (λ e. omega arith) (cons {a = maskAt} (λ e. omega arith) nil)) m refl
+
+asked-first : (asked : List (ℕ × ℕ)) → nonempty asked ≡ true → List·Memᴰ (headOr (0, 0) asked .0, headOr (0, 0) asked .1) asked
+asked-first [] some = absurd (false≢true some)
+asked-first (p ∷ asked) some = List·Memᴰ·head refl
+
+-- one write of a filter register
+filter-along : (s : Setup) (rs : List Request) (b : List Write) → AllQuiet s b → (a v : ℕ) → List·Memᴰ a (filtersAt (s .device))
+    → (s .device ≡ S → List·Memᴰ a (matchAt ∷ maskAt ∷ []) → LastWritten b mmCfgAt 0)
+    → (s .device ≡ S → a ≡ mmCfgAt → v ≢ 0 → Matching rs b)
+    → Along (AtRest s rs) b ((a, v) ∷ []) × AllQuiet s (b ++ (a, v) ∷ [])
+filter-along s rs b q a v m match-off match-set = ((filter-rests s rs b (q .0) (q .1) a v m match-off match-set, tt), quiet-filter s (a, v) b m q)
+
+packets-rest : (u : CounterSet) (rs : List Request) (asked : Bool) (x y : ℕ) → (asked ≡ true → List·Memᴰ (x, y) (flatMap packetsOf rs))
+    → (b : List Write) → AllQuiet (on S u) b → Along (AtRest (on S u) rs) b (packetWrites asked x y) × AllQuiet (on S u) (b ++ packetWrites asked x y)
+unfolding packetWrites filtersAt mmCfgAt matchAt maskAt
+packets-rest u rs true x y is b q =
+    let s : Setup = on S u in
+    let P = AtRest s rs in
+    let cfg : List·Memᴰ mmCfgAt (filtersAt S) = List·Memᴰ·head refl in
+    let mat : List·Memᴰ matchAt (filtersAt S) = List·Memᴰ·tail (List·Memᴰ·head refl) in
+    let msk : List·Memᴰ maskAt (filtersAt S) = List·Memᴰ·tail (List·Memᴰ·tail (List·Memᴰ·head refl)) in
+    let off : Write = (mmCfgAt, 0) in
+    let matched : Write = (matchAt, x) in
+    let masked : Write = (maskAt, y) in
+    let Off : List Write → Type 0 = λ c. AllQuiet s c × LastWritten c mmCfgAt 0 in
+    let Matched : List Write → Type 0 = λ c. AllQuiet s c × LastWritten c mmCfgAt 0 × LastWritten c matchAt x in
+    let Masked : List Write → Type 0 = λ c. AllQuiet s c × LastWritten c matchAt x × LastWritten c maskAt y in
+    let one = filter-along s rs b q mmCfgAt 0 cfg (λ g m. absurd (no-match m)) (λ g e some. absurd (some refl)) in
+    let two = along-then P Off Matched b (off ∷ []) (matched ∷ []) (one .0, (one .1, last-here b mmCfgAt 0))
+    (λ c i. let w = filter-along s rs c (i .0) matchAt x mat (λ g m. i .1) (λ g e. absurd (omega arith)) in
+    (w .0, (w .1, last-other matched (λ e. omega arith) (i .1), last-here c matchAt x))) in
+    let three = along-then P Matched Masked b (off ∷ matched ∷ []) (masked ∷ []) two
+    (λ c i. let w = filter-along s rs c (i .0) maskAt y msk (λ g m. i .1) (λ g e. absurd (omega arith)) in
+    (w .0, (w .1, last-other masked (λ e. omega arith) (i .2), last-here c maskAt y))) in
+    along-then P Masked (AllQuiet s) b (off ∷ matched ∷ masked ∷ []) ((mmCfgAt, 2 ^ mmEnable) ∷ []) three
+    (λ c i. filter-along s rs c (i .0) mmCfgAt (2 ^ mmEnable) cfg (λ g m. absurd (no-match m)) (λ g e some. (x, y, is refl, i .1, i .2)))
+packets-rest u rs false x y is b q = filter-along (on S u) rs b q mmCfgAt 0 (List·Memᴰ·head refl) (λ g m. absurd (no-match m)) (λ g e some. absurd (some refl))
+
+filters-rest : (d : Device) (u : CounterSet) (rs : List Request) (ps : List Place) (b : List Write) → AllQuiet (on d u) b
+    → Along (AtRest (on d u) rs) b (filterWrites d (settingsOf d rs ps)) × AllQuiet (on d u) (b ++ filterWrites d (settingsOf d rs ps))
+unfolding filterWrites offcoreWrites filtersAt settingsOf
+filters-rest G u rs ps b q =
+    let t = settingsOf G rs ps in
+    let s : Setup = on G u in
+    along-then (AtRest s rs) (AllQuiet s) (AllQuiet s) b ((rsp0At, t .rsp0) ∷ []) ((rsp1At, t .rsp1) ∷ [])
+    (filter-along s rs b q rsp0At (t .rsp0) (List·Memᴰ·head refl) (λ g. absurd (devices-differ g)) (λ g. absurd (devices-differ g)))
+    (λ c i. filter-along s rs c i rsp1At (t .rsp1) (List·Memᴰ·tail (List·Memᴰ·head refl)) (λ g. absurd (devices-differ g)) (λ g. absurd (devices-differ g)))
+filters-rest S u rs ps b q = let asked = flatMap packetsOf rs in packets-rest u rs (nonempty asked) (headOr (0, 0) asked .0) (headOr (0, 0) asked .1) (asked-first asked) b q
+
+-- ---- the list
+
+-- the first value of the global register enables no usable counter
+unusable-none : (s : Setup) → EnablesNone s (unusable s)
+unusable-none s k u =
+    let off : not (has (s .usable) (0 + k)) ≡ false = rw (zero-add k) (ap not (u .1)) in
+    rw (unusable-set s) (bit-set (counterCount (s .device)) 0 k (λ j. not (has (s .usable) j)) (u .0) ∙ off)
+
+-- the last one only those that are used
+enabled-used : (s : Setup) (rs : List Request) (ps : List Place) → Legal s rs ps → (k : ℕ) → Usable s k
+    → bit k (unusable s + settingsOf (s .device) rs ps .used .0 % 2 ^ counterCount (s .device)) ≡ true → has (settingsOf (s .device) rs ps .used) k ≡ true
+unfolding either
+enabled-used s rs ps legal k u h =
+    let d = s .device in
+    let n = counterCount (s .device) in
+    let bits = bit-set n 0 k (λ j. either (not (has (s .usable) j)) (inList (counters ps) j)) (u .0) in
+    let used : either (not (has (s .usable) k)) (inList (counters ps) k) ≡ true = rw (global-set s rs ps legal, bits, zero-add k) at h in
+    used-has d rs ps k (u .0) ∙ (rw (u .1) at used)
+
+-- a 0 that is written to a counter's register
+zero-here : (b : List Write) (a k : ℕ) → LastWritten (b ++ (a, getD zeros k 0) ∷ []) a 0
+unfolding zeros
+zero-here b a k = subst (λ (v : ℕ). LastWritten (b ++ (a, getD zeros k 0) ∷ []) a v) (zero-at capacity k) (last-here b a (getD zeros k 0))
+
+module _ (s : Setup) (rs : List Request) (ps : List Place) (legal : Legal s rs ps) where
+  abbrev n : ℕ
+  n = counterCount (s .device)
+
+  abbrev t : Settings
+  t = settingsOf (s .device) rs ps
+
+  abbrev clear : List Write
+  clear = rows n (s .usable) (layoutOf (s .device) .control) (layoutOf (s .device) .step) zeros
+
+  abbrev counts : List Write
+  counts = rows n (t .used) (layoutOf (s .device) .counter) (layoutOf (s .device) .step) zeros
+
+  abbrev words : List Write
+  words = rows n (t .used) (layoutOf (s .device) .control) (layoutOf (s .device) .step) (t .words)
+
+  -- the counts of the used counters below k are zeroed
+  abbrev Zeroed : ℕ → List Write → Type 0
+  Zeroed k b = (j : ℕ) → j < k → has (t .used) j ≡ true → LastWritten b (counterAt (s .device) j) 0
+
+  -- no usable counter is enabled, the selects of those below k are cleared
+  abbrev ClearedTo : ℕ → List Write → Type 0
+  ClearedTo k b = Disabled s b × ((j : ℕ) → j < k → Usable s j → LastWritten b (controlAt (s .device) j) 0)
+
+  -- all are quiet, and the counts of the used counters below k are zeroed
+  abbrev ZeroedTo : ℕ → List Write → Type 0
+  ZeroedTo k b = AllQuiet s b × Zeroed k b
+
+  -- all selects have been cleared, the usable counters from k on have no event, and the counts of the used ones are zeroed
+  abbrev SelectedTo : ℕ → List Write → Type 0
+  SelectedTo k b = Disabled s b × Cleared s b × ((j : ℕ) → k ≤ j → Usable s j → LastWritten b (controlAt (s .device) j) 0) × Zeroed n b
+
+  -- a number below the next one is k, or below k
+  below-next : {A : Type 0} (j k : ℕ) → j < suc k → (j ≡ k → A) → (j < k → A) → A
+  below-next j k l here before = elim (ℕ-discrete j k) [ yes e ↦ here e | no other ↦ before (let z = other in omega arith) ]
+
+  clear-rests : (b : List Write) → Disabled s b → Along (AtRest s rs) b clear × AllQuiet s (b ++ clear)
+  unfolding controlAt counterAt zeros
+  clear-rests b disabled =
+      let d = s .device in
+      let l = layoutOf d in
+      let along = rows-along (AtRest s rs) ClearedTo (s .usable) (l .control) (l .step) zeros n
+      (λ k m h c i. let w : Write = (controlAt d k, getD zeros k 0) in (
+        control-rests s rs c (i .0) k (getD zeros k 0) m (λ some. absurd (some (zero-at capacity k))),
+        (
+          disabled-other s w (λ e. apart d .global-control k (in-room d k m) (sym e)) (i .0),
+          λ j p u. below-next j k p (λ e. rw e (zero-here c (controlAt d k) k))
+              (λ q. last-other w (λ e. let z = apart d .control-control k j e in omega arith) (i .1 j q u)),
+        ),
+      ))
+      (λ k off c i. (i .0, λ j p u. below-next j k p (λ e. absurd (true≢false (sym (rw e at (u .1)) ∙ off))) (λ q. i .1 j q u)))
+      b (disabled, λ j p u. absurd (omega arith)) in
+      (along .0, (along .1 .0, λ j u. along .1 .1 j (u .0) u))
+
+  counts-rest : (b : List Write) → AllQuiet s b → Along (AtRest s rs) b counts × SelectedTo 0 (b ++ counts)
+  unfolding controlAt counterAt zeros
+  counts-rest b quiet =
+      let d = s .device in
+      let l = layoutOf d in
+      let along = rows-along (AtRest s rs) ZeroedTo (t .used) (l .counter) (l .step) zeros n
+      (λ k m h c i. let w : Write = (counterAt d k, getD zeros k 0) in (
+        count-rests s rs c (i .0 .0) (i .0 .1) k (getD zeros k 0) m,
+        (
+          (
+            disabled-other s w (λ e. apart d .global-counter k (in-room d k m) (sym e)) (i .0 .0),
+            λ j u. last-other w (apart d .counter-control k j (in-room d k m) (in-room d j (u .0))) (i .0 .1 j u),
+          ),
+          λ j p g. below-next j k p (λ e. rw e (zero-here c (counterAt d k) k))
+              (λ q. last-other w (λ e. let z = apart d .counter-counter k j e in omega arith) (i .1 j q g)),
+        ),
+      ))
+      (λ k off c i. (i .0, λ j p g. below-next j k p (λ e. absurd (true≢false (sym (rw e at g) ∙ off))) (λ q. i .1 j q g)))
+      b (quiet, λ j p g. absurd (omega arith)) in (
+        along .0,
+        (
+          along .1 .0 .0,
+          λ j u. last-member (along .1 .0 .1 j u),
+          λ j p u. along .1 .0 .1 j u,
+          along .1 .1,
+        ),
+      )
+
+  words-rest : (b : List Write) → SelectedTo 0 b → Along (AtRest s rs) b words × SelectedTo n (b ++ words)
+  unfolding controlAt counterAt
+  words-rest b ready =
+      let d = s .device in
+      let l = layoutOf d in
+      rows-along (AtRest s rs) SelectedTo (t .used) (l .control) (l .step) (t .words) n
+      (λ k m h c i. let w : Write = (controlAt d k, getD (t .words) k 0) in (
+        control-rests s rs c (i .0) k (getD (t .words) k 0) m (λ some. (i .1, i .2 k (le-refl k) (used-usable s rs ps legal k m h), i .3 k m h)),
+        (
+          disabled-other s w (λ e. apart d .global-control k (in-room d k m) (sym e)) (i .0),
+          λ j u. member-other w (i .1 j u),
+          λ j p u. last-other w (λ e. let z = apart d .control-control k j e in omega arith) (i .2 j (omega arith) u),
+          λ j p g. last-other w (λ e. apart d .counter-control j k (in-room d j p) (in-room d k m) (sym e)) (i .3 j p g),
+        ),
+      ))
+      (λ k off c i. (i .0, i .1, λ j p u. i .2 j (omega arith) u, i .3))
+      b ready
+
+  list-rests : Along (AtRest s rs) [] (writes s rs ps)
+  unfolding writes writesFor
+  list-rests =
+      let d = s .device in
+      let g = layoutOf d .global in
+      let P = AtRest s rs in
+      let first : List Write = (g, unusable s) ∷ [] in
+      let filters = filterWrites d t in
+      let v = unusable s + t .used .0 % 2 ^ n in
+      let one : Along P [] first × Disabled s first = (
+        (global-rests s rs [] (unusable s) (λ k u h. absurd (true≢false (sym h ∙ unusable-none s k u))), tt),
+        (unusable s, last-here [] g (unusable s), unusable-none s),
+      ) in
+      let two = along-then P (Disabled s) (AllQuiet s) [] first clear one clear-rests in
+      let three = along-then P (AllQuiet s) (AllQuiet s) [] (first ++ clear) filters two (filters-rest d (s .usable) rs ps) in
+      let four = along-then P (AllQuiet s) (SelectedTo 0) [] (first ++ clear ++ filters) counts three counts-rest in
+      let five = along-then P (SelectedTo 0) (SelectedTo n) [] (first ++ clear ++ filters ++ counts) words four words-rest in
+      along-then P (SelectedTo n) (λ b. Unit {0}) [] (first ++ clear ++ filters ++ counts ++ words) ((g, v) ∷ []) five
+      (λ b ready. ((global-rests s rs b v (λ k u h. ready .3 k (u .0) (enabled-used s rs ps legal k u h)), tt), tt))
+      .0
+
+stopped-first : (s : Setup) (rs : List Request) (ps : List Place) → StoppedFirst s (writes s rs ps)
+unfolding writes writesFor
+stopped-first s rs ps = record { value = unusable s; later = _; list = refl; enables-none = unusable-none s }
+
+enabled-last : (s : Setup) (rs : List Request) (ps : List Place) → EnabledLast s (writes s rs ps)
+unfolding writes writesFor controlAt counterAt
+enabled-last s rs ps =
+    let d = s .device in
+    let n = counterCount d in
+    let l = layoutOf d in
+    let t = settingsOf d rs ps in
+    let P : Write → Type 0 = λ w. w .0 ≡ layoutOf (s .device) .global → EnablesNone s (w .1) in
+    record {
+      before = _;
+      value = unusable s + t .used .0 % 2 ^ n;
+      list = refl;
+      not-before =
+          all-append
+          (all-append
+          (all-append
+          (all-append (cons (λ e. unusable-none s) nil)
+          (rows-all P (s .usable) (l .control) (l .step) zeros n (λ k b h e. absurd (apart d .global-control k (in-room d k b) (sym e)))))
+          (all-imp (λ w m e. absurd (all-member (apart d .filter-global) m e)) (filter-addresses d t)))
+          (rows-all P (t .used) (l .counter) (l .step) zeros n (λ k b h e. absurd (apart d .global-counter k (in-room d k b) (sym e)))))
+          (rows-all P (t .used) (l .control) (l .step) (t .words) n (λ k b h e. absurd (apart d .global-control k (in-room d k b) (sym e))));
+    }
+
+pub rest-while-written : RestWhileWritten
+rest-while-written s rs ps legal =
+    record {
+      stopped-first = stopped-first s rs ps;
+      at-rest = λ before w later e. along-at (AtRest s rs) before w later (subst (Along (AtRest s rs) []) e (list-rests s rs ps legal));
+      enabled-last = enabled-last s rs ps;
+    }
