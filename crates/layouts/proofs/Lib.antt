@@ -16,6 +16,7 @@ pub mod ControlWords
 pub mod FormedRequests
 pub mod OffcoreWords
 pub mod AskedWords
+pub mod PermittedBits
 pub mod NoReservedBit
 pub mod PlanWords
 pub mod PlanFilters

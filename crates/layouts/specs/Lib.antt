@@ -3,6 +3,7 @@ pub mod Settings
 pub mod Writes
 pub mod Read
 pub mod Told
+pub mod PermittedBits
 pub mod NoReservedBit
 pub mod OthersUntouched
 pub mod RestWhileWritten

@@ -1,0 +1,14 @@
+-- The permitted bits, by computation. Assumes nothing.
+use mathlib.Core.Path.{refl}
+use Rattle.requests.specs.Choice.{either}
+use Rattle.requests.specs.declared.Device.the-variants.{G, S}
+use Rattle.requests.specs.Bits.{inList, typeBits, anyResponse, answerBits, outstanding, rsp0Bits, rsp1Bits}
+use Rattle.requests.specs.Devices.{counterCount}
+use Rattle.layouts.specs.Layout.{tabulate, layoutOf, controlAt, rsp0At, rsp1At, mmCfgAt, field, controlBits, globalBits, mmEnable, registersOf}
+use Rattle.layouts.specs.Settings.{setFrom}
+use Rattle.layouts.specs.PermittedBits.{permittedOf, bitsTogether, PermittedBits}
+
+pub permitted-bits : PermittedBits
+unfolding permittedOf bitsTogether registersOf setFrom either inList typeBits anyResponse answerBits outstanding rsp0Bits rsp1Bits counterCount tabulate layoutOf controlAt rsp0At rsp1At mmCfgAt field controlBits globalBits mmEnable
+permitted-bits G = refl
+permitted-bits S = refl

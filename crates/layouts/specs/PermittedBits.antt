@@ -1,0 +1,42 @@
+-- The permitted bits of every register that has reserved ones, each register's together as one word: no other bit passes as published.
+use mathlib.Core.Path.{_≡_}
+use mathlib.Core.List.{List, [], _∷_, map}
+use Prim.Native.Nat.{ℕ}
+use Rattle.requests.specs.declared.Device.{Device}
+use Rattle.requests.specs.declared.Device.the-variants.{G, S}
+use Rattle.requests.specs.Bits.{inList}
+use Rattle.layouts.specs.Layout.{Register, registersOf}
+use Rattle.layouts.specs.Settings.{setFrom}
+
+-- address and permitted bits
+unfoldable pub permittedOf : Device → List (ℕ × ℕ)
+permittedOf G =
+    -- IA32_PERF_GLOBAL_CTRL: 3:0 and 34:32
+    (0x038F, 0x000000070000000F)
+    -- document 01: "The permitted bits together are 000000760001FFBF", on RSP1 without bit 38
+    ∷ (0x01A6, 0x000000760001FFBF)
+    ∷ (0x01A7, 0x000000360001FFBF)
+    -- IA32_PERFEVTSELk: 31:0 "except bit 21" (000), which is AnyThread
+    ∷ (0x0186, 0x00000000FFDFFFFF)
+    ∷ (0x0187, 0x00000000FFDFFFFF)
+    ∷ (0x0188, 0x00000000FFDFFFFF)
+    ∷ (0x0189, 0x00000000FFDFFFFF)
+    ∷ []
+permittedOf S =
+    -- 004, table 2-27: ctr_en 3:0
+    (0x0C40, 0x000000000000000F)
+    -- 004, 2.5.3.4: bit 63
+    ∷ (0x0E48, 0x8000000000000000)
+    -- 004, table 2-30: 31:0 without the ignored bits 16, 19 and 21
+    ∷ (0x0C50, 0x00000000FFD6FFFF)
+    ∷ (0x0C52, 0x00000000FFD6FFFF)
+    ∷ (0x0C54, 0x00000000FFD6FFFF)
+    ∷ (0x0C56, 0x00000000FFD6FFFF)
+    ∷ []
+
+-- the word that has the bits of the list
+unfoldable pub bitsTogether : List ℕ → ℕ
+bitsTogether ks = setFrom 64 0 (inList ks)
+
+abbrev pub PermittedBits : Type 0
+PermittedBits = (d : Device) → map (λ (r : Register). (r .0, bitsTogether (r .1))) (registersOf d) ≡ permittedOf d
