@@ -217,6 +217,8 @@ refusals =
     ∷ refusedAs 15 71 15 (onG (0x4301B7 ∷ 0x4301B7 ∷ 0x4302B7 ∷ 0 ∷ []) 0x4000000001 0x10001 7)
     -- "a latency word needs the matching type with bit 16 in RSP1"
     ∷ refusedAs 15 71 15 (onG (0x4301B7 ∷ 0x4302B7 ∷ 0 ∷ 0 ∷ []) 0x4000000001 0x10002 3)
+    -- a type is bits 15:0, so that 41FFFF0001 is no latency word though 41FFFF0001 - 2^38 + 2^16 = 200000001
+    ∷ refusedAs 15 71 15 (onG (0x4301B7 ∷ 0x4302B7 ∷ 0 ∷ 0 ∷ []) 0x41FFFF0001 0x200000001 3)
     -- "on G an unused RSP must be 0"
     ∷ refusedAs 15 71 15 (onG (0x4300C0 ∷ 0 ∷ 0 ∷ 0 ∷ []) 0 0x10001 1)
     -- bit 31 is reserved
