@@ -13,12 +13,13 @@ use Rattle.requests.specs.declared.Device.{Device}
 use Rattle.requests.specs.declared.Device.the-variants.{G, S}
 use Rattle.requests.specs.declared.Setup.{Setup}
 use Rattle.requests.specs.Choice.{pick}
+use Rattle.requests.specs.Refusals.{numberOf, answerNumber}
 use Rattle.requests.specs.Devices.{size, counterCount, capacity}
 use Rattle.plans.proofs.Members.{size-at-most}
 use Rattle.plans.proofs.PlanLengthHolds.{plan-length}
 use Rattle.layouts.specs.Layout.{layoutOf}
 use Rattle.layouts.specs.Writes.{Write, row, rows, zeros, flat, filled, unusable, packetWrites, offcoreWrites, filterWrites, writesFor}
-use Rattle.layouts.specs.Slices.{Appended, Wrote, tooShort, writeAnswer, writeSlice}
+use Rattle.layouts.specs.Slices.{Appended, Wrote, tooShort, writeAnswer, writtenAnswer, writtenCount, writeSlice}
 use Rattle.layouts.specs.declared.Layout.{Layout}
 use Rattle.layouts.specs.declared.Settings.{Settings}
 use Rattle.layouts.specs.declared.WriteAnswer.the-variants.{Written, TooShort}
@@ -112,13 +113,13 @@ module _ (s : Setup) (t : Settings) where
 
 -- the two answers of the writer
 pub wrote-nothing : {ws : List Write} {n : ℕ} (out : List ℕ) → n ≡ length ws → length out < 2 * n → Wrote ws out out TooShort
-unfolding writeAnswer writeSlice tooShort
+unfolding writeAnswer writtenAnswer writeSlice tooShort answerNumber numberOf
 wrote-nothing {ws} {n} out e short =
     let l = lt-ltb (length out) (2 * length ws) (omega arith) in
-    record { answer = rw l; slice = rw l }
+    record { answer = rw l; slice = rw l; refused = λ h. refl; accepted = λ room. absurd (omega arith) }
 
 pub wrote-list : {ws : List Write} {n next : ℕ} {out after : List ℕ} → n ≡ length ws → 2 * n ≤ length out → Appended out 0 ws after next → Wrote ws out after (Written n)
-unfolding writeAnswer writeSlice tooShort filled
+unfolding writeAnswer writtenAnswer writtenCount writeSlice tooShort filled answerNumber
 wrote-list {ws} {n} {next} {out} {after} e room p =
     let l = le-ltb (length out) (2 * length ws) (omega arith) in
     record {
@@ -128,4 +129,6 @@ wrote-list {ws} {n} {next} {out} {after} e room p =
           (p .list
           ∙ sets-eq (flat ws) out 0 (omega (arith, length-flat ws))
           ∙ ap (λ (k : ℕ). flat ws ++ drop k out) (zero-add (length (flat ws)) ∙ length-flat ws));
+      refused = λ short. absurd (omega arith);
+      accepted = λ h. (refl, e);
     }
