@@ -1,4 +1,5 @@
--- Register tables: addresses, and the bits of each layout (G: SDM volume 3, documents 001, 002; S: document 004, section 2.5).
+-- Register tables: addresses, and the bits of each layout. G: SDM volume 3, documents 001, 002. S: document 004, section 2.5, but for
+-- the addresses of MM_CFG, MATCH and MASK, which our extract of 004 lacks: they are the kernel driver's (docs/DECISIONS.md, 1).
 use mathlib.Core.List.{List, [], _∷_, _++_}
 use Prim.Native.Nat.{ℕ, zero, suc, _+_, _*_, _-_, _/_, _%_}
 use lib.Dec.{eqb}
@@ -37,15 +38,15 @@ rsp0At = 0x01A6
 unfoldable pub rsp1At : ℕ
 rsp1At = 0x01A7
 
--- S_MSR_MM_CFG
+-- S_MSR_MM_CFG (kernel driver)
 unfoldable pub mmCfgAt : ℕ
 mmCfgAt = 0x0E48
 
--- S_MSR_MATCH
+-- S_MSR_MATCH (kernel driver)
 unfoldable pub matchAt : ℕ
 matchAt = 0x0E49
 
--- S_MSR_MASK
+-- S_MSR_MASK (kernel driver)
 unfoldable pub maskAt : ℕ
 maskAt = 0x0E4A
 
@@ -71,7 +72,7 @@ unfoldable pub globalBits : Device → List ℕ
 globalBits G = field 3 0 ++ field 34 32
 globalBits S = field 3 0
 
--- MM_CFG: enable
+-- MM_CFG: enable (004, 2.5.3.4: "reg bit 63")
 unfoldable pub mmEnable : ℕ
 mmEnable = 63
 

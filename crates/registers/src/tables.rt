@@ -1,5 +1,5 @@
 // The register tables as data: addresses and field places, each with its name in the manual.
-// G: SDM volume 3 (IA32_*) and documents 001, 002 (MSR_OFFCORE_RSP*). S: document 004, section 2.5.
+// G: SDM volume 3 (IA32_*) and documents 001, 002 (MSR_OFFCORE_RSP*). S: document 004, section 2.5, and the kernel driver.
 use layouts::Layout;
 use requests::Device;
 ghost use mathlib.Core.Path.{_≡_};
@@ -29,6 +29,8 @@ const PMON_CTR0: u64 = 0x0C51; // S_MSR_PMON_CTR0
 
 const PMON_STEP: u64 = 2; // from S_MSR_PMON_CTLk and S_MSR_PMON_CTRk to those of k + 1
 
+// ---- addresses, S, match/mask facility (kernel driver, uncore_nhmex.c: our extract of 004 lacks these rows, docs/DECISIONS.md 1)
+
 pub const MM_CFG: u64 = 0x0E48; // S_MSR_MM_CFG
 
 pub const MATCH: u64 = 0x0E49; // S_MSR_MATCH
@@ -51,9 +53,9 @@ const RSP1_UMASK: u8 = 0x02; // G, document 001: its unit mask for MSR_OFFCORE_R
 
 const PACKET: u8 = 0x00; // S, 2.5.2: the event of the match/mask register
 
-const PACKET_UMASK: u8 = 0x00; // S, 2.5.2: its unit mask
+const PACKET_UMASK: u8 = 0x00; // S, document 01: its unit mask
 
-pub const MM_CFG_ENABLE: u64 = 0x8000_0000_0000_0000; // S, table 2-32, S_MSR_MM_CFG: enable 63
+pub const MM_CFG_ENABLE: u64 = 0x8000_0000_0000_0000; // S, 2.5.3.4, S_MSR_MM_CFG: bit 63
 
 // Where the registers of the device's counters are.
 pub fn layout_of(device: Device) -> Layout
