@@ -8,6 +8,9 @@ pub mod Lookups
 pub mod Roles
 pub mod FirstHolding
 pub mod AcceptanceTests
+pub mod BitMembers
+pub mod CatalogueRows
+pub mod ExactRows
 pub mod Passes
 pub mod WellFormed
 pub mod Sizes

@@ -51,7 +51,7 @@ ltb-other k n other = go (ltb k n) refl
     go false h = le-ltb k (suc n) (omega (arith, ltb-false k n h))
 
 -- the list of a mask's bits has what the mask has
-in-bits : (n mask k : ℕ) → inList (bitsBelow n mask) k ≡ both (ltb k n) (bit k mask)
+pub in-bits : (n mask k : ℕ) → inList (bitsBelow n mask) k ≡ both (ltb k n) (bit k mask)
 unfolding inList bitsBelow both either
 in-bits zero mask k = rw (le-ltb k 0 (omega arith))
 in-bits (suc n) mask k =

@@ -1,12 +1,10 @@
 -- The masks of an offcore word by their roles: a test by the mask is the test of the list. Assumes nothing.
-use mathlib.Core.Path.{_≡_, ap, sym, _∙_}
+use mathlib.Core.Path.{_≡_, sym}
 use mathlib.Core.Bool.{Bool}
-use mathlib.Core.List.{List, [], _∷_}
+use mathlib.Core.List.{List}
 use Prim.Native.Nat.{ℕ}
-use Rattle.requests.specs.Choice.{either}
-use Rattle.requests.specs.Bits.{anyBit, onlyBits, anyResponse, answerBits, outstanding}
+use Rattle.requests.specs.Bits.{anyBit, onlyBits}
 use Rattle.requests.specs.Masks.{bitsOf}
-use Rattle.requests.proofs.BitLists.{any-append}
 
 -- what a test for any bit of the mask says of the mask's list
 pub any-of : (b : Bool) (mask : ℕ) (ks : List ℕ) (w : ℕ) → b ≡ anyBit (bitsOf mask) w → bitsOf mask ≡ ks → anyBit ks w ≡ b
@@ -15,9 +13,3 @@ any-of b mask ks w t e = rw (← e) (sym t)
 -- what a test for no bit outside the mask says of the mask's list
 pub only-of : (b : Bool) (mask : ℕ) (ks : List ℕ) (w : ℕ) → b ≡ onlyBits (bitsOf mask) w → bitsOf mask ≡ ks → onlyBits ks w ≡ b
 only-of b mask ks w t e = rw (← e) (sym t)
-
--- a response bit or bit 38, role by role
-pub response : (w : ℕ) → anyBit (anyResponse ∷ outstanding ∷ answerBits) w ≡ either (anyBit (anyResponse ∷ []) w) (either (anyBit (outstanding ∷ []) w) (anyBit answerBits w))
-response w =
-    any-append (anyResponse ∷ []) (outstanding ∷ answerBits) w
-    ∙ ap (either (anyBit (anyResponse ∷ []) w)) (any-append (outstanding ∷ []) answerBits w)

@@ -94,3 +94,13 @@ every-at (suc n) p h k l = go (decLt k n) (every-at n p (both-parts (every n p) 
     go (no past) earlier =
         let last : k ≡ n = omega arith in
         ap p last ∙ both-parts (every n p) (p n) h .1
+
+-- a test that does not hold of every number below n fails for one
+pub every-fails : (n : ℕ) (p : ℕ → Bool) → every n p ≡ false → (k : ℕ) × (k < n) × (p k ≡ false)
+unfolding every both
+every-fails zero p h = absurd (true≢false h)
+every-fails (suc n) p h = go (every n p) (every-fails n p) h
+  where
+    go : (b : Bool) → (b ≡ false → (k : ℕ) × (k < n) × (p k ≡ false)) → both b (p n) ≡ false → (k : ℕ) × (k < suc n) × (p k ≡ false)
+    go true earlier h = (n, omega arith, h)
+    go false earlier h = let f = earlier refl in (f .0, omega (arith, f .1), f .2)

@@ -1,16 +1,19 @@
--- The refusals 7 to 11 refuse exactly the requests that the paragraphs do not describe. Assumes nothing.
-use mathlib.Core.Path.{_≡_, refl, ap, sym, _∙_}
+-- The refusals 7 to 11 refuse exactly the requests that the paragraphs do not describe, by the rows that apply to them. Assumes nothing.
+use mathlib.Core.Path.{_≡_, refl, sym, subst, _∙_}
 use mathlib.Core.Logic.{inl, inr}
-use mathlib.Core.Bool.{Bool, true, false, not, true≢false, false≢true}
-use mathlib.Core.List.{List, [], _∷_}
+use mathlib.Core.Bool.{Bool, true, false, true≢false}
+use mathlib.Core.List.{List·Memᴰ·head, List·Memᴰ·tail}
+use mathlib.Mathlib.Data.Bool.Basic.{eq-false-of-not-eq-true, eq-true-of-not-eq-false}
 use Prim.Native.Nat.{ℕ, _≤_}
-use lib.Dec.{eqb, lit<}
-use borrow.Author.Tests.{ltb-false, le-ltb, not-false}
-use Rattle.requests.specs.Choice.{both, either}
+use native.Mathlib.Decide.{ℕ-discrete}
+use native.Mathlib.Nat.{lt-of-not-le}
+use native.Mathlib.Omega.{arith}
+use lib.Dec.{lit<}
+use Rattle.requests.specs.Choice.{either}
 use Rattle.requests.specs.Bits.{bit, inList, anyBit, onlyBits, typeBits, anyResponse, answerBits, outstanding, rsp0Bits, rsp1Bits}
 use Rattle.requests.specs.Devices.{allCounters}
-use Rattle.requests.specs.Catalogue.{ListedEvent, allows, eventsOf, codeIn, pairIn, maskNotListed}
-use Rattle.requests.specs.Checks.{kindNotOn, notListed, tooWide, outOfRange, incomplete, conflicting}
+use Rattle.requests.specs.Catalogue.{MaskRule, range, eventsOf, pairIn}
+use Rattle.requests.specs.RefusedRequests.{Lists, InCatalogue, PairListed, offcore-word, latency-types, AllowedSet, of-event, of-packet, of-offcore, first-of-latency, second-of-latency, KindNotOn, packet-on-G, offcore-on-S, latency-on-S, NotListed, pair, code, Incomplete, mask-0, no-type, no-response, OutOfRange, mask-above, word-bit, type-bit, wide-set, Conflicting, bit-38, bit-16}
 use Rattle.requests.specs.WellFormedRequests.{OneResponse, Described, event, packet, offcore, latency, WellFormedRequests}
 use Rattle.requests.specs.declared.CounterSet.{CounterSet}
 use Rattle.requests.specs.declared.Device.{Device}
@@ -18,80 +21,88 @@ use Rattle.requests.specs.declared.Device.the-variants.{G, S}
 use Rattle.requests.specs.declared.Setup.{Setup}
 use Rattle.requests.specs.declared.Request.{Request}
 use Rattle.requests.specs.declared.Request.the-variants.{Event, Packet, Offcore, Latency}
-use Rattle.requests.proofs.Tests.{both-false, either-parts}
 use Rattle.requests.proofs.BitLists.{only-without, reserved}
+use Rattle.requests.proofs.BitMembers.{any-has, any-of-has, none-has, none-of-has, none-has-more, permitted-reserved, types-reserved, reserved-only}
+use Rattle.requests.proofs.CatalogueRows.{pair-row, row-pair, one-row-on-S, above-out, zero-out, other-out}
 use Rattle.requests.proofs.Passes.{Passes, passes, formed-by}
 
-within : (d : Device) (a : CounterSet) → tooWide d a ≡ false → a .0 ≤ allCounters d
-unfolding tooWide
-within d a h = ltb-false _ _ h
+-- a test that cannot fail holds
+holds : {b : Bool} → ¬ (b ≡ false) → b ≡ true
+holds n = eq-true-of-not-eq-false n
 
-not-wide : (d : Device) (a : CounterSet) → a .0 ≤ allCounters d → tooWide d a ≡ false
-unfolding tooWide
-not-wide d a h = le-ltb _ _ h
+-- a test that holds and fails
+both-ways : {b : Bool} → b ≡ true → b ≡ false → ⊥
+both-ways h e = true≢false (sym h ∙ e)
+
+-- an allowed set of a request that passes is one of the device's counters
+counters : (d : Device) (r : Request) (a : CounterSet) → Passes d r → AllowedSet r a → a .0 ≤ allCounters d
+counters d r a p of = omega (arith, lt-of-not-le (λ l. p .in-range (wide-set of l)))
 
 -- **event**
 
--- where a mask is neither above the range nor missing, it is listed
-mask-listed : (d : Device) (c m : ℕ) (a : CounterSet) → outOfRange d (Event c m a) ≡ false → incomplete d (Event c m a) ≡ false → maskNotListed d c m ≡ false
-unfolding outOfRange incomplete both
-mask-listed d c m a range complete = go (eqb m 0) (either-parts _ _ range .0) complete
-  where
-    go : (b : Bool) → both (not b) (maskNotListed d c m) ≡ false → both b (maskNotListed d c m) ≡ false → maskNotListed d c m ≡ false
-    go true above zero = zero
-    go false above zero = above
-
 pair-listed : (d : Device) (c m : ℕ) (a : CounterSet) → Passes d (Event c m a) → pairIn (eventsOf d) c m ≡ true
-unfolding notListed maskNotListed both
-pair-listed G c m a p = not-false _ (p .listed)
+pair-listed G c m a p = holds (λ e. p .listed (pair (λ l. both-ways (row-pair (eventsOf G) c m (l .0) (l .1) (l .2)) e)))
 pair-listed S c m a p =
-    let mask = mask-listed S c m a (p .in-range) (p .complete) in
-    not-false _ (rw (not-false (codeIn (eventsOf S) c) (p .listed)) at mask)
-
--- the code of a listed pair is listed
-code-listed : (es : List ListedEvent) (c m : ℕ) → pairIn es c m ≡ true → codeIn es c ≡ true
-unfolding pairIn codeIn either both
-code-listed [] c m h = h
-code-listed (e ∷ es) c m h = go (eqb c (e .code)) h (code-listed es c m)
+    holds (λ e. p .listed (code (λ row. unlisted (row .0) (row .1) (λ l. both-ways (row-pair (eventsOf S) c m (row .0) (row .1) l) e) (ℕ-discrete m 0))))
   where
-    go : (b : Bool) → either (both b (allows (e .masks) m)) (pairIn es c m) ≡ true → (pairIn es c m ≡ true → codeIn es c ≡ true) → either b (codeIn es c) ≡ true
-    go true h later = refl
-    go false h later = later h
+    unlisted : (masks : MaskRule) → InCatalogue S c masks → ¬ Lists masks m → Dec (m ≡ 0) → ⊥
+    unlisted masks row out (yes zero) = (rw zero at p) .complete (mask-0 (zero-out c masks row (rw zero at out)))
+    unlisted masks row out (no other) = p .in-range (mask-above row (other-out c m masks row out other))
 
-listed-pair : (d : Device) (c m : ℕ) (a : CounterSet) → pairIn (eventsOf d) c m ≡ true → (notListed d (Event c m a) ≡ false) × (maskNotListed d c m ≡ false)
-unfolding notListed maskNotListed both
-listed-pair G c m a h = (ap not h, refl)
-listed-pair S c m a h = let code = code-listed (eventsOf S) c m h in (ap not code, rw (code, h))
+module _ (c m : ℕ) (a : CounterSet) where
+  pair-not-unlisted : (d : Device) → PairListed d c m → ¬ NotListed d (Event c m a)
+  pair-not-unlisted G l (pair none) = none l
+  pair-not-unlisted S l (code none) = none (l .0, l .1)
+
+  pair-in-range : (d : Device) → PairListed d c m → a .0 ≤ allCounters d → ¬ OutOfRange d (Event c m a)
+  pair-in-range d l fits (wide-set of-event wide) = omega (arith, fits, wide)
+  pair-in-range S l fits (mask-above {masks = masks} row above) =
+      above-out masks m above .0 (subst (λ (x : MaskRule). Lists x m) (one-row-on-S c (l .0) masks (l .1) row) (l .2))
+
+pair-complete : (d : Device) (c m : ℕ) (a : CounterSet) → PairListed d c m → ¬ Incomplete d (Event c m a)
+pair-complete S c m a l (mask-0 row) =
+    let zero : Lists (range 1 3) 0 = subst (λ (x : MaskRule). Lists x 0) (one-row-on-S c (l .0) (range 1 3) (l .1) row) (l .2) in
+    omega (arith, zero .0)
+pair-complete d c m a l (no-type types none) = elim types [ ]
 
 event-passes : (d : Device) (c m : ℕ) (a : CounterSet) → pairIn (eventsOf d) c m ≡ true → a .0 ≤ allCounters d → Passes d (Event c m a)
-unfolding kindNotOn outOfRange incomplete conflicting either
-event-passes d c m a pair counters =
-    let mask = listed-pair d c m a pair .1 in
+event-passes d c m a h fits =
+    let l = pair-row (eventsOf d) c m h in
     record {
-      kind = refl;
-      listed = listed-pair d c m a pair .0;
-      in-range = rw (mask, both-false (not (eqb m 0)), not-wide d a counters);
-      complete = rw (mask, both-false (eqb m 0));
-      consistent = refl;
+      kind = λ x. elim x [ ];
+      listed = pair-not-unlisted c m a d l;
+      in-range = pair-in-range c m a d l fits;
+      complete = pair-complete d c m a l;
+      consistent = λ x. elim x [ ];
     }
 
 -- **packet**
 
-only-s : (d : Device) (x y : ℕ) (a : CounterSet) → kindNotOn d (Packet x y a) ≡ false → d ≡ S
-unfolding kindNotOn
-only-s G x y a h = absurd (true≢false h)
+only-s : (d : Device) (x y : ℕ) (a : CounterSet) → ¬ KindNotOn d (Packet x y a) → d ≡ S
+only-s G x y a h = absurd (h packet-on-G)
 only-s S x y a h = refl
 
+packet-in-range : (d : Device) (x y : ℕ) (a : CounterSet) → a .0 ≤ allCounters d → ¬ OutOfRange d (Packet x y a)
+packet-in-range d x y a fits (wide-set of-packet wide) = omega (arith, fits, wide)
+
+packet-complete : (d : Device) (x y : ℕ) (a : CounterSet) → ¬ Incomplete d (Packet x y a)
+packet-complete d x y a (no-type types none) = elim types [ ]
+
 packet-passes : (d : Device) (x y : ℕ) (a : CounterSet) → d ≡ S → a .0 ≤ allCounters d → Passes d (Packet x y a)
-unfolding kindNotOn notListed outOfRange incomplete conflicting
-packet-passes d x y a s counters = record { kind = rw s; listed = refl; in-range = not-wide d a counters; complete = refl; consistent = refl }
+packet-passes d x y a on-s fits =
+    record {
+      kind = rw on-s (λ h. elim h [ ]);
+      listed = λ h. elim h [ ];
+      in-range = packet-in-range d x y a fits;
+      complete = packet-complete d x y a;
+      consistent = λ h. elim h [ ];
+    }
 
 -- **offcore**
 
-offcore-on-g : (d : Device) (w : ℕ) (a : CounterSet) → kindNotOn d (Offcore w a) ≡ false → d ≡ G
-unfolding kindNotOn
+offcore-on-g : (d : Device) (w : ℕ) (a : CounterSet) → ¬ KindNotOn d (Offcore w a) → d ≡ G
 offcore-on-g G w a h = refl
-offcore-on-g S w a h = absurd (true≢false h)
+offcore-on-g S w a h = absurd (h offcore-on-S)
 
 -- without bit 38, the permitted bits are those of RSP1
 rsp1-bits : (w : ℕ) → bit outstanding w ≡ false → onlyBits rsp0Bits w ≡ onlyBits rsp1Bits w
@@ -103,86 +114,87 @@ pub no-outstanding : (w : ℕ) → onlyBits rsp1Bits w ≡ true → bit outstand
 unfolding inList rsp1Bits typeBits anyResponse answerBits outstanding either
 no-outstanding w only = reserved rsp1Bits outstanding w (lit< tt) refl only
 
-outstanding-alone : (w : ℕ) → bit outstanding w ≡ false → anyBit (outstanding ∷ []) w ≡ false
-unfolding anyBit either
-outstanding-alone w none = rw none
-
--- the tests of the words' responses, as the paragraph says them
-module _ (w : ℕ) (none : bit outstanding w ≡ false) where
-  one-response : anyBit (anyResponse ∷ outstanding ∷ answerBits) w ≡ true → both (anyBit (anyResponse ∷ []) w) (anyBit answerBits w) ≡ false → OneResponse w
-  unfolding anyBit either both
-  one-response some few = go (bit anyResponse w) refl (anyBit answerBits w) refl
-    where
-      go : (x : Bool) → bit anyResponse w ≡ x → (y : Bool) → anyBit answerBits w ≡ y → OneResponse w
-      go true p false q = inl (p, q)
-      go false p true q = inr (p, q)
-      go true p true q = absurd (true≢false (rw (p, q) at few))
-      go false p false q = absurd (false≢true (rw (p, none, q) at some))
-
-  response-tests : OneResponse w → (anyBit (anyResponse ∷ outstanding ∷ answerBits) w ≡ true) × (both (anyBit (anyResponse ∷ []) w) (anyBit answerBits w) ≡ false)
-  unfolding anyBit either both
-  response-tests (inl (p, q)) = (rw p, rw (p, q))
-  response-tests (inr (p, q)) = (rw (p, none, q), rw p)
-
 offcore-described : (s : Setup) (w : ℕ) (a : CounterSet) → Passes (s .device) (Offcore w a) → Described s (Offcore w a)
-unfolding outOfRange incomplete conflicting anyBit
 offcore-described s w a p =
-    let range = either-parts _ _ (p .in-range) in
-    let complete = either-parts _ _ (p .complete) in
-    let consistent = either-parts _ _ (p .consistent) in
-    let none : bit outstanding w ≡ false = either-parts _ _ (consistent .0) .0 in
-    offcore (offcore-on-g _ w a (p .kind)) (sym (rsp1-bits w none) ∙ not-false _ (range .0)) (not-false _ (complete .0))
-    (one-response w none (not-false _ (complete .1)) (consistent .1))
-    (within _ a (range .1))
+    offcore (offcore-on-g _ w a (p .kind)) (sym (rsp1-bits w off) ∙ holds (λ e. p .in-range (word-bit (permitted-reserved w e))))
+    (holds (λ e. p .complete (no-type offcore-word (none-has typeBits w e))))
+    (one (bit anyResponse w) refl (anyBit answerBits w) refl)
+    (counters _ _ a p of-offcore)
+  where
+    off : bit outstanding w ≡ false
+    off = eq-false-of-not-eq-true (λ h. p .consistent (bit-38 h))
 
-offcore-passes : (d : Device) (w : ℕ) (a : CounterSet) → d ≡ G → onlyBits rsp1Bits w ≡ true → anyBit typeBits w ≡ true → OneResponse w → a .0 ≤ allCounters d
-    → Passes d (Offcore w a)
-unfolding kindNotOn notListed outOfRange incomplete conflicting either
-offcore-passes d w a g only types one counters =
-    let none = no-outstanding w only in
-    let tests = response-tests w none one in
-    record {
-      kind = rw g;
-      listed = refl;
-      in-range = rw (rsp1-bits w none, only, not-wide d a counters);
-      complete = rw (types, tests .0);
-      consistent = rw (outstanding-alone w none, tests .1);
-    }
+    one : (x : Bool) → bit anyResponse w ≡ x → (y : Bool) → anyBit answerBits w ≡ y → OneResponse w
+    one true h false k = inl (h, k)
+    one false h true k = inr (h, k)
+    one true h true k = absurd (p .consistent (bit-16 h (any-has answerBits w k)))
+    one false h false k = absurd (p .complete (no-response (none-has-more anyResponse answerBits w h (none-has answerBits w k)) off))
+
+module _ (d : Device) (w : ℕ) (a : CounterSet) (only : onlyBits rsp1Bits w ≡ true) where
+  offcore-in-range : a .0 ≤ allCounters d → ¬ OutOfRange d (Offcore w a)
+  offcore-in-range fits (word-bit h) = both-ways (rsp1-bits w (no-outstanding w only) ∙ only) (reserved-only rsp0Bits w h)
+  offcore-in-range fits (wide-set of-offcore wide) = omega (arith, fits, wide)
+
+  offcore-complete : anyBit typeBits w ≡ true → OneResponse w → ¬ Incomplete d (Offcore w a)
+  offcore-complete types one (no-type offcore-word none) = both-ways types (none-of-has typeBits w none)
+  offcore-complete types (inl (h, k)) (no-response none off) = both-ways h (none anyResponse (List·Memᴰ·head refl))
+  offcore-complete types (inr (h, k)) (no-response none off) = both-ways k (none-of-has answerBits w (λ j m. none j (List·Memᴰ·tail m)))
+
+  offcore-consistent : OneResponse w → ¬ Conflicting d (Offcore w a)
+  offcore-consistent one (bit-38 h) = both-ways h (no-outstanding w only)
+  offcore-consistent (inl (h, k)) (bit-16 any answer) = both-ways (any-of-has answerBits w answer) k
+  offcore-consistent (inr (h, k)) (bit-16 any answer) = both-ways any h
+
+  offcore-passes : d ≡ G → anyBit typeBits w ≡ true → OneResponse w → a .0 ≤ allCounters d → Passes d (Offcore w a)
+  offcore-passes on-g types one fits =
+      record {
+        kind = rw on-g (λ h. elim h [ ]);
+        listed = λ h. elim h [ ];
+        in-range = offcore-in-range fits;
+        complete = offcore-complete types one;
+        consistent = offcore-consistent one;
+      }
 
 -- **latency**
 
-latency-on-g : (d : Device) (t : ℕ) (a b : CounterSet) → kindNotOn d (Latency t a b) ≡ false → d ≡ G
-unfolding kindNotOn
+latency-on-g : (d : Device) (t : ℕ) (a b : CounterSet) → ¬ KindNotOn d (Latency t a b) → d ≡ G
 latency-on-g G t a b h = refl
-latency-on-g S t a b h = absurd (true≢false h)
+latency-on-g S t a b h = absurd (h latency-on-S)
 
-latency-passes : (d : Device) (t : ℕ) (a b : CounterSet) → d ≡ G → onlyBits typeBits t ≡ true → anyBit typeBits t ≡ true → a .0 ≤ allCounters d → b .0 ≤ allCounters d
-    → Passes d (Latency t a b)
-unfolding kindNotOn notListed outOfRange incomplete conflicting either
-latency-passes d t a b g only types first second =
-    record {
-      kind = rw g;
-      listed = refl;
-      in-range = rw (only, not-wide d a first, not-wide d b second);
-      complete = rw types;
-      consistent = refl;
-    }
+module _ (d : Device) (t : ℕ) (a b : CounterSet) where
+  latency-in-range : onlyBits typeBits t ≡ true → a .0 ≤ allCounters d → b .0 ≤ allCounters d → ¬ OutOfRange d (Latency t a b)
+  latency-in-range only first second (type-bit h) = both-ways only (reserved-only typeBits t h)
+  latency-in-range only first second (wide-set first-of-latency wide) = omega (arith, first, wide)
+  latency-in-range only first second (wide-set second-of-latency wide) = omega (arith, second, wide)
+
+  latency-complete : anyBit typeBits t ≡ true → ¬ Incomplete d (Latency t a b)
+  latency-complete types (no-type latency-types none) = both-ways types (none-of-has typeBits t none)
+
+  latency-passes : d ≡ G → onlyBits typeBits t ≡ true → anyBit typeBits t ≡ true → a .0 ≤ allCounters d → b .0 ≤ allCounters d → Passes d (Latency t a b)
+  latency-passes on-g only types first second =
+      record {
+        kind = rw on-g (λ h. elim h [ ]);
+        listed = λ h. elim h [ ];
+        in-range = latency-in-range only first second;
+        complete = latency-complete types;
+        consistent = λ h. elim h [ ];
+      }
 
 -- both directions
 described : (s : Setup) (r : Request) → Passes (s .device) r → Described s r
-unfolding outOfRange incomplete
-described s (Event c m a) p = event (pair-listed _ c m a p) (within _ a (either-parts _ _ (p .in-range) .1))
-described s (Packet x y a) p = packet (only-s _ x y a (p .kind)) (within _ a (p .in-range))
+described s (Event c m a) p = event (pair-listed _ c m a p) (counters _ _ a p of-event)
+described s (Packet x y a) p = packet (only-s _ x y a (p .kind)) (counters _ _ a p of-packet)
 described s (Offcore w a) p = offcore-described s w a p
 described s (Latency t a b) p =
-    let range = either-parts _ _ (p .in-range) in
-    let sets = either-parts _ _ (range .1) in
-    latency (latency-on-g _ t a b (p .kind)) (not-false _ (range .0)) (not-false _ (p .complete)) (within _ a (sets .0)) (within _ b (sets .1))
+    latency (latency-on-g _ t a b (p .kind)) (holds (λ e. p .in-range (type-bit (types-reserved t e))))
+    (holds (λ e. p .complete (no-type latency-types (none-has typeBits t e))))
+    (counters _ _ a p first-of-latency)
+    (counters _ _ b p second-of-latency)
 
 described-passes : (s : Setup) (r : Request) → Described s r → Passes (s .device) r
-described-passes s (Event c m a) (event pair counters) = event-passes _ c m a pair counters
-described-passes s (Packet x y a) (packet on-s counters) = packet-passes _ x y a on-s counters
-described-passes s (Offcore w a) (offcore on-g only types one counters) = offcore-passes _ w a on-g only types one counters
+described-passes s (Event c m a) (event listed fits) = event-passes _ c m a listed fits
+described-passes s (Packet x y a) (packet on-s fits) = packet-passes _ x y a on-s fits
+described-passes s (Offcore w a) (offcore on-g only types one fits) = offcore-passes _ w a only on-g types one fits
 described-passes s (Latency t a b) (latency on-g only types first second) = latency-passes _ t a b on-g only types first second
 
 pub well-formed-requests : WellFormedRequests

@@ -1,5 +1,5 @@
 -- Document 01, 'Refusal numbers', 7 to 11: the checks of a request on a device.
-use mathlib.Core.List.{List, [], _∷_}
+use mathlib.Core.List.{List, [], _∷_, _++_}
 use mathlib.Core.Bool.{Bool, true, false, not}
 use mathlib.Core.Option.{Option, none}
 use mathlib.Core.Path.{_≡_}
@@ -50,7 +50,7 @@ outOfRange d (Latency t a b) = either (not (onlyBits typeBits t)) (either (tooWi
 unfoldable pub incomplete : Device → Request → Bool
 incomplete d (Event c m a) = both (eqb m 0) (maskNotListed d c m)
 incomplete d (Packet x y a) = false
-incomplete d (Offcore w a) = either (not (anyBit typeBits w)) (not (anyBit (anyResponse ∷ outstanding ∷ answerBits) w))
+incomplete d (Offcore w a) = either (not (anyBit typeBits w)) (not (anyBit ((anyResponse ∷ answerBits) ++ (outstanding ∷ [])) w))
 incomplete d (Latency t a b) = not (anyBit typeBits t)
 
 -- 11: offcore with bit 38, or bit 16 with a snoop answer

@@ -43,14 +43,26 @@ examples =
     -- "Document 000's table lists bit 31 as usable, 002 lists it as reserved: 002 decides"
     ∷ example G (Offcore 0x80010001 all) (some 10)
     ∷ example G (Offcore 0x10001 all) none
+    -- "offcore with bit 38", alone and beside bit 16
+    ∷ example G (Offcore 0x4000000001 all) (some 11)
+    ∷ example G (Offcore 0x4000010001 all) (some 11)
+    -- "no request type", checked before "bit 16 with a snoop answer"
+    ∷ example G (Offcore 0x10000 all) (some 9)
+    ∷ example G (Offcore 0x200010000 all) (some 9)
+    ∷ example G (Latency 0x0000 all all) (some 9)
     -- bit 6 is no request type
     ∷ example G (Latency 0x0040 all all) (some 10)
     ∷ example G (Latency 0x0001 all all) none
-    -- "S only"
+    -- "S: code not listed"
+    ∷ example S (Event 0x2E 0x00 all) (some 8)
+    -- "S only", "G only"
     ∷ example G (Packet 0 0 all) (some 7)
     ∷ example S (Packet 0 0 all) none
+    ∷ example S (Offcore 0x10001 all) (some 7)
+    ∷ example S (Latency 0x0001 all all) (some 7)
     -- "allowed set above 15"
     ∷ example S (Packet 0 0 (record { 0 = 16 })) (some 10)
+    ∷ example G (Latency 0x0001 all (record { 0 = 16 })) (some 10)
     ∷ []
 
 -- the number that refuses the request of an example

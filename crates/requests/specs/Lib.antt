@@ -9,3 +9,4 @@ pub mod Lookup
 pub mod Checks
 pub mod Examples
 pub mod WellFormedRequests
+pub mod RefusedRequests

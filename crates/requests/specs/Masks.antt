@@ -31,6 +31,11 @@ pub outstandingMask : bitsOf 0x0000_0040_0000_0000 ≡ outstanding ∷ []
 unfolding bitsOf bitsBelow bit outstanding
 outstandingMask = refl
 
+-- a response bit or bit 38
+pub responseMask : bitsOf 0x0000_0076_0001_0000 ≡ (anyResponse ∷ answerBits) ++ (outstanding ∷ [])
+unfolding bitsOf bitsBelow bit anyResponse answerBits outstanding
+responseMask = refl
+
 pub permittedMask : bitsOf 0x0000_0076_0001_FFBF ≡ rsp0Bits
 unfolding bitsOf bitsBelow bit rsp0Bits rsp1Bits typeBits anyResponse answerBits outstanding
 permittedMask = refl

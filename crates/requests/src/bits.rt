@@ -15,6 +15,9 @@ pub const ANSWERS: u64 = 0x0000_0036_0000_0000;
 // OUTSTANDING: 38.
 pub const OUTSTANDING: u64 = 0x0000_0040_0000_0000;
 
+// A response bit or OUTSTANDING.
+pub const RESPONSES_OR_OUTSTANDING: u64 = 0x0000_0076_0001_0000;
+
 // All permitted bits.
 pub const PERMITTED: u64 = 0x0000_0076_0001_FFBF;
 

@@ -9,13 +9,13 @@ use crate::bits::ANSWERS;
 use crate::bits::ANY_RESPONSE;
 use crate::bits::OUTSTANDING;
 use crate::bits::PERMITTED;
+use crate::bits::RESPONSES_OR_OUTSTANDING;
 use crate::bits::TYPES;
 use crate::bits::any_bit;
 use crate::bits::only_bits;
 use crate::catalogue::look_up;
 use crate::devices::all_counters;
 ghost use mathlib.Core.Path.{_≡_};
-ghost use mathlib.Core.Bool.{not};
 ghost use mathlib.Core.List.{_∷_, []};
 ghost use Rattle.requests.specs.Choice.{both, either};
 ghost use Rattle.requests.specs.Bits.{anyBit, anyResponse, answerBits, outstanding};
@@ -141,19 +141,6 @@ pub fn out_of_range(device: Device, request: Request) -> bool
     }
 }
 
-// Whether the word has neither a response bit nor bit 38.
-fn no_response(word: u64) -> bool
-    ensures { λ r. ⌜ r ≡ not (anyBit (anyResponse ∷ outstanding ∷ answerBits) word) ⌝ }
-{
-    if any_bit(ANY_RESPONSE, word) {
-        return false;
-    }
-    if any_bit(OUTSTANDING, word) {
-        return false;
-    }
-    !any_bit(ANSWERS, word)
-}
-
 // 9: whether a mask, a request type or a response is missing.
 pub fn incomplete(device: Device, request: Request) -> bool
     ensures { λ r. ⌜ r ≡ incomplete device request ⌝ }
@@ -168,7 +155,7 @@ pub fn incomplete(device: Device, request: Request) -> bool
         Request::Packet { .. } => false,
         Request::Offcore { word, .. } => {
             if any_bit(TYPES, word) {
-                return no_response(word);
+                return !any_bit(RESPONSES_OR_OUTSTANDING, word);
             }
             true
         }
@@ -197,7 +184,7 @@ pub fn conflicting(device: Device, request: Request) -> bool
         Request::Event { .. } => false,
         Request::Packet { .. } => false,
         Request::Offcore { word, .. } => offcore_conflicting(word),
-        Request::Latency { .. } => false,
+        Request::Latency { .. } => false, // any types go together
     }
 }
 

@@ -14,9 +14,9 @@ use Rattle.requests.specs.declared.Opening.{Opening}
 use Rattle.requests.specs.declared.Setup.{Setup}
 use Rattle.requests.specs.declared.Request.{Request}
 use Rattle.requests.specs.declared.Entry.{Entry}
-use Rattle.requests.specs.Choice.{firstHolding}
 use Rattle.requests.specs.Devices.{setupOf}
-use Rattle.requests.specs.Checks.{kindNotOn, notListed, outOfRange, incomplete, conflicting, requestRows, requestRefusal, Formed}
+use Rattle.requests.specs.Checks.{Formed}
+use Rattle.requests.proofs.Passes.{formed-by}
 use Rattle.plans.specs.Legal.{HasPlan}
 use Rattle.layouts.specs.Writes.{writes}
 use Rattle.sessions.specs.Turns.{requestsOf, taken, placesOf}
@@ -53,15 +53,15 @@ module _ (limit : ℕ) (s : Setup) (q : List Entry) where
     no-row n a = refusal-table .accepted limit (opened s q) (Add id r) e n a
 
     request-formed : Formed s r
-    unfolding requestRefusal requestRows firstHolding
     request-formed =
-        rw (
-          eq-false-of-not-eq-true {b = kindNotOn (s .device) r} (λ h. no-row 7 (kind h)),
-          eq-false-of-not-eq-true {b = notListed (s .device) r} (λ h. no-row 8 (not-listed h)),
-          eq-false-of-not-eq-true {b = outOfRange (s .device) r} (λ h. no-row 10 (range h)),
-          eq-false-of-not-eq-true {b = incomplete (s .device) r} (λ h. no-row 9 (lacks h)),
-          eq-false-of-not-eq-true {b = conflicting (s .device) r} (λ h. no-row 11 (conflict h)),
-        )
+        formed-by s r
+        (record {
+          kind = λ h. no-row 7 (kind h);
+          listed = λ h. no-row 8 (not-listed h);
+          in-range = λ h. no-row 10 (range h);
+          complete = λ h. no-row 9 (lacks h);
+          consistent = λ h. no-row 11 (conflict h);
+        })
 
     pub accepted-add : AcceptedAdd limit s q id r
     accepted-add =

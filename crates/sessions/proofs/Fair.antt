@@ -3,6 +3,7 @@
 --     Fair                  so it is of each row, in the order of the numbers; numbers without a row never apply
 --     fair-some, fair-none  what the first row that holds then says, and what it says that none does
 use mathlib.Core.Path.{_≡_, refl, ap, sym, subst, _∙_}
+use mathlib.Core.Logic.{_↔_}
 use mathlib.Core.List.{List, [], _∷_}
 use mathlib.Core.Bool.{Bool, true, false, false≢true}
 use mathlib.Core.Option.{none, some, Option·none-ne-some, Option·some-injective}
@@ -21,6 +22,10 @@ pub record Exact (condition : Bool) (A : Type 0) : Type 0 where
 -- a row that never applies has the condition false
 pub never : {A : Type 0} → (A → ⊥) → Exact false A
 never n = record { holds = λ e. absurd (false≢true e); fails = λ e. n }
+
+-- a condition that holds exactly where P does, of a row that applies exactly where P does
+pub exactly : {condition : Bool} {P A : Type 0} → (condition ≡ true) ↔ P → (P → A) → (A → P) → Exact condition A
+exactly e applies fact = record { holds = λ h. applies (e .0 h); fails = λ h a. false≢true (sym h ∙ e .1 (fact a)) }
 
 pub data Fair (A : ℕ → Type 0) : List (Row Refusal) → List ℕ → Type 0 where
   end : Fair A [] []

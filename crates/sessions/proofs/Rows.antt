@@ -2,9 +2,9 @@
 --     in-order         the rows of an add stand in the order in which they are checked
 --     closed-open ..   the rows of each call are exact, in that order
 --     refusal-table    so the table says what document 01 says
-use mathlib.Core.Path.{_≡_, refl, sym, subst, _∙_}
+use mathlib.Core.Path.{_≡_, refl, sym, subst}
 use mathlib.Core.List.{List, [], _∷_, map, List·Memᴰ, List·Memᴰ·head, List·Memᴰ·tail}
-use mathlib.Core.Bool.{true, false, false≢true}
+use mathlib.Core.Bool.{false}
 use mathlib.Core.Option.{none, some, Option·none-ne-some, Option·some-injective}
 use Prim.Native.Nat.{ℕ, zero, suc, _<_}
 use native.Mathlib.Omega.{arith}
@@ -17,14 +17,16 @@ use Rattle.requests.specs.declared.Refusal.{Refusal}
 use Rattle.requests.specs.declared.Refusal.the-variants.{CallOrder, NoPlanAlone, QueueFull}
 use Rattle.requests.specs.Refusals.{numberOf, checkOrder, inFront, checkedBefore}
 use Rattle.requests.specs.Choice.{Row, firstHolding}
-use Rattle.requests.specs.Checks.{kindNotOn, notListed, incomplete, outOfRange, conflicting, requestRows}
+use Rattle.requests.specs.Checks.{requestRows}
+use Rattle.requests.specs.RefusedRequests.{KindNotOn, NotListed, Incomplete, OutOfRange, Conflicting}
+use Rattle.requests.proofs.ExactRows.{refused-requests}
 use Rattle.plans.specs.Lists.{All, nil, cons}
 use Rattle.sessions.specs.Calls.{Call, Open, Add, Drop, Turn, Plain, notOpen, opened}
 use Rattle.sessions.specs.Table.{callOrder, badOpening, badId, idWaiting, idNotWaiting, addRows, noPlanAlone, queueFull, sliceTooShort, table, refusal}
 use Rattle.sessions.specs.Sessions.{queueLimit}
 use Rattle.sessions.specs.RefusalTable.{Applies, add-before, drop-before, turn-before, second-open, no-setup, add-id, drop-id, id-waits, id-not-waits, kind, not-listed, lacks, range, conflict, alone, full, short, RefusalTable}
 use Rattle.layouts.proofs.ListLaws.{all-member}
-use Rattle.sessions.proofs.Fair.{never, Fair, end, row, skip, fair-some, fair-none}
+use Rattle.sessions.proofs.Fair.{never, exactly, Fair, end, row, skip, fair-some, fair-none}
 use Rattle.sessions.proofs.Conditions.{setup-exact, id-exact-add, id-exact-drop, waits-exact, not-waits-exact, alone-exact, full-exact, short-exact}
 
 -- "Checked in the order 1, 2, 3, ..", 1 by the text layer
@@ -65,30 +67,30 @@ module _ (limit : ℕ) where
         (row {n = 4} refl (id-exact-add limit s q id r)
         (row {n = 5} refl (waits-exact limit s q id r)
         (row {n = 6} refl (never (λ a. elim a [ ]))
-        (row {n = 7} refl (record { holds = λ e. kind e; fails = λ e a. false≢true (sym e ∙ row-7 a) })
-        (row {n = 8} refl (record { holds = λ e. not-listed e; fails = λ e a. false≢true (sym e ∙ row-8 a) })
-        (row {n = 10} refl (record { holds = λ e. range e; fails = λ e a. false≢true (sym e ∙ row-10 a) })
-        (row {n = 9} refl (record { holds = λ e. lacks e; fails = λ e a. false≢true (sym e ∙ row-9 a) })
-        (row {n = 11} refl (record { holds = λ e. conflict e; fails = λ e a. false≢true (sym e ∙ row-11 a) })
+        (row {n = 7} refl (exactly (refused-requests .seven (s .device) r) (λ h. kind h) row-7)
+        (row {n = 8} refl (exactly (refused-requests .eight (s .device) r) (λ h. not-listed h) row-8)
+        (row {n = 10} refl (exactly (refused-requests .ten (s .device) r) (λ h. range h) row-10)
+        (row {n = 9} refl (exactly (refused-requests .nine (s .device) r) (λ h. lacks h) row-9)
+        (row {n = 11} refl (exactly (refused-requests .eleven (s .device) r) (λ h. conflict h) row-11)
         (row {n = 12} refl (alone-exact limit s q id r)
         (row {n = 13} refl (full-exact limit s q id r)
         (row {n = 14} refl (never (λ a. elim a [ ]))
         end)))))))))))))
       where
-        row-7 : Applies limit (opened s q) (Add id r) 7 → kindNotOn (s .device) r ≡ true
-        row-7 (kind e) = e
+        row-7 : Applies limit (opened s q) (Add id r) 7 → KindNotOn (s .device) r
+        row-7 (kind h) = h
 
-        row-8 : Applies limit (opened s q) (Add id r) 8 → notListed (s .device) r ≡ true
-        row-8 (not-listed e) = e
+        row-8 : Applies limit (opened s q) (Add id r) 8 → NotListed (s .device) r
+        row-8 (not-listed h) = h
 
-        row-9 : Applies limit (opened s q) (Add id r) 9 → incomplete (s .device) r ≡ true
-        row-9 (lacks e) = e
+        row-9 : Applies limit (opened s q) (Add id r) 9 → Incomplete (s .device) r
+        row-9 (lacks h) = h
 
-        row-10 : Applies limit (opened s q) (Add id r) 10 → outOfRange (s .device) r ≡ true
-        row-10 (range e) = e
+        row-10 : Applies limit (opened s q) (Add id r) 10 → OutOfRange (s .device) r
+        row-10 (range h) = h
 
-        row-11 : Applies limit (opened s q) (Add id r) 11 → conflicting (s .device) r ≡ true
-        row-11 (conflict e) = e
+        row-11 : Applies limit (opened s q) (Add id r) 11 → Conflicting (s .device) r
+        row-11 (conflict h) = h
 
     open-drop : (id : ℕ) → Rows limit (opened s q) (Drop id)
     unfolding table callOrder badOpening idWaiting addRows noPlanAlone queueFull sliceTooShort checkOrder numberOf

@@ -1,7 +1,6 @@
 -- The refusal table in document 01's words, and what it settles: a call is refused by the first row that applies, and accepted where none does.
 use mathlib.Core.Path.{_≡_}
 use mathlib.Core.List.{List, [], _∷_, map, List·Memᴰ}
-use mathlib.Core.Bool.{true}
 use mathlib.Core.Option.{none, some}
 use Prim.Native.Nat.{ℕ, _*_, _≤_, _<_}
 use lib.ListN.{length}
@@ -12,7 +11,7 @@ use Rattle.requests.specs.declared.Entry.{Entry}
 use Rattle.requests.specs.declared.Refusal.{Refusal}
 use Rattle.requests.specs.Refusals.{numberOf, checkedBefore}
 use Rattle.requests.specs.Devices.{setupOf}
-use Rattle.requests.specs.Checks.{kindNotOn, notListed, incomplete, outOfRange, conflicting}
+use Rattle.requests.specs.RefusedRequests.{KindNotOn, NotListed, Incomplete, OutOfRange, Conflicting}
 use Rattle.plans.specs.declared.Place.{Place}
 use Rattle.plans.specs.Lists.{All}
 use Rattle.plans.specs.Legal.{HasPlan}
@@ -46,12 +45,12 @@ pub data Applies (limit : ℕ) : Plain → Call → ℕ → Type 0 where
   -- 5: add: id is waiting; 6: drop: id isn't waiting
   id-waits : {s : Setup} {q : List Entry} {id : ℕ} {r : Request} → Waits id q → Applies limit (opened s q) (Add id r) 5
   id-not-waits : {s : Setup} {q : List Entry} {id : ℕ} → ¬ Waits id q → Applies limit (opened s q) (Drop id) 6
-  -- 7 to 11: the checks of the request
-  kind : {s : Setup} {q : List Entry} {id : ℕ} {r : Request} → kindNotOn (s .device) r ≡ true → Applies limit (opened s q) (Add id r) 7
-  not-listed : {s : Setup} {q : List Entry} {id : ℕ} {r : Request} → notListed (s .device) r ≡ true → Applies limit (opened s q) (Add id r) 8
-  lacks : {s : Setup} {q : List Entry} {id : ℕ} {r : Request} → incomplete (s .device) r ≡ true → Applies limit (opened s q) (Add id r) 9
-  range : {s : Setup} {q : List Entry} {id : ℕ} {r : Request} → outOfRange (s .device) r ≡ true → Applies limit (opened s q) (Add id r) 10
-  conflict : {s : Setup} {q : List Entry} {id : ℕ} {r : Request} → conflicting (s .device) r ≡ true → Applies limit (opened s q) (Add id r) 11
+  -- 7 to 11: the rows of the request, phrase by phrase in `RefusedRequests`
+  kind : {s : Setup} {q : List Entry} {id : ℕ} {r : Request} → KindNotOn (s .device) r → Applies limit (opened s q) (Add id r) 7
+  not-listed : {s : Setup} {q : List Entry} {id : ℕ} {r : Request} → NotListed (s .device) r → Applies limit (opened s q) (Add id r) 8
+  lacks : {s : Setup} {q : List Entry} {id : ℕ} {r : Request} → Incomplete (s .device) r → Applies limit (opened s q) (Add id r) 9
+  range : {s : Setup} {q : List Entry} {id : ℕ} {r : Request} → OutOfRange (s .device) r → Applies limit (opened s q) (Add id r) 10
+  conflict : {s : Setup} {q : List Entry} {id : ℕ} {r : Request} → Conflicting (s .device) r → Applies limit (opened s q) (Add id r) 11
   -- 12: the request has no plan alone
   alone : {s : Setup} {q : List Entry} {id : ℕ} {r : Request} → ¬ HasPlan s (r ∷ []) → Applies limit (opened s q) (Add id r) 12
   -- 13: queue full

@@ -1,9 +1,9 @@
--- `check::incomplete` meets its contract: by the tests of each kind and the mask of the request types.
+-- `check::incomplete` meets its contract: by the tests of each kind, and the masks of the request types and of the responses.
 -- Assumes nothing.
 use mathlib.Core.Path.{_∙_}
 use borrow.Author.Tests.{eq-eqb, ne-eqb}
 use Rattle.requests.specs.Choice.{both, either}
-use Rattle.requests.specs.Masks.{typeMask}
+use Rattle.requests.specs.Masks.{typeMask, responseMask}
 use Rattle.requests.specs.Checks.{incomplete}
 use Rattle.requests.proofs.Roles.{any-of}
 use borrow.Author.Needs.{needs}
@@ -16,7 +16,7 @@ returns c = rw (c .before .before .before .request .given .1, eq-eqb _ _ (c .bef
 
 returns-2 : tie.Need-returns-2
 unfolding incomplete either
-returns-2 c = rw (c .before .before .before .before .request2 .given .1, any-of _ _ _ _ (c .before .before .any-bit .ensures) typeMask ∙ c .before .if2 .taken) (c .no-response .ensures)
+returns-2 c = rw (c .before .before .before .before .request2 .given .1, any-of _ _ _ _ (c .before .before .any-bit .ensures) typeMask ∙ c .before .if2 .taken, any-of _ _ _ _ (c .any-bit2 .ensures) responseMask)
 
 returns-3 : tie.Need-returns-3
 unfolding incomplete both
@@ -32,7 +32,7 @@ returns-5 c = rw (c .before .before .before .request2 .given .1, any-of _ _ _ _ 
 
 returns-6 : tie.Need-returns-6
 unfolding incomplete
-returns-6 c = rw (c .before .before .request3 .given .1, any-of _ _ _ _ (c .any-bit2 .ensures) typeMask)
+returns-6 c = rw (c .before .before .request3 .given .1, any-of _ _ _ _ (c .any-bit3 .ensures) typeMask)
 
 pub incomplete-spec : {M : Type 1} → statement M
 incomplete-spec =
