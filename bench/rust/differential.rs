@@ -5,12 +5,10 @@
 mod answer;
 #[path = "line_program/call.rs"]
 mod call;
-mod model;
+mod expected;
 mod numbers;
 mod pieces;
-mod plan;
-#[path = "line_program/session.rs"]
-mod session;
+mod planner;
 mod tally;
 mod transcript;
 
@@ -54,11 +52,11 @@ fn fail(programs: &Programs, number: u64, what: &str, transcript: &[u8], tuner: 
 /// One transcript through both programs.
 fn compare(programs: &Programs, number: u64, tally: &mut Tally) -> bool {
     let transcript = transcript::random(number, programs.seed);
-    let expected = tally.answers(&transcript);
+    let expected = expected::expected(&transcript, |_, line, answered| tally.count(line, answered));
     fs::write(INPUT, &transcript).expect("a place for the transcript");
     let rust = output_of(&programs.rust);
     if rust != expected.bytes {
-        fail(programs, number, "the Rust program beside its own answers line by line", &transcript, &rust, &expected.bytes);
+        fail(programs, number, "the Rust program beside the model", &transcript, &rust, &expected.bytes);
     }
     let tuner = output_of(&programs.tuner);
     if tuner != rust {

@@ -1,34 +1,41 @@
-//! Prints the stored output of the program crate `reader_runs`, from the Rust model. For each plan: what the reader tells of
+//! Prints the stored output of the program crate `reader_runs`, from the model. For each plan: what the reader tells of
 //! the registers that its writes leave, and how many of the values with one bit changed it accepts.
-mod model;
-mod plan;
-mod reader;
-use model::*;
-use reader::*;
 
-const FULL: [u64; 4] = [u64::MAX; 4];
+mod planner;
+
+use planner::devices::{Device, Filters, Setup};
+use planner::model::plan::first_plan;
+use planner::model::reader::{read, Registers, State};
+use planner::model::writes::{list_of, Write};
+use planner::requests::Request;
+use planner::PLACES;
 
 /// The registers after the writes, from registers with all bits set.
-fn applied(writes: &[u64]) -> Registers {
+fn applied(device: &Device, writes: &[Write]) -> Registers {
     let all = u64::MAX;
-    let mut r = Registers { control: FULL, rsp: [all; 2], mm_cfg: all, match_word: all, mask_word: all, global: all };
-    for write in writes.chunks(2) {
-        if let Some(value) = register(&mut r, write[0]) {
-            *value = write[1];
+    let control = [all; PLACES];
+    let mut r = Registers { control, rsp: [all; 2], mm_cfg: all, match_word: all, mask_word: all, global: all };
+    for (address, value) in writes {
+        if let Some(register) = register(device, &mut r, *address) {
+            *register = *value;
         }
     }
     r
 }
 
-fn register(r: &mut Registers, address: u64) -> Option<&mut u64> {
+/// The register at an address; nothing for a counter's, which the reader is not given.
+fn register<'a>(device: &Device, r: &'a mut Registers, address: u64) -> Option<&'a mut u64> {
+    let at = &device.addresses;
+    match (0..device.counters).find(|k| address == at.control + at.step * k) {
+        Some(k) => return Some(&mut r.control[k as usize]),
+        None if address == at.global => return Some(&mut r.global),
+        None => {}
+    }
     match address {
-        0x186..=0x189 => Some(&mut r.control[address as usize - 0x186]),
-        0xC50 | 0xC52 | 0xC54 | 0xC56 => Some(&mut r.control[(address as usize - 0xC50) / 2]),
         0x1A6 | 0x1A7 => Some(&mut r.rsp[address as usize - 0x1A6]),
         0xE48 => Some(&mut r.mm_cfg),
         0xE49 => Some(&mut r.match_word),
         0xE4A => Some(&mut r.mask_word),
-        0x38F | 0xC40 => Some(&mut r.global),
         _ => None,
     }
 }
@@ -51,46 +58,46 @@ fn print_state(k: usize, state: State) {
 }
 
 /// The addresses whose values are looked at, and those whose values are not.
-fn looked_at(device: u64, usable: u64, r: &Registers) -> (Vec<u64>, Vec<u64>) {
-    let (mut yes, mut no) = (vec![], vec![]);
-    let g = device == 71;
-    for k in 0..4 {
-        let address = if g { 0x186 + k } else { 0xC50 + 2 * k };
-        if usable & 1 << k != 0 { yes.push(address) } else { no.push(address) }
-    }
-    yes.push(if g { 0x38F } else { 0xC40 });
-    for address in [0x1A6, 0x1A7] {
-        if g { yes.push(address) } else { no.push(address) }
-    }
-    if g { no.push(0xE48) } else { yes.push(0xE48) }
-    for address in [0xE49, 0xE4A] {
-        if !g && r.mm_cfg != 0 { yes.push(address) } else { no.push(address) }
-    }
-    (yes, no)
+fn looked_at(setup: Setup, r: &Registers) -> (Vec<u64>, Vec<u64>) {
+    let at = &setup.device.addresses;
+    let has_rsp = setup.device.filters == Filters::OffcoreResponse;
+    let has_match = setup.device.filters == Filters::PacketMatch;
+    let control = (0..setup.device.counters).map(|k| (at.control + at.step * k, setup.usable >> k & 1 == 1));
+    let filters = [
+        (at.global, true),
+        (0x1A6, has_rsp),
+        (0x1A7, has_rsp),
+        (0xE48, has_match),
+        (0xE49, has_match && r.mm_cfg != 0),
+        (0xE4A, has_match && r.mm_cfg != 0),
+    ];
+    let (yes, no): (Vec<_>, Vec<_>) = control.chain(filters).partition(|(_, looked)| *looked);
+    let addresses = |rows: Vec<(u64, bool)>| rows.into_iter().map(|row| row.0).collect();
+    (addresses(yes), addresses(no))
 }
 
-fn flipped(r: &Registers, address: u64, bit: u64) -> Registers {
+fn flipped(device: &Device, r: &Registers, address: u64, bit: u64) -> Registers {
     let mut changed = *r;
-    *register(&mut changed, address).unwrap() ^= 1 << bit;
+    *register(device, &mut changed, address).unwrap() ^= 1 << bit;
     changed
 }
 
-fn run(device: u64, usable: u64, requests: &[Request]) {
-    let setup = setup_of(device, usable).unwrap();
-    let places = first_plan(usable, requests).unwrap();
-    let mut out = [0; 36];
-    let count = write_list(setup, requests, &places[..requests.len()], &mut out).unwrap();
-    let r = applied(&out[..2 * count]);
-    println!("{} {usable} writes {count}", device as u8 as char);
-    let told = read(device, usable, &r).unwrap();
-    for (k, state) in told.into_iter().enumerate() {
-        print_state(k, state);
+fn run(letter: u64, usable: u64, requests: &[Request]) {
+    let setup = Setup::of(letter, usable).unwrap();
+    let plan = first_plan(setup, requests).unwrap();
+    let writes = list_of(setup, requests, &plan);
+    let r = applied(setup.device, &writes);
+    println!("{} {usable} writes {}", setup.device.letter as char, writes.len());
+    let told = read(letter, usable, &r).unwrap();
+    for (k, state) in told.iter().enumerate() {
+        print_state(k, *state);
     }
-    let (yes, no) = looked_at(device, usable, &r);
+    let (yes, no) = looked_at(setup, &r);
+    let answer = |address, bit| read(letter, usable, &flipped(setup.device, &r, address, bit));
     let (mut accepted, mut refused, mut same) = (0, 0, 0);
     for bit in 0..64 {
         for &address in &yes {
-            match read(device, usable, &flipped(&r, address, bit)) {
+            match answer(address, bit) {
                 Ok(_) => accepted += 1,
                 Err(number) => {
                     assert_eq!(number, 15);
@@ -98,9 +105,7 @@ fn run(device: u64, usable: u64, requests: &[Request]) {
                 }
             }
         }
-        for &address in &no {
-            same += (read(device, usable, &flipped(&r, address, bit)) == Ok(told)) as u64;
-        }
+        same += no.iter().filter(|&&address| answer(address, bit).as_ref() == Ok(&told)).count();
     }
     println!("one bit changed: accepted {accepted}, refused {refused}; where not looked at: the same {same} of {}", 64 * no.len());
 }

@@ -1,6 +1,6 @@
 //! Requests as rows of four numbers, the form in which the proved planner takes them here: the kind, and what it holds.
 
-use crate::plan::Request;
+use crate::planner::requests::Request;
 
 pub fn to_row(request: Request) -> [u64; 4] {
     match request {

@@ -1,7 +1,4 @@
-//! The answers of a transcript, made line by line in this process, and how often each answer was given.
-
-use crate::answer::{answer, Output, LONGEST_ANSWER};
-use crate::session::Session;
+//! How often each answer was given.
 
 const VERBS: [&str; 7] = ["open", "event", "packet", "offcore", "latency", "drop", "turn"];
 /// The highest refusal that a line can get.
@@ -13,18 +10,13 @@ pub struct Tally {
     refused: [u64; REFUSALS + 1],
 }
 
-/// All answers of a transcript, and how many bytes of them there are after each newline of it.
-pub struct Expected {
-    pub bytes: Vec<u8>,
-    pub after: Vec<usize>,
-}
-
 impl Tally {
     pub fn new() -> Tally {
         Tally { lines: 0, accepted: [0; VERBS.len()], refused: [0; REFUSALS + 1] }
     }
 
-    fn count(&mut self, line: &[u8], answered: &[u8]) {
+    /// Counts a line with its answer.
+    pub fn count(&mut self, line: &[u8], answered: &[u8]) {
         self.lines += 1;
         if answered.ends_with(b"ok\n") {
             let verb = VERBS.iter().position(|verb| line.split(|&byte| byte == b'\t').next() == Some(verb.as_bytes()));
@@ -33,26 +25,6 @@ impl Tally {
             let number = std::str::from_utf8(&answered[3..answered.len() - 1]).expect("a number");
             self.refused[number.parse::<usize>().expect("a number")] += 1;
         }
-    }
-
-    pub fn answers(&mut self, transcript: &[u8]) -> Expected {
-        let mut session = Session::new();
-        let mut block = [0; LONGEST_ANSWER];
-        let mut expected = Expected { bytes: Vec::new(), after: Vec::new() };
-        for part in transcript.split_inclusive(|&byte| byte == b'\n') {
-            let mut out = Output { block: &mut block, used: 0 };
-            match part.strip_suffix(b"\n") {
-                Some(line) => answer(&mut session, line, &mut out),
-                None => out.refuse(1),
-            }
-            let used = out.used;
-            self.count(part.strip_suffix(b"\n").unwrap_or(part), &block[..used]);
-            expected.bytes.extend_from_slice(&block[..used]);
-            if part.ends_with(b"\n") {
-                expected.after.push(expected.bytes.len());
-            }
-        }
-        expected
     }
 
     pub fn print(&self) {

@@ -4,11 +4,8 @@
 mod answer;
 #[path = "line_program/call.rs"]
 mod call;
-mod model;
 mod numbers;
-mod plan;
-#[path = "line_program/session.rs"]
-mod session;
+mod planner;
 mod transcript;
 
 use std::io::Write;

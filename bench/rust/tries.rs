@@ -1,7 +1,11 @@
-//! Prints the stored output of the program crate `tries`, from the Rust model.
-mod model;
-mod plan;
-use model::*;
+//! Prints the stored output of the program crate `tries`, from the model.
+
+mod planner;
+
+use planner::devices::{Device, Setup};
+use planner::model::Session;
+use planner::requests::{Entry, Place, Request};
+use planner::{Calls, Turn, LIMIT, LIST};
 
 fn event(code: u8, mask: u8, allowed: u64) -> Request {
     Request::Event { code, mask, allowed }
@@ -17,11 +21,16 @@ fn print_request(request: Request) {
 }
 
 fn print_session(s: &Session) {
+    print_session_of(s, s.queue.len());
+}
+
+/// A session whose length says more than it has room for has as many requests as there is room for.
+fn print_session_of(s: &Session, length: usize) {
     match s.setup {
         None => println!("session not open"),
-        Some(setup) => println!("session {:?} {} len {}", setup.device, setup.usable, s.len),
+        Some(setup) => println!("session {} {} len {length}", setup.device.letter as char, setup.usable),
     }
-    for entry in &s.queue[..s.len.min(LIMIT)] {
+    for entry in &s.queue {
         print!("  {} ", entry.id);
         print_request(entry.request);
         println!();
@@ -44,7 +53,7 @@ fn print_answer(answer: Result<(), u64>) {
 }
 
 fn print_turn(turn: &Turn, out: &[u64]) {
-    for &(id, place) in &turn.plan[..turn.taken] {
+    for (&Entry { id, .. }, place) in turn.taken.iter().zip(turn.places).take(turn.count) {
         match place {
             Place::Counter(k) => println!("take {id} {k} -"),
             Place::WithRsp(k, i) => println!("take {id} {k} {i}"),
@@ -84,8 +93,8 @@ fn try_j(s: &mut Session) {
     let mut taken = [[0; 3]; 17];
     let mut seen = [0; 17];
     for number in 1..=48 {
-        let turn = s.turn(&mut [0; 36]).unwrap();
-        for &(id, _) in &turn.plan[..turn.taken] {
+        let turn = s.turn(&mut [0; LIST]).unwrap();
+        for &Entry { id, .. } in &turn.taken[..turn.count] {
             taken[id as usize][seen[id as usize]] = number;
             seen[id as usize] += 1;
         }
@@ -130,19 +139,19 @@ fn refusals() {
 
 fn by_hand() {
     println!("by hand");
-    let mut queue = [Entry { id: 7, request: Request::Offcore { word: u64::MAX, allowed: u64::MAX } }; LIMIT];
+    let mut queue = vec![Entry { id: 7, request: Request::Offcore { word: u64::MAX, allowed: u64::MAX } }; LIMIT];
     queue[1] = Entry { id: 7, request: Request::Latency { types: 0xFFFF, first: 4, second: u64::MAX } };
     queue[2] = Entry { id: 0, request: event(0xFF, 0xFF, 8) };
-    let nonsense = Session { setup: Some(Setup { device: Device::S, usable: u64::MAX }), queue, len: 1000 };
-    let mut s = nonsense;
-    print_session(&s);
+    let device = Device::named(83).unwrap();
+    let mut s = Session { setup: Some(Setup { device, usable: u64::MAX }), queue };
+    print_session_of(&s, 1000);
     print_answer(s.open(71, 15));
     print_answer(s.add(8, event(0x52, 0, 1)));
-    turn_and_print(&mut s, &mut [0; 36]);
+    turn_and_print(&mut s, &mut [0; LIST]);
     print_session(&s);
     print_answer(s.drop(7));
     print_session(&s);
-    turn_and_print(&mut s, &mut [0; 36]);
+    turn_and_print(&mut s, &mut [0; LIST]);
 }
 
 fn main() {
@@ -153,7 +162,7 @@ fn main() {
     println!("empty queue");
     let mut empty = Session::new();
     print_answer(empty.open(83, 14));
-    turn_and_print(&mut empty, &mut [0; 36]);
+    turn_and_print(&mut empty, &mut [0; LIST]);
     refusals();
     by_hand();
 }

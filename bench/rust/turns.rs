@@ -1,22 +1,22 @@
-//! The calls of a session: the same answers on random lists of calls, and the time of a turn.
+//! The calls of a session: the same answers on random lists of calls, and turns to measure.
 
-use crate::model::{Session, Turn};
-use crate::compare;
+use crate::cases::Case;
 use crate::numbers::Numbers;
-use crate::plan::Request;
+use crate::planner::fast::session::Session;
+use crate::planner::requests::Request;
+use crate::planner::{model, Calls, Turn, LIST};
 use crate::rows::{to_request, to_row};
+use crate::searches::random_request;
 use std::hint::black_box;
 
 const RANDOM_LISTS: usize = 20_000;
 const CALLS_IN_A_LIST: usize = 60;
-const ROUNDS: usize = 200;
-const CALLS: usize = 10;
+const ROUNDS: usize = 2_000;
 const TURNS: usize = 200;
-const ROOM: usize = 36;
 
 /// The numbers of a call, and of its answer: the refusal or 0, the number taken, the number of writes, the slice.
 const CALL: usize = 6;
-const ANSWER: usize = 3 + ROOM;
+const ANSWER: usize = 3 + LIST;
 
 mod proved {
     extern "C" {
@@ -33,91 +33,103 @@ mod proved {
     }
 }
 
-/// One call of the model, with its answer in the same numbers as the proved planner's.
-fn called(session: &mut Session, call: &[u64], answer: &mut [u64]) {
+/// One call, with its answer in the same numbers as the proved planner's.
+fn called(session: &mut impl Calls, call: &[u64], answer: &mut [u64]) {
     let outcome = match call[0] {
         0 => session.open(call[1], call[2]),
         1 => session.add(call[1], to_request(&call[2..])),
         2 => session.drop(call[1]),
-        _ => session.turn(&mut answer[3..3 + ROOM.min(call[1] as usize)]).map(|turn| {
-            answer[1] = turn.taken as u64;
+        _ => session.turn(&mut answer[3..3 + LIST.min(call[1] as usize)]).map(|turn| {
+            answer[1] = turn.count as u64;
             answer[2] = turn.writes as u64;
         }),
     };
     answer[0] = outcome.err().unwrap_or(0);
 }
 
+/// The answers to a list of calls. What a call does not answer is 7 in the slice and 0 before it.
+fn answers_of<Session: Calls>(calls: &[u64]) -> Vec<u64> {
+    let mut session = Session::new();
+    let mut answers = vec![7; CALLS_IN_A_LIST * ANSWER];
+    for (call, answer) in calls.chunks(CALL).zip(answers.chunks_mut(ANSWER)) {
+        answer[1..3].fill(0);
+        called(&mut session, call, answer);
+    }
+    answers
+}
+
+fn proved_answers(calls: &[u64]) -> Vec<u64> {
+    let mut answers = vec![7; CALLS_IN_A_LIST * ANSWER];
+    assert_eq!(proved::calls(calls, &mut answers), CALLS_IN_A_LIST);
+    for answer in answers.chunks_mut(ANSWER) {
+        if answer[1..3] == [7, 7] {
+            answer[1..3].fill(0);
+        }
+    }
+    answers
+}
+
 /// A request that is well-formed more often than not.
 fn likely_request(numbers: &mut Numbers) -> Request {
-    let set = |numbers: &mut Numbers| [15, 15, 1, 2, 6, 12, 16][numbers.below(7) as usize];
+    let set = |numbers: &mut Numbers| numbers.pick(&[15, 15, 1, 2, 6, 12, 16]);
     let codes = [(0xC0, 0), (0x3C, 0), (0x2E, 0x41), (0x51, 3), (0x31, 1), (0x52, 0), (0x51, 4), (0x31, 0), (0xB7, 1)];
     let words = [0x10001, 0x10002, 0x10004, 0x1_2000_0001, 0x10040, 1, 0x2_0001_0001, 0x8001_0001];
     match numbers.below(10) {
-        0 => numbers.request(),
+        0 => random_request(numbers),
         1..=4 => {
-            let (code, mask) = codes[numbers.below(9) as usize];
+            let (code, mask) = numbers.pick(&codes);
             Request::Event { code, mask, allowed: set(numbers) }
         }
         5 | 6 => Request::Packet { match_word: numbers.below(2), mask_word: numbers.below(2), allowed: set(numbers) },
-        7 | 8 => Request::Offcore { word: words[numbers.below(8) as usize], allowed: set(numbers) },
-        _ => Request::Latency { types: [1, 2, 0x40, 0][numbers.below(4) as usize], first: set(numbers), second: set(numbers) },
+        7 | 8 => Request::Offcore { word: numbers.pick(&words), allowed: set(numbers) },
+        _ => Request::Latency { types: numbers.pick(&[1, 2, 0x40, 0]), first: set(numbers), second: set(numbers) },
     }
 }
 
 fn call(numbers: &mut Numbers, place: usize) -> [u64; CALL] {
-    let verb = if place == 0 { 0 } else { [0, 1, 1, 1, 1, 1, 2, 3, 3, 3, 3][numbers.below(11) as usize] };
+    let verb = if place == 0 { 0 } else { numbers.pick(&[0, 1, 1, 1, 1, 1, 2, 3, 3, 3, 3]) };
     match verb {
-        0 => [0, [71, 83, 72][numbers.below(3) as usize], numbers.below(17), 0, 0, 0],
+        0 => [0, numbers.pick(&[71, 83, 72]), numbers.below(17), 0, 0, 0],
         1 => {
             let row = to_row(likely_request(numbers));
             [1, numbers.below(24), row[0], row[1], row[2], row[3]]
         }
         2 => [2, numbers.below(24), 0, 0, 0, 0],
-        _ => [3, [36, 36, 36, 40, numbers.below(37)][numbers.below(5) as usize], 0, 0, 0, 0],
+        _ => {
+            let short = numbers.below(37);
+            [3, numbers.pick(&[36, 36, 36, 40, short]), 0, 0, 0, 0]
+        }
     }
 }
 
-fn same_answers(numbers: &mut Numbers) {
+/// All planners answer the same on random lists of calls.
+pub fn compare_answers(numbers: &mut Numbers) {
     for n in 0..RANDOM_LISTS {
         let calls: Vec<u64> = (0..CALLS_IN_A_LIST).flat_map(|place| call(numbers, place)).collect();
-        let mut ours = vec![7; CALLS_IN_A_LIST * ANSWER];
-        let mut theirs = ours.clone();
-        assert_eq!(proved::calls(&calls, &mut ours), CALLS_IN_A_LIST);
-        for answer in ours.chunks_mut(ANSWER) {
-            if answer[1..3] == [7, 7] {
-                answer[1..3].fill(0);
-            }
-        }
-        let mut session = Session::new();
-        for (call, answer) in calls.chunks(CALL).zip(theirs.chunks_mut(ANSWER)) {
-            answer[1..3].fill(0);
-            called(&mut session, call, answer);
-        }
-        assert!(ours == theirs, "random list of calls {n}: the answers differ");
+        let clear = answers_of::<model::Session>(&calls);
+        assert!(clear == answers_of::<Session>(&calls), "random list of calls {n}: the fast planner and the model differ");
+        assert!(clear == proved_answers(&calls), "random list of calls {n}: the proved planner and the model differ");
     }
     println!("{RANDOM_LISTS} random lists of {CALLS_IN_A_LIST} calls: the same answers");
 }
 
-/// A turn across a library's boundary, with the session by value, as the proved planner takes and answers it.
+/// A turn across a library's boundary, as the proved one is called.
 #[inline(never)]
-fn turn(mut session: Session, out: &mut [u64]) -> (Session, Result<Turn, u64>) {
-    let answer = session.turn(out);
-    (session, answer)
+fn turn(session: &mut Session, list: &mut [u64]) -> Result<Turn, u64> {
+    session.turn(list)
 }
 
 /// The writes of the last of the turns, as the proved side makes them.
-fn model_turns(device: u64, usable: u64, rows: &[u64], turns: usize) -> usize {
+fn rust_turns(letter: u64, usable: u64, rows: &[u64], turns: usize) -> usize {
     let mut session = Session::new();
-    session.open(device, usable).unwrap();
+    session.open(letter, usable).unwrap();
     for (i, row) in rows.chunks(4).enumerate() {
         session.add(i as u64 + 1, to_request(row)).unwrap();
     }
-    let mut list = [0; ROOM];
+    let mut list = [0; LIST];
     let mut writes = 0;
     for _ in 0..turns {
-        let (next, answer) = turn(session, &mut list);
-        session = next;
-        writes = answer.unwrap().writes;
+        writes = turn(&mut session, &mut list).unwrap().writes;
     }
     writes
 }
@@ -134,32 +146,28 @@ fn queue(kind: &str, length: usize) -> Vec<u64> {
         free,
         Request::Latency { types: 2, first: 3, second: 12 },
     ];
-    (0..length)
-        .flat_map(|i| {
-            to_row(match kind {
-                "free" => free,
-                "pinned" => pinned,
-                _ => mixed[i % mixed.len()],
-            })
-        })
-        .collect()
+    let request = |i| match kind {
+        "free" => free,
+        "pinned" => pinned,
+        _ => mixed[i % mixed.len()],
+    };
+    (0..length).flat_map(|i| to_row(request(i))).collect()
 }
 
-pub fn run(numbers: &mut Numbers) {
-    same_answers(numbers);
-    println!("{:22}{:>10}{:>10}{:>10}", "ns a turn", "proved", "Rust", "ratio");
-    for kind in ["free", "pinned", "mixed"] {
-        for length in [1, 4, 16] {
-            let rows = queue(kind, length);
-            assert_eq!(proved::turns(71, 15, &rows, 37), model_turns(71, 15, &rows, 37));
-            let (ours, theirs) = compare(
-                ROUNDS,
-                CALLS,
-                || proved::turns(71, 15, black_box(&rows), TURNS) as u64,
-                || model_turns(71, 15, black_box(&rows), TURNS) as u64,
-            );
-            let (ours, theirs) = (ours / TURNS as f64, theirs / TURNS as f64);
-            println!("{:22}{ours:10.1}{theirs:10.1}{:10.2}", format!("{kind}, {length} waiting"), ours / theirs);
-        }
+fn case(kind: &str, length: usize) -> Case<'static> {
+    let rows = queue(kind, length);
+    assert_eq!(proved::turns(71, 15, &rows, 37), rust_turns(71, 15, &rows, 37));
+    let same_rows = rows.clone();
+    Case {
+        name: format!("turn, {kind}, {length} waiting"),
+        ours: Box::new(move || proved::turns(71, 15, black_box(&rows), TURNS) as u64),
+        theirs: Box::new(move || rust_turns(71, 15, black_box(&same_rows), TURNS) as u64),
+        units: TURNS,
+        rounds: ROUNDS,
     }
+}
+
+pub fn cases() -> Vec<Case<'static>> {
+    let kinds = ["free", "pinned", "mixed"];
+    kinds.iter().flat_map(|kind| [1, 4, 16].map(|length| case(kind, length))).collect()
 }

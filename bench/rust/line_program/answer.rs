@@ -1,11 +1,14 @@
 //! The answer of a line: the call is made, and its answer is written in the grammar of document 01, 'Lines'.
 
 use crate::call::{call_of, Call};
-use crate::plan::Place;
-use crate::session::{Session, Turn, LIST};
+use crate::planner::requests::{Entry, Place};
+use crate::planner::{Calls, Turn, LIST};
 
 /// More than the longest answer: a turn's four `take` lines, eighteen `set` lines and `ok` have 531 bytes.
 pub const LONGEST_ANSWER: usize = 1024;
+
+/// A `set` line with zeros for its digits.
+const SET_LINE: &[u8] = b"set\t0000\t0000000000000000\n";
 
 /// Bytes on their way out, in a lent block.
 pub struct Output<'a> {
@@ -19,43 +22,38 @@ impl Output<'_> {
         self.used += text.len();
     }
 
+    /// The next bytes of the block.
+    fn next(&mut self, count: usize) -> &mut [u8] {
+        self.used += count;
+        &mut self.block[self.used - count..self.used]
+    }
+
     /// A decimal without a leading zero.
     fn decimal(&mut self, number: u64) {
-        let mut digits = [0; 20];
-        let mut first = digits.len();
         let mut rest = number;
-        loop {
-            first -= 1;
-            digits[first] = b'0' + (rest % 10) as u8;
+        for byte in self.next(width_of(number)).iter_mut().rev() {
+            *byte = b'0' + (rest % 10) as u8;
             rest /= 10;
-            if rest == 0 {
-                break;
-            }
         }
-        self.text(&digits[first..]);
     }
 
-    /// The lowest digits of a number in upper case hex.
-    fn hex<const WIDTH: usize>(&mut self, number: u64) {
-        let part = &mut self.block[self.used..self.used + WIDTH];
-        for (i, byte) in part.iter_mut().enumerate() {
-            *byte = b"0123456789ABCDEF"[(number >> 4 * (WIDTH - 1 - i) & 15) as usize];
-        }
-        self.used += WIDTH;
-    }
-
-    fn take(&mut self, id: u64, counter: u64, register: u8) {
+    fn take(&mut self, id: u64, counter: u8, register: u8) {
         self.text(b"take\t");
         self.decimal(id);
-        self.text(&[b'\t', b'0' + counter as u8, b'\t', register, b'\n']);
+        self.text(&[b'\t', b'0' + counter, b'\t', register, b'\n']);
     }
 
+    /// A `set` line. Most values are 0 or have a lower half alone: of those the zeros stand already.
     fn set(&mut self, address: u64, value: u64) {
-        self.text(b"set\t");
-        self.hex::<4>(address);
-        self.text(b"\t");
-        self.hex::<16>(value);
-        self.text(b"\n");
+        let line = self.next(SET_LINE.len());
+        line.copy_from_slice(SET_LINE);
+        put_hex(&mut line[4..8], address);
+        if value >> 32 != 0 {
+            put_hex(&mut line[9..17], value >> 32);
+        }
+        if value != 0 {
+            put_hex(&mut line[17..25], value);
+        }
     }
 
     pub fn refuse(&mut self, number: u64) {
@@ -66,11 +64,10 @@ impl Output<'_> {
 
     /// What a turn took, in the order taken, then its writes.
     fn turn(&mut self, turn: &Turn, list: &[u64]) {
-        for (entry, place) in turn.taken.iter().zip(turn.places).take(turn.count) {
-            let id = entry.id;
+        for (&Entry { id, .. }, place) in turn.taken.iter().zip(turn.places).take(turn.count) {
             match place {
                 Place::Counter(counter) => self.take(id, counter, b'-'),
-                Place::WithRsp(counter, rsp) => self.take(id, counter, b'0' + rsp as u8),
+                Place::WithRsp(counter, rsp) => self.take(id, counter, b'0' + rsp),
                 Place::Pair(first, second) => {
                     self.take(id, first, b'0');
                     self.take(id, second, b'1');
@@ -83,8 +80,28 @@ impl Output<'_> {
     }
 }
 
+/// The number of digits of a decimal.
+fn width_of(number: u64) -> usize {
+    let mut width = 1;
+    let mut rest = number;
+    while rest > 9 {
+        rest /= 10;
+        width += 1;
+    }
+    width
+}
+
+/// The lowest digits of a number in upper case hex.
+fn put_hex(digits: &mut [u8], number: u64) {
+    let mut rest = number;
+    for digit in digits.iter_mut().rev() {
+        *digit = b"0123456789ABCDEF"[(rest & 15) as usize];
+        rest >>= 4;
+    }
+}
+
 /// Makes the call of a line (without its newline) and writes the answer; there is room for the longest.
-pub fn answer(session: &mut Session, line: &[u8], out: &mut Output) {
+pub fn answer(session: &mut impl Calls, line: &[u8], out: &mut Output) {
     let outcome = match call_of(line) {
         None => Err(1),
         Some(Call::Open { device, usable }) => session.open(device, usable),

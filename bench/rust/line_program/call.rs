@@ -1,6 +1,7 @@
 //! The grammar of document 01, 'Lines': a line without its newline becomes a call, or nothing.
 
-use crate::plan::Request;
+use crate::planner::devices::Device;
+use crate::planner::requests::Request;
 
 /// The most bytes of a line, without its newline.
 pub const LINE_LIMIT: usize = 80;
@@ -78,10 +79,10 @@ fn hex_of(field: &[u8], width: usize) -> Option<u64> {
     Some(number)
 }
 
-/// The device's number is the ASCII code of its letter; the grammar has two letters.
+/// The device's number is the ASCII code of its letter; the grammar has the letters of the devices alone.
 fn device_of(field: &[u8]) -> Option<u64> {
     match field {
-        b"G" | b"S" => Some(field[0] as u64),
+        [letter] if Device::named(*letter as u64).is_some() => Some(*letter as u64),
         _ => None,
     }
 }

@@ -3,15 +3,13 @@
 
 mod answer;
 mod call;
-#[path = "../model.rs"]
-mod model;
-#[path = "../plan.rs"]
-mod plan;
-mod session;
+#[path = "../planner/mod.rs"]
+mod planner;
 
 use answer::{answer, Output, LONGEST_ANSWER};
 use call::LINE_LIMIT;
-use session::Session;
+use planner::fast::session::Session;
+use planner::Calls;
 use std::fs::File;
 use std::io::{ErrorKind, Read, Result, Write};
 use std::mem::ManuallyDrop;

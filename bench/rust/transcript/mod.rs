@@ -6,7 +6,8 @@ mod damage;
 
 use crate::answer::{answer, Output, LONGEST_ANSWER};
 use crate::numbers::Numbers;
-use crate::session::Session;
+use crate::planner::fast::session::Session;
+use crate::planner::Calls;
 use calls::Bench;
 
 /// The lines between two choices of how long the queue should be.

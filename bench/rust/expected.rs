@@ -1,0 +1,35 @@
+//! The answers of a whole transcript, line by line from the model.
+#![allow(dead_code)]
+
+use crate::answer::{answer, Output, LONGEST_ANSWER};
+use crate::planner::model::Session;
+use crate::planner::Calls;
+
+/// All answers of a transcript, and how many bytes of them there are after each newline of it.
+pub struct Expected {
+    pub bytes: Vec<u8>,
+    pub after: Vec<usize>,
+}
+
+/// Answers a transcript, and shows of each line the session before it, its bytes and its answer.
+pub fn expected(transcript: &[u8], mut show: impl FnMut(&Session, &[u8], &[u8])) -> Expected {
+    let mut session = Session::new();
+    let mut block = [0; LONGEST_ANSWER];
+    let mut expected = Expected { bytes: Vec::new(), after: Vec::new() };
+    for part in transcript.split_inclusive(|&byte| byte == b'\n') {
+        let before = session.clone();
+        let mut out = Output { block: &mut block, used: 0 };
+        let line = part.strip_suffix(b"\n");
+        match line {
+            Some(line) => answer(&mut session, line, &mut out),
+            None => out.refuse(1),
+        }
+        let answered = &out.block[..out.used];
+        show(&before, line.unwrap_or(part), answered);
+        expected.bytes.extend_from_slice(answered);
+        if line.is_some() {
+            expected.after.push(expected.bytes.len());
+        }
+    }
+    expected
+}

@@ -1,0 +1,45 @@
+//! Instructions counted by valgrind's callgrind, which do not swing with the machine's load as times do.
+#![allow(dead_code)]
+
+use std::fs;
+use std::hint::black_box;
+use std::path::Path;
+use std::process::{Command, Stdio};
+
+/// Whether valgrind is there.
+pub fn countable() -> bool {
+    let version = Command::new("valgrind").arg("--version").stdout(Stdio::null()).stderr(Stdio::null()).status();
+    version.is_ok_and(|status| status.success())
+}
+
+/// Parts one count from the next.
+#[no_mangle]
+#[inline(never)]
+pub extern "C" fn instruction_mark() {
+    black_box(());
+}
+
+/// The total of one file that callgrind wrote; the file is removed.
+fn total_in(file: &Path) -> Option<u64> {
+    let text = fs::read_to_string(file).ok()?;
+    let total = text.lines().find_map(|line| line.strip_prefix("totals: ")).expect("a total");
+    fs::remove_file(file).expect("a file of ours");
+    Some(total.parse().expect("a number"))
+}
+
+/// The instructions of a program between its marks: before the first, between the first and the second, and so on, and last
+/// those after the last mark.
+pub fn counts(program: &str, words: &[&str], input: Stdio, folder: &str) -> Vec<u64> {
+    let file = format!("{folder}/callgrind.out.{}", std::process::id());
+    let status = Command::new("valgrind")
+        .args(["--tool=callgrind", "--dump-before=instruction_mark", &format!("--callgrind-out-file={file}"), program])
+        .args(words)
+        .stdin(input)
+        .stdout(Stdio::null())
+        .stderr(Stdio::null())
+        .status()
+        .expect("valgrind");
+    assert!(status.success(), "{program} under valgrind: {status}");
+    let parts = (1..).map_while(|part| total_in(Path::new(&format!("{file}.{part}"))));
+    parts.chain(total_in(Path::new(&file))).collect()
+}

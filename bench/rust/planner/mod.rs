@@ -1,0 +1,38 @@
+//! Two planners for document 01, written from that document alone; they share no code with the crates.
+//! `model` is slow and clear: it says what the answers are, and the stored outputs come from it.
+//! `fast` takes the road of the proved planner: it is what the proved one is timed against.
+//! They share the table of devices, the requests with their checks, and the shape of the calls; each program here uses a part.
+#![allow(dead_code)]
+
+pub mod devices;
+pub mod fast;
+pub mod model;
+pub mod requests;
+
+use requests::{Entry, Place, Request};
+
+/// The most requests that can wait.
+pub const LIMIT: usize = 16;
+/// As many places as a plan has room for, at least as many as a device has counters.
+pub const PLACES: usize = 8;
+/// The numbers that are lent to a turn of a line: the room of 18 writes, the most there are.
+pub const LIST: usize = 36;
+
+/// What a turn took, in the order taken, with the places that the plan gives, and the number of its writes.
+#[derive(Clone, Copy, PartialEq, Eq, Debug)]
+pub struct Turn {
+    pub taken: [Entry; PLACES],
+    pub places: [Place; PLACES],
+    pub count: usize,
+    pub writes: usize,
+}
+
+/// The four calls of a session. A refused call answers its number and changes nothing.
+pub trait Calls {
+    fn new() -> Self;
+    fn open(&mut self, letter: u64, usable: u64) -> Result<(), u64>;
+    fn add(&mut self, id: u64, request: Request) -> Result<(), u64>;
+    fn drop(&mut self, id: u64) -> Result<(), u64>;
+    fn turn(&mut self, list: &mut [u64]) -> Result<Turn, u64>;
+    fn queue(&self) -> &[Entry];
+}

@@ -1,0 +1,108 @@
+//! The slow clear model: the answers as document 01 words them, with lists on the heap and a search for every candidate.
+//! The stored outputs of the program crates come from it, and the fast planner is compared with it. It is never timed.
+
+pub mod plan;
+pub mod reader;
+pub mod writes;
+
+use super::devices::Setup;
+use super::requests::{refusal_of, Entry, Place, Request, VACANT};
+use super::{Calls, Turn, LIMIT, PLACES};
+use plan::first_plan;
+
+#[derive(Clone)]
+pub struct Session {
+    pub setup: Option<Setup>,
+    pub queue: Vec<Entry>,
+}
+
+pub fn requests_of(entries: &[Entry]) -> Vec<Request> {
+    entries.iter().map(|entry| entry.request).collect()
+}
+
+/// The requests taken and those passed over. A request is taken exactly when it and those already taken have a plan.
+pub fn select(setup: Setup, queue: &[Entry]) -> (Vec<Entry>, Vec<Entry>) {
+    let (mut taken, mut passed) = (Vec::new(), Vec::new());
+    for &entry in queue {
+        taken.push(entry);
+        if first_plan(setup, &requests_of(&taken)).is_none() {
+            taken.pop();
+            passed.push(entry);
+        }
+    }
+    (taken, passed)
+}
+
+fn turn_of(taken: &[Entry], plan: &[Place], writes: usize) -> Turn {
+    let mut turn = Turn { taken: [VACANT; PLACES], places: [Place::Counter(0); PLACES], count: taken.len(), writes };
+    turn.taken[..taken.len()].copy_from_slice(taken);
+    turn.places[..plan.len()].copy_from_slice(plan);
+    turn
+}
+
+impl Calls for Session {
+    fn new() -> Session {
+        Session { setup: None, queue: Vec::new() }
+    }
+
+    fn queue(&self) -> &[Entry] {
+        &self.queue
+    }
+
+    fn open(&mut self, letter: u64, usable: u64) -> Result<(), u64> {
+        if self.setup.is_some() {
+            return Err(2);
+        }
+        self.setup = Some(Setup::of(letter, usable)?);
+        Ok(())
+    }
+
+    fn add(&mut self, id: u64, request: Request) -> Result<(), u64> {
+        let setup = self.setup.ok_or(2u64)?;
+        if id == 0 || id > 65535 {
+            return Err(4);
+        }
+        if self.queue.iter().any(|entry| entry.id == id) {
+            return Err(5);
+        }
+        if let Some(number) = refusal_of(setup.device, request) {
+            return Err(number);
+        }
+        if first_plan(setup, &[request]).is_none() {
+            return Err(12);
+        }
+        if self.queue.len() >= LIMIT {
+            return Err(13);
+        }
+        self.queue.push(Entry { id, request });
+        Ok(())
+    }
+
+    fn drop(&mut self, id: u64) -> Result<(), u64> {
+        self.setup.ok_or(2u64)?;
+        if id == 0 || id > 65535 {
+            return Err(4);
+        }
+        if self.queue.iter().all(|entry| entry.id != id) {
+            return Err(6);
+        }
+        self.queue.retain(|entry| entry.id != id);
+        Ok(())
+    }
+
+    fn turn(&mut self, list: &mut [u64]) -> Result<Turn, u64> {
+        let setup = self.setup.ok_or(2u64)?;
+        let (taken, passed) = select(setup, &self.queue);
+        let requests = requests_of(&taken);
+        let plan = first_plan(setup, &requests).expect("what is taken has a plan");
+        let writes = writes::list_of(setup, &requests, &plan);
+        if list.len() < 2 * writes.len() {
+            return Err(14);
+        }
+        for (pair, (address, value)) in list.chunks_mut(2).zip(&writes) {
+            pair.copy_from_slice(&[*address, *value]);
+        }
+        self.queue = [passed, taken.clone()].concat();
+        Ok(turn_of(&taken, &plan, writes.len()))
+    }
+}

@@ -1,0 +1,96 @@
+//! The reader: register values back to what each counter counts.
+
+use crate::planner::devices::{Filters, Setup};
+use crate::planner::requests::{latency_words, refusal_of, Request, OUTSTANDING};
+use crate::planner::PLACES;
+
+/// The values that the reader is given; what a device does not have is not looked at.
+#[derive(Clone, Copy, PartialEq, Eq, Debug)]
+pub struct Registers {
+    pub control: [u64; PLACES],
+    pub rsp: [u64; 2],
+    pub mm_cfg: u64,
+    pub match_word: u64,
+    pub mask_word: u64,
+    pub global: u64,
+}
+
+#[derive(Clone, Copy, PartialEq, Eq, Debug)]
+pub enum State {
+    NotOurs,
+    Off,
+    Counts { code: u64, mask: u64, register: Option<u64>, words: [Option<u64>; 2] },
+}
+
+/// What a usable counter with this control value does; nothing where no request gives it the value.
+fn state_of(setup: Setup, r: &Registers, word: u64) -> Option<State> {
+    let (enable, code, mask) = (word & !0xFFFF, word & 0xFF, word >> 8 & 0xFF);
+    let counts = |register, words| Some(State::Counts { code, mask, register, words });
+    match (setup.device.filters, code, mask) {
+        _ if word == 0 => Some(State::Off),
+        _ if enable != setup.device.enable => None,
+        (Filters::OffcoreResponse, 0xB7, 1 | 2) => counts(Some(mask - 1), [Some(r.rsp[mask as usize - 1]), None]),
+        (Filters::PacketMatch, 0, 0) => counts(None, [Some(r.match_word), Some(r.mask_word)]),
+        _ => {
+            let event = Request::Event { code: code as u8, mask: mask as u8, allowed: 0 };
+            match refusal_of(setup.device, event) {
+                None => counts(None, [None, None]),
+                Some(_) => None,
+            }
+        }
+    }
+}
+
+/// How many counters count each RSP register, and how many the packets.
+fn users_of(states: &[State]) -> ([u64; 2], u64) {
+    let (mut on, mut packets) = ([0, 0], 0);
+    for state in states {
+        match state {
+            State::Counts { register: Some(i), .. } => on[*i as usize] += 1,
+            State::Counts { register: None, words: [Some(_), _], .. } => packets += 1,
+            _ => {}
+        }
+    }
+    (on, packets)
+}
+
+/// Whether RSP0 holds a latency request's word, with its other word in RSP1 and a counter on RSP1 for each on RSP0.
+fn latency_held(setup: Setup, r: &Registers, on: [u64; 2]) -> bool {
+    let types = r.rsp[0] & !OUTSTANDING;
+    types <= 0xFFFF
+        && refusal_of(setup.device, Request::Latency { types: types as u16, first: 0, second: 0 }).is_none()
+        && r.rsp == latency_words(types as u16)
+        && on[0] <= on[1]
+}
+
+fn filters_held(setup: Setup, r: &Registers, states: &[State]) -> bool {
+    let (on, packets) = users_of(states);
+    let offcore = |word| refusal_of(setup.device, Request::Offcore { word, allowed: 0 }).is_none();
+    match setup.device.filters {
+        Filters::OffcoreResponse => {
+            (if on[1] == 0 { r.rsp[1] == 0 } else { offcore(r.rsp[1]) })
+                && (if on[0] == 0 { r.rsp[0] == 0 } else { offcore(r.rsp[0]) || latency_held(setup, r, on) })
+        }
+        Filters::PacketMatch => r.mm_cfg == if packets == 0 { 0 } else { 1 << 63 },
+    }
+}
+
+/// What the reader answers: the state of each counter, or the number of the refusal.
+pub fn read(letter: u64, usable: u64, r: &Registers) -> Result<Vec<State>, u64> {
+    let setup = Setup::of(letter, usable)?;
+    let mut states = Vec::new();
+    let mut used = 0;
+    for k in 0..setup.device.counters {
+        states.push(match usable >> k & 1 {
+            0 => State::NotOurs,
+            _ => state_of(setup, r, r.control[k as usize]).ok_or(15u64)?,
+        });
+        if let State::Counts { .. } = states[k as usize] {
+            used |= 1 << k;
+        }
+    }
+    match filters_held(setup, r, &states) && r.global == setup.others() + used {
+        true => Ok(states),
+        false => Err(15),
+    }
+}

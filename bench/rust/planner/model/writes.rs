@@ -1,0 +1,67 @@
+//! The write list of a plan, in the order of document 01, 'Writes, in order'.
+
+use crate::planner::devices::{Device, Filters, Setup};
+use crate::planner::requests::{latency_words, Place, Request};
+
+/// An address and the value to write there.
+pub type Write = (u64, u64);
+
+/// The event word: code and unit mask beside the device's enable bits.
+fn event_word(device: &Device, code: u64, mask: u64) -> u64 {
+    device.enable + 0x100 * mask + code
+}
+
+/// The counters that a request uses, each with its event word.
+fn words_of(device: &Device, request: Request, place: Place) -> Vec<(u8, u64)> {
+    match (request, place) {
+        (Request::Event { code, mask, .. }, Place::Counter(k)) => vec![(k, event_word(device, code as u64, mask as u64))],
+        (Request::Packet { .. }, Place::Counter(k)) => vec![(k, event_word(device, 0, 0))],
+        (Request::Offcore { .. }, Place::WithRsp(k, rsp)) => vec![(k, event_word(device, 0xB7, rsp as u64 + 1))],
+        (Request::Latency { .. }, Place::Pair(j, k)) => vec![(j, event_word(device, 0xB7, 1)), (k, event_word(device, 0xB7, 2))],
+        _ => panic!("{place:?} is no place for {request:?}"),
+    }
+}
+
+/// 01A6 then 01A7, 0 where unused.
+fn offcore_response(requests: &[Request], plan: &[Place]) -> Vec<Write> {
+    let mut held = [0; 2];
+    for (request, place) in requests.iter().zip(plan) {
+        match (*request, *place) {
+            (Request::Offcore { word, .. }, Place::WithRsp(_, rsp)) => held[rsp as usize] = word,
+            (Request::Latency { types, .. }, _) => held = latency_words(types),
+            _ => {}
+        }
+    }
+    vec![(0x1A6, held[0]), (0x1A7, held[1])]
+}
+
+/// MM_CFG = 0, and where a packet request is taken then MATCH, MASK, MM_CFG = 2^63.
+fn packet_match(requests: &[Request]) -> Vec<Write> {
+    for request in requests {
+        if let Request::Packet { match_word, mask_word, .. } = *request {
+            return vec![(0xE48, 0), (0xE49, match_word), (0xE4A, mask_word), (0xE48, 1 << 63)];
+        }
+    }
+    vec![(0xE48, 0)]
+}
+
+pub fn list_of(setup: Setup, requests: &[Request], plan: &[Place]) -> Vec<Write> {
+    let device = setup.device;
+    let at = &device.addresses;
+    let given = requests.iter().zip(plan);
+    let mut words: Vec<(u8, u64)> = given.flat_map(|(request, place)| words_of(device, *request, *place)).collect();
+    words.sort();
+    let usable = (0..device.counters).filter(|k| setup.usable >> k & 1 == 1);
+    let used: u64 = words.iter().map(|(k, _)| 1 << k).sum();
+    let filters = match device.filters {
+        Filters::OffcoreResponse => offcore_response(requests, plan),
+        Filters::PacketMatch => packet_match(requests),
+    };
+    let mut list = vec![(at.global, setup.others())];
+    list.extend(usable.map(|k| (at.control + at.step * k, 0)));
+    list.extend(filters);
+    list.extend(words.iter().map(|&(k, _)| (at.counter + at.step * k as u64, 0)));
+    list.extend(words.iter().map(|&(k, word)| (at.control + at.step * k as u64, word)));
+    list.push((at.global, setup.others() + used));
+    list
+}

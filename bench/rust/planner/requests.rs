@@ -1,0 +1,81 @@
+//! Requests and their places, and the checks 7 to 11 of a request.
+
+use super::devices::{Device, Filters};
+
+#[derive(Clone, Copy, PartialEq, Eq, Debug)]
+pub enum Request {
+    Event { code: u8, mask: u8, allowed: u64 },
+    Packet { match_word: u64, mask_word: u64, allowed: u64 },
+    Offcore { word: u64, allowed: u64 },
+    Latency { types: u16, first: u64, second: u64 },
+}
+
+/// The counter of a request, with the RSP register of an offcore request, or the two counters of a latency request.
+#[derive(Clone, Copy, PartialEq, Eq, Debug)]
+pub enum Place {
+    Counter(u8),
+    WithRsp(u8, u8),
+    Pair(u8, u8),
+}
+
+#[derive(Clone, Copy, PartialEq, Eq, Debug)]
+pub struct Entry {
+    pub id: u64,
+    pub request: Request,
+}
+
+pub const VACANT: Entry = Entry { id: 0, request: Request::Event { code: 0, mask: 0, allowed: 0 } };
+
+const TYPES: u64 = 0xFFBF;
+const ANY_RESPONSE: u64 = 1 << 16;
+const SNOOP_ANSWERS: u64 = 1 << 33 | 1 << 34 | 1 << 36 | 1 << 37;
+pub const OUTSTANDING: u64 = 1 << 38;
+const PERMITTED: u64 = TYPES | ANY_RESPONSE | SNOOP_ANSWERS | OUTSTANDING;
+
+/// The words of a latency request: RSP0's and RSP1's.
+pub fn latency_words(types: u16) -> [u64; 2] {
+    [types as u64 + OUTSTANDING, types as u64 + ANY_RESPONSE]
+}
+
+/// The first of the numbers 10, 9, 11 whose condition holds, in the order of the checks.
+fn first_of(ten: bool, nine: bool, eleven: bool) -> Option<u64> {
+    match (ten, nine, eleven) {
+        (true, ..) => Some(10),
+        (_, true, _) => Some(9),
+        (.., true) => Some(11),
+        _ => None,
+    }
+}
+
+fn event_refusal(device: &Device, code: u8, mask: u8, allowed: u64) -> Option<u64> {
+    match device.event_refusal(code, mask) {
+        Some(8) => Some(8),
+        _ if allowed > device.all() => Some(10),
+        number => number,
+    }
+}
+
+fn offcore_refusal(device: &Device, word: u64, allowed: u64) -> Option<u64> {
+    let (any, snoop, outstanding) = (word & ANY_RESPONSE != 0, word & SNOOP_ANSWERS != 0, word & OUTSTANDING != 0);
+    first_of(
+        word & !PERMITTED != 0 || allowed > device.all(),
+        word & TYPES == 0 || !(any || snoop || outstanding),
+        outstanding || any && snoop,
+    )
+}
+
+fn latency_refusal(device: &Device, types: u16, first: u64, second: u64) -> Option<u64> {
+    let types = types as u64;
+    first_of(types & !TYPES != 0 || first > device.all() || second > device.all(), types == 0, false)
+}
+
+/// The number of the checks 7, 8, 10, 9 and 11 that refuses a request on this device.
+pub fn refusal_of(device: &Device, request: Request) -> Option<u64> {
+    match (request, device.filters) {
+        (Request::Event { code, mask, allowed }, _) => event_refusal(device, code, mask, allowed),
+        (Request::Packet { allowed, .. }, Filters::PacketMatch) => first_of(allowed > device.all(), false, false),
+        (Request::Offcore { word, allowed }, Filters::OffcoreResponse) => offcore_refusal(device, word, allowed),
+        (Request::Latency { types, first, second }, Filters::OffcoreResponse) => latency_refusal(device, types, first, second),
+        _ => Some(7),
+    }
+}
