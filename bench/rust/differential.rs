@@ -6,6 +6,7 @@ mod answer;
 #[path = "line_program/call.rs"]
 mod call;
 mod expected;
+mod kinds;
 mod numbers;
 mod pieces;
 mod planner;
@@ -52,7 +53,7 @@ fn fail(programs: &Programs, number: u64, what: &str, transcript: &[u8], tuner: 
 /// One transcript through both programs.
 fn compare(programs: &Programs, number: u64, tally: &mut Tally) -> bool {
     let transcript = transcript::random(number, programs.seed);
-    let expected = expected::expected(&transcript, |_, line, answered| tally.count(line, answered));
+    let expected = expected::expected(&transcript, |session, line, answered| tally.count(session, line, answered));
     fs::write(INPUT, &transcript).expect("a place for the transcript");
     let rust = output_of(&programs.rust);
     if rust != expected.bytes {

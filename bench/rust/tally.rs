@@ -1,22 +1,37 @@
-//! How often each answer was given.
+//! How often each answer was given on each device, and how many turns there were of each kind.
+
+use crate::kinds::{Turned, KINDS};
+use crate::planner::devices::DEVICES;
+use crate::planner::model::Session;
 
 const VERBS: [&str; 7] = ["open", "event", "packet", "offcore", "latency", "drop", "turn"];
 /// The highest refusal that a line can get.
 const REFUSALS: usize = 13;
+/// A kind that fewer than one in so many turns are of is too seldom.
+const SELDOM: u64 = 300;
 
 pub struct Tally {
     pub lines: u64,
     accepted: [u64; VERBS.len()],
     refused: [u64; REFUSALS + 1],
+    /// The turns of each device, and of each kind on it.
+    turns: [u64; DEVICES.len()],
+    kinds: [[u64; DEVICES.len()]; KINDS.len()],
 }
 
 impl Tally {
     pub fn new() -> Tally {
-        Tally { lines: 0, accepted: [0; VERBS.len()], refused: [0; REFUSALS + 1] }
+        Tally {
+            lines: 0,
+            accepted: [0; VERBS.len()],
+            refused: [0; REFUSALS + 1],
+            turns: [0; DEVICES.len()],
+            kinds: [[0; DEVICES.len()]; KINDS.len()],
+        }
     }
 
-    /// Counts a line with its answer.
-    pub fn count(&mut self, line: &[u8], answered: &[u8]) {
+    /// Counts a line with the session before it and its answer.
+    pub fn count(&mut self, session: &Session, line: &[u8], answered: &[u8]) {
         self.lines += 1;
         if answered.ends_with(b"ok\n") {
             let verb = VERBS.iter().position(|verb| line.split(|&byte| byte == b'\t').next() == Some(verb.as_bytes()));
@@ -25,6 +40,19 @@ impl Tally {
             let number = std::str::from_utf8(&answered[3..answered.len() - 1]).expect("a number");
             self.refused[number.parse::<usize>().expect("a number")] += 1;
         }
+        if line == b"turn" {
+            self.count_turn(session);
+        }
+    }
+
+    fn count_turn(&mut self, session: &Session) {
+        let Some(setup) = session.setup else { return };
+        let device = DEVICES.iter().position(|device| device.letter == setup.device.letter).expect("a device");
+        let turned = Turned::of(setup, &session.queue);
+        self.turns[device] += 1;
+        for (kind, (_, test)) in KINDS.iter().enumerate() {
+            self.kinds[kind][device] += test(&turned) as u64;
+        }
     }
 
     pub fn print(&self) {
@@ -32,11 +60,24 @@ impl Tally {
         let refused: Vec<String> = (1..=REFUSALS).map(|number| format!("{number}: {}", self.refused[number])).collect();
         println!("ok   {}", accepted.join(", "));
         println!("no   {}", refused.join(", "));
+        print_row("turns", DEVICES.each_ref().map(|device| (device.letter as char).to_string()));
+        print_row("all", self.turns.map(|n| n.to_string()));
+        for ((kind, _), counts) in KINDS.iter().zip(self.kinds) {
+            print_row(kind, counts.map(|n| n.to_string()));
+        }
     }
 
-    /// Every verb was accepted and every refusal given, or the comparison says too little.
+    /// Every verb was accepted, every refusal given and every kind of turn made, or the comparison says too little.
     pub fn nothing_missed(&self) {
         assert!(self.accepted.iter().all(|&n| n > 0), "a verb was never accepted");
         assert!(self.refused[1..].iter().all(|&n| n > 0), "a refusal was never given");
+        let turns: u64 = self.turns.iter().sum();
+        for ((kind, _), counts) in KINDS.iter().zip(self.kinds) {
+            assert!(counts.iter().sum::<u64>() * SELDOM > turns, "seldom in a turn: {kind}");
+        }
     }
+}
+
+fn print_row<const N: usize>(name: &str, columns: [String; N]) {
+    println!("{name:46}{}", columns.map(|column| format!("{column:>8}")).concat());
 }

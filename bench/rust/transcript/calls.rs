@@ -1,18 +1,19 @@
 //! Random calls as lines without their newline: in the grammar, mostly accepted, and refused when odd values are drawn.
 
 use crate::numbers::Numbers;
+use crate::planner::devices::{Device, Filters};
 
-/// What the calls are drawn for: the device's letter, its usable set, and how many of a hundred fields get an odd value.
+/// What the calls are drawn for: the device, its usable set, how many ids there are, and how many of a hundred fields get
+/// an odd value. In a tight bench requests get in each other's way: nested sets, few words, and those of latency requests.
 pub struct Bench {
     pub numbers: Numbers,
-    pub device: char,
+    pub device: &'static Device,
     pub usable: u64,
+    pub ids: u64,
     pub odd: u64,
+    pub tight: bool,
 }
 
-const PAIRS_G: [(u8, u8); 7] = [(0x3C, 0), (0xC0, 0), (0x3C, 1), (0x2E, 0x4F), (0x2E, 0x41), (0xC4, 0), (0xC5, 0)];
-const PAIRS_S: [(u8, u8); 10] =
-    [(0x51, 1), (0x51, 2), (0x51, 3), (0x31, 1), (0x31, 2), (0x31, 3), (0x52, 0), (0x2B, 0), (0x2D, 0), (0x2F, 0)];
 /// Pairs that are not listed, or are listed on the other device, or have a mask out of range.
 const ODD_PAIRS: [(u8, u8); 12] = [
     (0xB7, 1),
@@ -29,6 +30,8 @@ const ODD_PAIRS: [(u8, u8); 12] = [
     (0x2B, 3),
 ];
 const WORDS: [u64; 8] = [0x10001, 0x10001, 0x10002, 0x18000, 0x2_0000_0001, 0x12_0000_0002, 0x36_0000_FFBF, 0x1FFBF];
+/// Two words that latency requests of the types 1 and 2 have in RSP1, and one that none has.
+const TIGHT_WORDS: [u64; 4] = [0x10001, 0x10001, 0x10002, 0x2_0000_0001];
 /// Words with a reserved bit, no type, no response bit, bit 38, or bit 16 with a snoop answer.
 const ODD_WORDS: [u64; 12] = [
     0x10040,
@@ -54,62 +57,78 @@ impl Bench {
     fn id(&mut self) -> u64 {
         match self.odd() {
             true => self.numbers.pick(&[0, 65535, 65536, 99999, 70000]),
-            false => self.numbers.below(30) + 1,
+            false => self.numbers.below(self.ids) + 1,
         }
     }
 
     fn set(&mut self) -> u64 {
-        match self.odd() {
-            true => self.numbers.pick(&[0, 16, 31, 255, 65535, 99999, 15 & !self.usable]),
-            false => {
-                let sets = [15, 15, self.usable, 1 << self.numbers.below(4), self.numbers.below(15) + 1];
-                self.numbers.pick(&sets)
-            }
+        let all = self.device.all();
+        if self.odd() {
+            return self.numbers.pick(&[0, all + 1, 31, 255, 65535, 99999, all & !self.usable]);
         }
+        if self.tight {
+            return self.nested_set();
+        }
+        let sets = [all, all, self.usable, 1 << self.numbers.below(self.device.counters), self.numbers.below(all) + 1];
+        self.numbers.pick(&sets)
+    }
+
+    /// The lowest or the highest of the counters, any number of them: the first to come had better leave the lowest.
+    fn nested_set(&mut self) -> u64 {
+        let all = self.device.all();
+        let without = self.numbers.below(self.device.counters);
+        self.numbers.pick(&[all >> without, all >> without, all << without & all])
     }
 
     pub fn event(&mut self, id: u64) -> String {
-        let (code, mask) = match (self.odd(), self.device) {
-            (true, _) => self.numbers.pick(&ODD_PAIRS),
-            (false, 'G') => self.numbers.pick(&PAIRS_G),
-            (false, _) => self.numbers.pick(&PAIRS_S),
+        let (code, mask) = match self.odd() {
+            true => self.numbers.pick(&ODD_PAIRS),
+            false => self.numbers.pick(&self.device.pairs()),
         };
         format!("event\t{id}\t{code:02X}\t{mask:02X}\t{}", self.set())
     }
 
     pub fn packet(&mut self, id: u64) -> String {
-        let (asked, mask) = match self.odd() {
-            true => (self.numbers.below(1 << 53) << 11, u64::MAX),
-            false => (0x0123_4567_89AB_CDEF + self.numbers.below(2), 0xFFFF_FFFF << (32 * self.numbers.below(2))),
+        let (asked, mask) = match (self.odd(), self.tight) {
+            (true, _) => (self.numbers.below(1 << 53) << 11, u64::MAX),
+            (_, true) => (0x0123_4567_89AB_CDEF + self.numbers.pick(&[0, 0, 1]), u64::MAX),
+            _ => (0x0123_4567_89AB_CDEF + self.numbers.below(2), 0xFFFF_FFFF << (32 * self.numbers.below(2))),
         };
         format!("packet\t{id}\t{asked:016X}\t{mask:016X}\t{}", self.set())
     }
 
     pub fn offcore(&mut self, id: u64) -> String {
-        let word = match self.odd() {
-            true => self.numbers.pick(&ODD_WORDS),
-            false => self.numbers.pick(&WORDS),
+        let word = match (self.odd(), self.tight) {
+            (true, _) => self.numbers.pick(&ODD_WORDS),
+            (_, true) => self.numbers.pick(&TIGHT_WORDS),
+            _ => self.numbers.pick(&WORDS),
         };
         format!("offcore\t{id}\t{word:016X}\t{}", self.set())
     }
 
     pub fn latency(&mut self, id: u64) -> String {
-        let types = match self.odd() {
-            true => self.numbers.pick(&[0, 0x40, 0xFFFF, 0x41]),
-            false => self.numbers.pick(&[1, 1, 2, 0x8000, 0xFFBF]),
+        let types = match (self.odd(), self.tight) {
+            (true, _) => self.numbers.pick(&[0, 0x40, 0xFFFF, 0x41]),
+            (_, true) => self.numbers.pick(&[1, 1, 2]),
+            _ => self.numbers.pick(&[1, 1, 2, 0x8000, 0xFFBF]),
         };
         format!("latency\t{id}\t{types:04X}\t{}\t{}", self.set(), self.set())
     }
 
-    /// A request of a kind that the device has, or in odd cases any kind.
+    /// A request of a kind that the device has, or in odd cases one of the other filters'.
     pub fn add_with(&mut self, id: u64) -> String {
-        let on_g = self.device == 'G';
-        let on_g = if self.odd() { !on_g } else { on_g };
-        match (self.numbers.below(4), on_g) {
-            (0 | 1, _) => self.event(id),
-            (2, true) => self.offcore(id),
-            (_, true) => self.latency(id),
-            (_, false) => self.packet(id),
+        let filters = match (self.odd(), self.device.filters) {
+            (false, own) => own,
+            (true, Filters::OffcoreResponse) => Filters::PacketMatch,
+            (true, Filters::PacketMatch) => Filters::OffcoreResponse,
+        };
+        match (self.numbers.below(4), filters) {
+            (0, _) => self.event(id),
+            (1, Filters::OffcoreResponse) if self.tight => self.offcore(id),
+            (1, _) => self.event(id),
+            (2, Filters::OffcoreResponse) => self.offcore(id),
+            (_, Filters::OffcoreResponse) => self.latency(id),
+            (_, Filters::PacketMatch) => self.packet(id),
         }
     }
 
@@ -124,9 +143,10 @@ impl Bench {
 
     /// An open of the bench's device and set, or in odd cases of some other.
     pub fn open(&mut self) -> String {
+        let letter = self.device.letter as char;
         match self.odd() {
             true => format!("open\t{}\t{}", self.numbers.pick(&['G', 'S', 'H']), self.numbers.pick(&[0, 7, 16, 99999])),
-            false => format!("open\t{}\t{}", self.device, self.usable),
+            false => format!("open\t{letter}\t{}", self.usable),
         }
     }
 }

@@ -6,12 +6,15 @@ mod damage;
 
 use crate::answer::{answer, Output, LONGEST_ANSWER};
 use crate::numbers::Numbers;
+use crate::planner::devices::{Device, DEVICES};
 use crate::planner::fast::session::Session;
 use crate::planner::Calls;
 use calls::Bench;
 
 /// The lines between two choices of how long the queue should be.
 const STRETCH: usize = 64;
+/// So many ids that the queue can get full, and so few that many of them are waiting.
+const IDS: u64 = 30;
 
 /// Starts a generator; near seeds give unlike numbers.
 pub fn numbers_from(seed: u64) -> Numbers {
@@ -50,7 +53,8 @@ fn next_call(bench: &mut Bench, session: &Session, goal: usize) -> Vec<u8> {
 
 /// A transcript of so many lines: mostly accepted adds and drops, a fifth turns, a tenth refused or ill-formed lines.
 pub fn long(device: char, lines: usize, seed: u64) -> Vec<u8> {
-    let mut bench = Bench { numbers: numbers_from(seed), device, usable: 15, odd: 0 };
+    let device = Device::named(device as u64).expect("a device");
+    let mut bench = Bench { numbers: numbers_from(seed), device, usable: device.all(), ids: IDS, odd: 0, tight: false };
     let mut session = Session::new();
     let mut block = [0; LONGEST_ANSWER];
     let mut transcript = Vec::new();
@@ -70,8 +74,8 @@ pub fn long(device: char, lines: usize, seed: u64) -> Vec<u8> {
 /// More adds than the queue has room for, each of which has a plan alone.
 fn overflow(bench: &mut Bench, transcript: &mut Vec<u8>) {
     for id in 101..118 + bench.numbers.below(4) {
-        let (code, mask) = if bench.device == 'G' { ("C0", "00") } else { ("2F", "00") };
-        push(transcript, format!("event\t{id}\t{code}\t{mask}\t{}", bench.usable).as_bytes());
+        let (code, mask) = bench.device.pairs()[0];
+        push(transcript, format!("event\t{id}\t{code:02X}\t{mask:02X}\t{}", bench.usable).as_bytes());
     }
 }
 
@@ -106,11 +110,12 @@ struct Mix {
 
 /// The open, sometimes after one that is refused.
 fn opening(bench: &mut Bench, transcript: &mut Vec<u8>) {
+    let letter = bench.device.letter as char;
     if bench.numbers.chance(30) {
-        let usable = bench.numbers.pick(&[0, 16, 17, 99999]);
-        push(transcript, format!("open\t{}\t{usable}", bench.device).as_bytes());
+        let usable = bench.numbers.pick(&[0, bench.device.all() + 1, 17, 99999]);
+        push(transcript, format!("open\t{letter}\t{usable}").as_bytes());
     }
-    push(transcript, format!("open\t{}\t{}", bench.device, bench.usable).as_bytes());
+    push(transcript, format!("open\t{letter}\t{}", bench.usable).as_bytes());
 }
 
 fn mixed_lines(bench: &mut Bench, mix: Mix) -> Vec<u8> {
@@ -135,7 +140,8 @@ fn mixed_lines(bench: &mut Bench, mix: Mix) -> Vec<u8> {
 
 /// One transcript of so many calls with every kind of line. On S its last line lacks the newline.
 pub fn mixed(device: char, usable: u64, calls: u64, seed: u64) -> Vec<u8> {
-    let mut bench = Bench { numbers: numbers_from(seed), device, usable, odd: 8 };
+    let named = Device::named(device as u64).expect("a device");
+    let mut bench = Bench { numbers: numbers_from(seed), device: named, usable, ids: IDS, odd: 8, tight: false };
     let mut transcript = mixed_lines(&mut bench, Mix { calls, opened_at: 6, overflow_at: calls / 2, damage: 12, noise: 4 });
     if device == 'S' {
         transcript.pop();
@@ -143,13 +149,19 @@ pub fn mixed(device: char, usable: u64, calls: u64, seed: u64) -> Vec<u8> {
     transcript
 }
 
-/// The transcript of this number: both devices and every usable set in turn, of every kind from valid to noise alone.
-pub fn random(number: u64, seed: u64) -> Vec<u8> {
-    let numbers = numbers_from(seed ^ number << 20);
-    let device = if number % 2 == 0 { 'G' } else { 'S' };
-    let odd = [0, 4, 15, 40][(number / 30 % 4) as usize];
-    let mut bench = Bench { numbers, device, usable: number / 2 % 15 + 1, odd };
-    let calls = if number % 500 == 499 { 6000 } else { bench.numbers.below(100) };
+/// A transcript whose turns are hard: accepted calls, most on all counters, with requests that get in each other's way.
+fn tight(mut bench: Bench, calls: u64) -> Vec<u8> {
+    let all = bench.device.all();
+    bench.odd = 0;
+    let unusable = 1 << bench.numbers.below(bench.device.counters);
+    bench.usable = bench.numbers.pick(&[all, all, all & !unusable]);
+    bench.ids = bench.numbers.pick(&[4, 8, IDS]);
+    bench.tight = true;
+    mixed_lines(&mut bench, Mix { calls, opened_at: 0, overflow_at: calls, damage: 0, noise: 0 })
+}
+
+/// A transcript of any kind, from valid to noise alone.
+fn loose(mut bench: Bench, calls: u64) -> Vec<u8> {
     let mix = Mix {
         calls,
         opened_at: if bench.numbers.chance(80) { 0 } else { bench.numbers.below(8) },
@@ -164,4 +176,20 @@ pub fn random(number: u64, seed: u64) -> Vec<u8> {
     }
     ending(&mut bench, &mut transcript);
     transcript
+}
+
+/// The transcript of this number: every device and every usable set in turn, and every fourth one tight.
+pub fn random(number: u64, seed: u64) -> Vec<u8> {
+    let mut numbers = numbers_from(seed ^ number << 20);
+    let count = DEVICES.len() as u64;
+    let device = &DEVICES[(number % count) as usize];
+    let round = number / count;
+    let calls = if round % 250 == 249 { 6000 } else { numbers.below(100) };
+    let usable = round % device.all() + 1;
+    let odd = [0, 4, 15, 40][(round / device.all() % 4) as usize];
+    let bench = Bench { numbers, device, usable, ids: IDS, odd, tight: false };
+    match round % 4 {
+        3 => tight(bench, calls),
+        _ => loose(bench, calls),
+    }
 }
