@@ -51,6 +51,7 @@ pub fn run_once(cases: &[Case]) {
 fn counted(cases: &[Case], folder: &str) -> Vec<(f64, f64)> {
     let program = std::env::current_exe().expect("this program");
     let counts = instructions::counts(program.to_str().expect("a path"), &[COUNT], Stdio::null(), folder);
+    assert_eq!(counts.len(), 2 * cases.len() + 2, "a count for each mark, and one before the first");
     let parts = counts[1..].chunks_exact(2);
     cases.iter().zip(parts).map(|(case, part)| (part[0] as f64 / case.units as f64, part[1] as f64 / case.units as f64)).collect()
 }
