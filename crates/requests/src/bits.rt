@@ -1,18 +1,18 @@
-// Bits of words, tested by masks: the bits of an offcore word by their roles (documents 001, 002).
+// Bits of words, tested by masks: the bits of an offcore word by their roles, each with the document that names them.
 ghost use mathlib.Core.Path.{_≡_};
 ghost use Rattle.requests.specs.Bits.{anyBit, latencyWord, onlyBits};
 ghost use Rattle.requests.specs.Masks.{bitsOf};
 
-// Request types: DEMAND_DATA_RD 0 to PF_L2_RFO 5, PARTIAL_READS 7 to ANY_REQUEST 15.
+// Request types (002, Table 18-21): DEMAND_DATA_RD 0 to PF_L2_RFO 5, PARTIAL_READS 7 to ANY_REQUEST 15.
 pub const TYPES: u64 = 0x0000_0000_0000_FFBF;
 
-// ANY_RESPONSE: 16.
+// ANY_RESPONSE (000, 18.6.3): 16.
 pub const ANY_RESPONSE: u64 = 0x0000_0000_0001_0000;
 
-// Snoop answers: L2_MISS.SNOOP_MISS_OR_NO_SNOOP_NEEDED 33, HIT_OTHER_CORE_NO_FWD 34, HITM_OTHER_CORE 36, NON_DRAM 37.
+// Snoop answers (002, Table 18-22): L2_MISS.SNOOP_MISS_OR_NO_SNOOP_NEEDED 33, HIT_OTHER_CORE_NO_FWD 34, HITM_OTHER_CORE 36, NON_DRAM 37.
 pub const ANSWERS: u64 = 0x0000_0036_0000_0000;
 
-// OUTSTANDING: 38.
+// OUTSTANDING (002, Table 18-22): 38.
 pub const OUTSTANDING: u64 = 0x0000_0040_0000_0000;
 
 // A response bit or OUTSTANDING.
