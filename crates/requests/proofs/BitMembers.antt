@@ -1,7 +1,7 @@
 -- Lists of bits by their members: what the tests of a word's bits say of them. Assumes nothing.
 use mathlib.Core.Path.{_≡_, refl, sym, subst, _∙_}
 use mathlib.Core.Logic.{⊎-elim}
-use mathlib.Core.Bool.{Bool, true, false, not, true≢false, false≢true}
+use mathlib.Core.Bool.{Bool, true, false, not, false≢true}
 use mathlib.Core.List.{List, [], _∷_, _++_, List·Memᴰ, List·Memᴰ·head, List·Memᴰ·tail, List·Memᴰ·append-cases, Memᴰ·append-left, Memᴰ·append-right}
 use mathlib.Mathlib.Data.Bool.Basic.{eq-false-of-not-eq-true}
 use Prim.Native.Nat.{ℕ, zero, suc, _+_, _%_, _^_, _≤_, _<_}
@@ -15,7 +15,7 @@ use Rattle.requests.specs.Choice.{both, either, every}
 use Rattle.requests.specs.Bits.{bit, inList, anyBit, onlyBits, typeBits, rsp0Bits}
 use Rattle.requests.specs.Masks.{bitsOf, typeMask, permittedMask}
 use Rattle.requests.specs.RefusedRequests.{HasBit, HasNone, HasReserved}
-use Rattle.requests.proofs.Tests.{either-cases, either-left, either-right, either-parts, both-parts, every-fails}
+use Rattle.requests.proofs.Tests.{both-ways, either-cases, either-left, either-right, either-parts, both-parts, every-fails}
 use Rattle.requests.proofs.Words.{bit-past, low-false}
 use Rattle.requests.proofs.BitLists.{reserved}
 use Rattle.requests.proofs.MaskTests.{in-bits}
@@ -48,10 +48,10 @@ pub any-of-has : (ks : List ℕ) (w : ℕ) → HasBit ks w → anyBit ks w ≡ t
 any-of-has ks w h = has-any ks (h .0) w (h .1) (h .2)
 
 pub none-has : (ks : List ℕ) (w : ℕ) → anyBit ks w ≡ false → HasNone ks w
-none-has ks w e k m = eq-false-of-not-eq-true (λ h. true≢false (sym (has-any ks k w m h) ∙ e))
+none-has ks w e k m = eq-false-of-not-eq-true (λ h. both-ways (has-any ks k w m h) e)
 
 pub none-of-has : (ks : List ℕ) (w : ℕ) → HasNone ks w → anyBit ks w ≡ false
-none-of-has ks w none = eq-false-of-not-eq-true (λ h. let f = any-has ks w h in true≢false (sym (f .2) ∙ none (f .0) (f .1)))
+none-of-has ks w none = eq-false-of-not-eq-true (λ h. let f = any-has ks w h in both-ways (f .2) (none (f .0) (f .1)))
 
 -- one bit more that the word has not
 pub none-has-more : (k : ℕ) (ks : List ℕ) (w : ℕ) → bit k w ≡ false → HasNone ks w → HasNone (k ∷ ks) w
@@ -105,11 +105,11 @@ module _ (ks : List ℕ) (w : ℕ) where
       go true e h =
           let f = every-fails 64 (λ k. either (not (bit k w)) (inList ks k)) h in
           let parts = either-parts _ _ (f .2) in
-          (f .0, λ m. true≢false (sym (member-in ks (f .0) m) ∙ parts .1), not-false _ (parts .0))
+          (f .0, λ m. both-ways (member-in ks (f .0) m) (parts .1), not-false _ (parts .0))
 
   pub reserved-only : HasReserved ks w → onlyBits ks w ≡ false
   unfolding onlyBits
-  reserved-only (k, out, on) = eq-false-of-not-eq-true (λ h. true≢false (sym on ∙ off h (decLt k 64)))
+  reserved-only (k, out, on) = eq-false-of-not-eq-true (λ h. both-ways on (off h (decLt k 64)))
     where
       off : onlyBits ks w ≡ true → Dec (k < 64) → bit k w ≡ false
       off h (yes l) = reserved ks k w l (eq-false-of-not-eq-true (λ i. out (in-member ks k i))) h

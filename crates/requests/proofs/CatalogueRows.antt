@@ -1,7 +1,7 @@
 -- The tests of a catalogue by its rows: a code or a pair is listed exactly where a row has it, and on S a code stands in one row. Assumes nothing.
 use mathlib.Core.Path.{_≡_, refl, ap, sym, subst, _∙_}
 use mathlib.Core.Logic.{_⊎_, inl, inr, ⊎-elim}
-use mathlib.Core.Bool.{Bool, true, not, true≢false, false≢true}
+use mathlib.Core.Bool.{Bool, true, not, false≢true}
 use mathlib.Core.List.{List, [], _∷_, List·Memᴰ, List·Memᴰ·head, List·Memᴰ·tail}
 use Prim.Native.Nat.{ℕ, _≤_}
 use native.Mathlib.Nat.{lt-of-not-le}
@@ -11,7 +11,7 @@ use Rattle.requests.specs.Choice.{both, either}
 use Rattle.requests.specs.Catalogue.{MaskRule, alone, range, allows, ListedEvent, listed, eventsOf, codeIn, pairIn}
 use Rattle.requests.specs.RefusedRequests.{Lists, Above, InCatalogue}
 use Rattle.requests.specs.declared.Device.the-variants.{S}
-use Rattle.requests.proofs.Tests.{both-parts, true-both, either-cases, either-left, either-right}
+use Rattle.requests.proofs.Tests.{both-ways, both-parts, true-both, either-cases, either-left, either-right}
 
 -- a row of the list with the code
 abbrev RowOf : List ListedEvent → ℕ → MaskRule → Type 0
@@ -72,7 +72,7 @@ distinctCodes (e ∷ es) = both (not (codeIn es (e .code))) (distinctCodes es)
 again : (e : ListedEvent) (es : List ListedEvent) → distinctCodes (e ∷ es) ≡ true → (c : ℕ) (masks : MaskRule) → c ≡ e .code → RowOf es c masks → ⊥
 unfolding distinctCodes
 again e es distinct c masks same r =
-    true≢false (sym (row-code es c masks r) ∙ ap (codeIn es) same ∙ not-true _ (both-parts _ _ distinct .0))
+    both-ways (row-code es c masks r) (ap (codeIn es) same ∙ not-true _ (both-parts _ _ distinct .0))
 
 one-row : (es : List ListedEvent) → distinctCodes es ≡ true → (c : ℕ) (masks others : MaskRule) → RowOf es c masks → RowOf es c others → masks ≡ others
 unfolding distinctCodes

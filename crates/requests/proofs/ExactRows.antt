@@ -1,7 +1,7 @@
 -- The checks 7 to 11 hold exactly where a phrase of their row applies. Assumes nothing.
 use mathlib.Core.Path.{_≡_, refl, ap, sym, subst, _∙_}
 use mathlib.Core.Logic.{⊎-elim}
-use mathlib.Core.Bool.{true, false, not, true≢false, false≢true}
+use mathlib.Core.Bool.{true, false, not, false≢true}
 use mathlib.Core.List.{[], _∷_, List·Memᴰ·head}
 use mathlib.Mathlib.Data.Bool.Basic.{eq-false-of-not-eq-true}
 use Prim.Native.Nat.{ℕ}
@@ -18,7 +18,7 @@ use Rattle.requests.specs.declared.Device.{Device}
 use Rattle.requests.specs.declared.Device.the-variants.{G, S}
 use Rattle.requests.specs.declared.Request.{Request}
 use Rattle.requests.specs.declared.Request.the-variants.{Event, Packet, Offcore, Latency}
-use Rattle.requests.proofs.Tests.{both-parts, true-both, either-cases, either-left, either-right, either-false}
+use Rattle.requests.proofs.Tests.{both-ways, both-parts, true-both, either-cases, either-left, either-right, either-false}
 use Rattle.requests.proofs.BitMembers.{any-has, any-of-has, none-has, none-of-has, none-has-more, none-apart, none-joined, permitted-reserved, types-reserved, reserved-only}
 use Rattle.requests.proofs.CatalogueRows.{code-row, row-code, pair-row, row-pair, one-row-on-S, above-out, zero-out, other-out}
 
@@ -44,8 +44,8 @@ kind-holds d r latency-on-S = refl
 
 listed-applies : (d : Device) (r : Request) → notListed d r ≡ true → NotListed d r
 unfolding notListed
-listed-applies G (Event c m a) h = pair (λ p. true≢false (sym (row-pair (eventsOf G) c m (p .0) (p .1) (p .2)) ∙ not-true _ h))
-listed-applies S (Event c m a) h = code (λ p. true≢false (sym (row-code (eventsOf S) c (p .0) (p .1)) ∙ not-true _ h))
+listed-applies G (Event c m a) h = pair (λ p. both-ways (row-pair (eventsOf G) c m (p .0) (p .1) (p .2)) (not-true _ h))
+listed-applies S (Event c m a) h = code (λ p. both-ways (row-code (eventsOf S) c (p .0) (p .1)) (not-true _ h))
 listed-applies d (Packet x y a) h = absurd (false≢true h)
 listed-applies d (Offcore w a) h = absurd (false≢true h)
 listed-applies d (Latency t a b) h = absurd (false≢true h)
@@ -58,12 +58,12 @@ listed-holds d r (code {c = c} none) = ap not (eq-false-of-not-eq-true (λ h. no
 -- ---- masks on S
 
 -- a code that is listed, but not with the mask
-pub mask-row : (c m : ℕ) → maskNotListed S c m ≡ true → (masks : MaskRule) × InCatalogue S c masks × (¬ Lists masks m)
+mask-row : (c m : ℕ) → maskNotListed S c m ≡ true → (masks : MaskRule) × InCatalogue S c masks × (¬ Lists masks m)
 unfolding maskNotListed
 mask-row c m h =
     let p = both-parts (codeIn (eventsOf S) c) _ h in
     let row = code-row (eventsOf S) c (p .0) in
-    (row .0, row .1, λ l. true≢false (sym (row-pair (eventsOf S) c m (row .0) (row .1) l) ∙ not-true _ (p .1)))
+    (row .0, row .1, λ l. both-ways (row-pair (eventsOf S) c m (row .0) (row .1) l) (not-true _ (p .1)))
 
 row-mask : (c m : ℕ) (masks : MaskRule) → InCatalogue S c masks → ¬ Lists masks m → maskNotListed S c m ≡ true
 unfolding maskNotListed

@@ -1,13 +1,14 @@
 -- A request is well-formed exactly when none of the rows 7, 8, 10, 9, 11 applies to it. Assumes nothing.
-use mathlib.Core.Path.{_≡_, sym, _∙_}
+use mathlib.Core.Path.{_≡_, _∙_}
 use mathlib.Core.Logic.{_↔_}
-use mathlib.Core.Bool.{Bool, true, false, true≢false}
+use mathlib.Core.Bool.{Bool, true, false}
 use mathlib.Mathlib.Data.Bool.Basic.{eq-false-of-not-eq-true}
 use Rattle.requests.specs.Checks.{requestRows, requestRefusal, Formed}
 use Rattle.requests.specs.RefusedRequests.{KindNotOn, NotListed, OutOfRange, Incomplete, Conflicting}
 use Rattle.requests.specs.declared.Device.{Device}
 use Rattle.requests.specs.declared.Setup.{Setup}
 use Rattle.requests.specs.declared.Request.{Request}
+use Rattle.requests.proofs.Tests.{both-ways}
 use Rattle.requests.proofs.ExactRows.{refused-requests}
 use Rattle.requests.proofs.FirstHolding.{skips, passed, ends}
 
@@ -21,7 +22,7 @@ pub record Passes (d : Device) (r : Request) : Type 0 where
 
 -- a test that is exact fails exactly where its row does not apply
 fails : {b : Bool} {P : Type 0} → (b ≡ true) ↔ P → b ≡ false → ¬ P
-fails exact e h = true≢false (sym (exact .1 h) ∙ e)
+fails exact e h = both-ways (exact .1 h) e
 
 not-holds : {b : Bool} {P : Type 0} → (b ≡ true) ↔ P → ¬ P → b ≡ false
 not-holds exact n = eq-false-of-not-eq-true (λ e. n (exact .0 e))

@@ -8,6 +8,10 @@ use native.Mathlib.Decide.{decLt}
 use native.Mathlib.Omega.{arith}
 use Rattle.requests.specs.Choice.{both, either, every}
 
+-- no test holds and fails
+pub both-ways : {b : Bool} → b ≡ true → b ≡ false → ⊥
+both-ways h e = true≢false (sym h ∙ e)
+
 pub either-false : (b : Bool) → either b false ≡ b
 unfolding either
 either-false true = refl

@@ -1,7 +1,7 @@
 -- The refusals 7 to 11 refuse exactly the requests that the paragraphs do not describe, by the rows that apply to them. Assumes nothing.
 use mathlib.Core.Path.{_≡_, refl, sym, subst, _∙_}
 use mathlib.Core.Logic.{inl, inr}
-use mathlib.Core.Bool.{Bool, true, false, true≢false}
+use mathlib.Core.Bool.{Bool, true, false}
 use mathlib.Core.List.{List·Memᴰ·head, List·Memᴰ·tail}
 use mathlib.Mathlib.Data.Bool.Basic.{eq-false-of-not-eq-true, eq-true-of-not-eq-false}
 use Prim.Native.Nat.{ℕ, _≤_}
@@ -21,18 +21,11 @@ use Rattle.requests.specs.declared.Device.the-variants.{G, S}
 use Rattle.requests.specs.declared.Setup.{Setup}
 use Rattle.requests.specs.declared.Request.{Request}
 use Rattle.requests.specs.declared.Request.the-variants.{Event, Packet, Offcore, Latency}
+use Rattle.requests.proofs.Tests.{both-ways}
 use Rattle.requests.proofs.BitLists.{only-without, reserved}
 use Rattle.requests.proofs.BitMembers.{any-has, any-of-has, none-has, none-of-has, none-has-more, permitted-reserved, types-reserved, reserved-only}
 use Rattle.requests.proofs.CatalogueRows.{pair-row, row-pair, one-row-on-S, above-out, zero-out, other-out}
 use Rattle.requests.proofs.Passes.{Passes, passes, formed-by}
-
--- a test that cannot fail holds
-holds : {b : Bool} → ¬ (b ≡ false) → b ≡ true
-holds n = eq-true-of-not-eq-false n
-
--- a test that holds and fails
-both-ways : {b : Bool} → b ≡ true → b ≡ false → ⊥
-both-ways h e = true≢false (sym h ∙ e)
 
 -- an allowed set of a request that passes is one of the device's counters
 counters : (d : Device) (r : Request) (a : CounterSet) → Passes d r → AllowedSet r a → a .0 ≤ allCounters d
@@ -41,9 +34,9 @@ counters d r a p of = omega (arith, lt-of-not-le (λ l. p .in-range (wide-set of
 -- **event**
 
 pair-listed : (d : Device) (c m : ℕ) (a : CounterSet) → Passes d (Event c m a) → pairIn (eventsOf d) c m ≡ true
-pair-listed G c m a p = holds (λ e. p .listed (pair (λ l. both-ways (row-pair (eventsOf G) c m (l .0) (l .1) (l .2)) e)))
+pair-listed G c m a p = eq-true-of-not-eq-false (λ e. p .listed (pair (λ l. both-ways (row-pair (eventsOf G) c m (l .0) (l .1) (l .2)) e)))
 pair-listed S c m a p =
-    holds (λ e. p .listed (code (λ row. unlisted (row .0) (row .1) (λ l. both-ways (row-pair (eventsOf S) c m (row .0) (row .1) l) e) (ℕ-discrete m 0))))
+    eq-true-of-not-eq-false (λ e. p .listed (code (λ row. unlisted (row .0) (row .1) (λ l. both-ways (row-pair (eventsOf S) c m (row .0) (row .1) l) e) (ℕ-discrete m 0))))
   where
     unlisted : (masks : MaskRule) → InCatalogue S c masks → ¬ Lists masks m → Dec (m ≡ 0) → ⊥
     unlisted masks row out (yes zero) = (rw zero at p) .complete (mask-0 (zero-out c masks row (rw zero at out)))
@@ -116,8 +109,8 @@ no-outstanding w only = reserved rsp1Bits outstanding w (lit< tt) refl only
 
 offcore-described : (s : Setup) (w : ℕ) (a : CounterSet) → Passes (s .device) (Offcore w a) → Described s (Offcore w a)
 offcore-described s w a p =
-    offcore (offcore-on-g _ w a (p .kind)) (sym (rsp1-bits w off) ∙ holds (λ e. p .in-range (word-bit (permitted-reserved w e))))
-    (holds (λ e. p .complete (no-type offcore-word (none-has typeBits w e))))
+    offcore (offcore-on-g _ w a (p .kind)) (sym (rsp1-bits w off) ∙ eq-true-of-not-eq-false (λ e. p .in-range (word-bit (permitted-reserved w e))))
+    (eq-true-of-not-eq-false (λ e. p .complete (no-type offcore-word (none-has typeBits w e))))
     (one (bit anyResponse w) refl (anyBit answerBits w) refl)
     (counters _ _ a p of-offcore)
   where
@@ -186,8 +179,8 @@ described s (Event c m a) p = event (pair-listed _ c m a p) (counters _ _ a p of
 described s (Packet x y a) p = packet (only-s _ x y a (p .kind)) (counters _ _ a p of-packet)
 described s (Offcore w a) p = offcore-described s w a p
 described s (Latency t a b) p =
-    latency (latency-on-g _ t a b (p .kind)) (holds (λ e. p .in-range (type-bit (types-reserved t e))))
-    (holds (λ e. p .complete (no-type latency-types (none-has typeBits t e))))
+    latency (latency-on-g _ t a b (p .kind)) (eq-true-of-not-eq-false (λ e. p .in-range (type-bit (types-reserved t e))))
+    (eq-true-of-not-eq-false (λ e. p .complete (no-type latency-types (none-has typeBits t e))))
     (counters _ _ a p first-of-latency)
     (counters _ _ b p second-of-latency)
 
