@@ -57,8 +57,8 @@ pub fn open(session: Session, opening: Opening) -> Answered
         };
     }
     match setup_of(opening) {
-        Opened::Nothing => Answered {
-            answer: Answer::Refused(Refusal::BadOpening),
+        Opened::Refused(refusal) => Answered {
+            answer: Answer::Refused(refusal),
             session: session,
         },
         Opened::With(setup) => Answered {

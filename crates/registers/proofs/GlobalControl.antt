@@ -4,6 +4,7 @@ use Prim.Native.Nat.{ℕ, _+_, _-_, _%_, _^_, _≤_, _<_}
 use native.Mathlib.Nat.{mod-lt}
 use native.Mathlib.Omega.{arith}
 use lib.Pow.{pow-pos}
+use Rattle.requests.specs.declared.CounterSet.{CounterSet}
 use Rattle.requests.specs.declared.Device.{Device}
 use Rattle.requests.specs.declared.Device.the-variants.{G, S}
 use Rattle.requests.specs.declared.Setup.{Setup}
@@ -23,6 +24,10 @@ pub all-small : (d : Device) → allCounters d ≤ 255
 unfolding allCounters counterCount
 all-small G = omega arith
 all-small S = omega arith
+
+-- the number of the set of all counters
+pub all-number : (d : Device) (all : CounterSet) → all ≡ record { 0 = allCounters d } → all .0 ≡ allCounters d
+all-number d all e = ap (λ (x : CounterSet). x .0) e
 
 pub unusable-small : (s : Setup) → unusable s ≤ 255
 unfolding unusable

@@ -12,7 +12,8 @@ pub fn unusable_counters(setup: Setup) -> u64
     ensures { λ r. ⌜ r ≡ unusable setup ⌝ }
 {
     let device = setup.device;
-    let all = all_counters(device);
+    let counters = all_counters(device);
+    let all = counters.0;
     let ours = setup.usable.0 % (all + 1);
     all - ours
 }
@@ -22,6 +23,7 @@ pub fn counting_value(setup: Setup, used: CounterSet) -> u64
     ensures { λ r. ⌜ r ≡ unusable setup + used .0 % 2 ^ counterCount (setup .device) ⌝ }
 {
     let device = setup.device;
-    let all = all_counters(device);
+    let counters = all_counters(device);
+    let all = counters.0;
     unusable_counters(setup) + used.0 % (all + 1)
 }

@@ -126,6 +126,6 @@ pub fn read(opening: Opening, values: RegisterValues) -> Reading
             }
             refused_reading(Refusal::NotLeftByPlan)
         }
-        Opened::Nothing => refused_reading(Refusal::BadOpening),
+        Opened::Refused(refusal) => refused_reading(refusal),
     }
 }

@@ -14,7 +14,9 @@ use Rattle.requests.specs.declared.Device.the-variants.{G, S}
 use Rattle.requests.specs.declared.Opening.{Opening}
 use Rattle.requests.specs.declared.Setup.{Setup}
 use Rattle.requests.specs.declared.Opened.{Opened}
-use Rattle.requests.specs.declared.Opened.the-variants.{With, Nothing}
+use Rattle.requests.specs.declared.Opened.the-variants.{With, Refused}
+use Rattle.requests.specs.declared.Refusal.{Refusal}
+use Rattle.requests.specs.declared.Refusal.the-variants.{BadOpening}
 
 -- a set of the device's counters fits 64 bits
 pub counters-fit : (d : Device) → counterCount d < 64
@@ -37,7 +39,7 @@ no-letter n f g = rw (ne-eqb n (letterOf G) f, ne-eqb n (letterOf S) g, deviceOf
 
 -- what a device with a usable set opens
 abbrev pub openedOn : Device → CounterSet → Opened
-openedOn d u = pick (usableSet d u) (With (record { device = d; usable = u })) Nothing
+openedOn d u = pick (usableSet d u) (With (record { device = d; usable = u })) (Refused BadOpening)
 
 -- the setup of a device with a usable set
 abbrev pub setupOn : Device → CounterSet → Bool → Option Setup
@@ -56,14 +58,14 @@ pub opened-on : (o : Opening) (d : Device) → deviceOf (o .device) ≡ some d �
 unfolding openedAs
 opened-on o d e = ap openedAs (setup-on o d e) ∙ go (usableSet d (o .usable))
   where
-    go : (b : Bool) → openedAs (setupOn d (o .usable) b) ≡ pick b (With (record { device = d; usable = o .usable })) Nothing
+    go : (b : Bool) → openedAs (setupOn d (o .usable) b) ≡ pick b (With (record { device = d; usable = o .usable })) (Refused BadOpening)
     go true = refl
     go false = refl
 
 -- what an opening with another letter opens
-pub opened-nothing : (o : Opening) → deviceOf (o .device) ≡ none → openedAs (setupOf o) ≡ Nothing
+pub opened-refused : (o : Opening) → deviceOf (o .device) ≡ none → openedAs (setupOf o) ≡ Refused BadOpening
 unfolding setupOf openedAs
-opened-nothing o e =
+opened-refused o e =
     let refused : setupOf o ≡ none = rw (e, setupOf) in
     ap openedAs refused
 
@@ -73,10 +75,11 @@ unfolding openedAs
 opened-some none s e = let z : _≡_ {A = ℕ} 0 1 = cc in absurd (omega arith)
 opened-some (some t) s e = cc
 
-pub opened-none : (x : Option Setup) → openedAs x ≡ Nothing → x ≡ none
+-- where there is none, the refusal is 3
+pub opened-none : (x : Option Setup) (y : Refusal) → openedAs x ≡ Refused y → (x ≡ none) × (BadOpening ≡ y)
 unfolding openedAs
-opened-none none e = refl
-opened-none (some t) e = let z : _≡_ {A = ℕ} 0 1 = cc in absurd (omega arith)
+opened-none none y e = (refl, cc)
+opened-none (some t) y e = let z : _≡_ {A = ℕ} 0 1 = cc in absurd (omega arith)
 
 -- the letter that names a device is its own
 pub letter-is : (letter : ℕ) (d : Device) → deviceOf letter ≡ some d → letterOf d ≡ letter

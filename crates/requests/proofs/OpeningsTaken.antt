@@ -4,8 +4,9 @@ use mathlib.Core.Bool.{Bool, true, false}
 use mathlib.Core.Option.{Option, none, some, Option·none-ne-some, Option·some-injective}
 use Prim.Native.Nat.{_≤_}
 use borrow.Author.Tests.{lt-ltb, le-leb, ltb-true, leb-true}
-use Rattle.requests.specs.Devices.{counterCount, allCounters, letterOf, deviceOf, usableSet, setupOf, openingOf}
-use Rattle.requests.specs.Openings.{Opens, Openings}
+use Rattle.requests.specs.Refusals.{numberOf, answerNumber}
+use Rattle.requests.specs.Devices.{counterCount, allCounters, letterOf, deviceOf, usableSet, setupOf, openingOf, openedAs, openedAnswer}
+use Rattle.requests.specs.Openings.{Opens, openingNumber, Openings}
 use Rattle.requests.specs.declared.CounterSet.{CounterSet}
 use Rattle.requests.specs.declared.Device.{Device}
 use Rattle.requests.specs.declared.Device.the-variants.{G, S}
@@ -65,10 +66,18 @@ refused o none-opens = go (setupOf o) refl
     go none h = h
     go (some s) h = absurd (none-opens s (only o s h))
 
+accepted : (o : Opening) (s : Setup) → Opens o s → openingNumber o ≡ none
+unfolding openedAs openedAnswer answerNumber
+accepted o s h = rw (taken o s h)
+
+three : (o : Opening) → ((s : Setup) → ¬ Opens o s) → openingNumber o ≡ some 3
+unfolding openedAs openedAnswer answerNumber numberOf
+three o none-opens = rw (refused o none-opens)
+
 fifteen : (d : Device) → allCounters d ≡ 15
 unfolding allCounters counterCount
 fifteen G = refl
 fifteen S = refl
 
 pub openings : Openings
-openings = record { taken = taken; only = only; refused = refused; fifteen = fifteen }
+openings = record { taken = taken; only = only; refused = refused; accepted = accepted; three = three; fifteen = fifteen }

@@ -11,7 +11,10 @@ use Rattle.requests.specs.declared.Device.the-variants.{G, S}
 use Rattle.requests.specs.declared.Opening.{Opening}
 use Rattle.requests.specs.declared.Setup.{Setup}
 use Rattle.requests.specs.declared.Opened.{Opened}
-use Rattle.requests.specs.declared.Opened.the-variants.{With, Nothing}
+use Rattle.requests.specs.declared.Opened.the-variants.{With}
+use Rattle.requests.specs.declared.Refusal.the-variants.{BadOpening}
+use Rattle.requests.specs.declared.Answer.{Answer}
+use Rattle.requests.specs.declared.Answer.the-variants.{Accepted, Refused}
 
 -- "Sets are numbers: counter k is 2^k": whether counter k is in the set
 unfoldable pub has : CounterSet → ℕ → Bool
@@ -60,7 +63,12 @@ setupOf o =
 unfoldable pub openingOf : Setup → Opening
 openingOf s = record { device = letterOf (s .device); usable = s .usable }
 
--- what an opening opens, as it is answered
+-- what an opening opens, or 3
 unfoldable pub openedAs : Option Setup → Opened
-openedAs none = Nothing
+openedAs none = Opened.Refused BadOpening
 openedAs (some s) = With s
+
+-- how it is answered: `answerNumber` gives the number of each case
+unfoldable pub openedAnswer : Opened → Answer
+openedAnswer (With s) = Accepted
+openedAnswer (Opened.Refused x) = Refused x

@@ -1,8 +1,9 @@
 -- "open: device, usable set 1..15", and 3 everywhere else: "device unknown, or usable set 0 or above 15".
 use mathlib.Core.Path.{_≡_}
-use mathlib.Core.Option.{none, some}
-use Prim.Native.Nat.{_≤_}
-use Rattle.requests.specs.Devices.{allCounters, letterOf, setupOf}
+use mathlib.Core.Option.{Option, none, some}
+use Prim.Native.Nat.{ℕ, _≤_}
+use Rattle.requests.specs.Refusals.{answerNumber}
+use Rattle.requests.specs.Devices.{allCounters, letterOf, setupOf, openedAs, openedAnswer}
 use Rattle.requests.specs.declared.Device.{Device}
 use Rattle.requests.specs.declared.Opening.{Opening}
 use Rattle.requests.specs.declared.Setup.{Setup}
@@ -14,9 +15,15 @@ pub record Opens (o : Opening) (s : Setup) : Type 0 where
   pub at-least : 1 ≤ o .usable .0
   pub at-most : o .usable .0 ≤ allCounters (s .device)
 
+-- the number of what `setup_of` answers: none where it opens a session
+abbrev pub openingNumber : Opening → Option ℕ
+openingNumber o = answerNumber (openedAnswer (openedAs (setupOf o)))
+
 pub record Openings : Type 0 where
   pub taken : (o : Opening) (s : Setup) → Opens o s → setupOf o ≡ some s
   pub only : (o : Opening) (s : Setup) → setupOf o ≡ some s → Opens o s
   pub refused : (o : Opening) → ((s : Setup) → ¬ Opens o s) → setupOf o ≡ none
+  pub accepted : (o : Opening) (s : Setup) → Opens o s → openingNumber o ≡ none
+  pub three : (o : Opening) → ((s : Setup) → ¬ Opens o s) → openingNumber o ≡ some 3
   -- "usable set 1..15"
   pub fifteen : (d : Device) → allCounters d ≡ 15

@@ -82,7 +82,8 @@ fn mask_not_listed(device: Device, code: u8, mask: u8) -> bool
 fn too_wide(device: Device, allowed: CounterSet) -> bool
     ensures { λ r. ⌜ r ≡ tooWide device allowed ⌝ }
 {
-    all_counters(device) < allowed.0
+    let all = all_counters(device);
+    all.0 < allowed.0
 }
 
 // A mask above the listed range, or an allowed set above all counters.

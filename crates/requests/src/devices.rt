@@ -3,6 +3,7 @@ use crate::CounterSet;
 use crate::Device;
 use crate::Opened;
 use crate::Opening;
+use crate::Refusal;
 use crate::Setup;
 ghost use mathlib.Core.Path.{_≡_};
 ghost use Rattle.requests.specs.Choice.{pick};
@@ -19,11 +20,11 @@ pub fn counter_count(d: Device) -> u64
 }
 
 // The set of all counters of the device.
-pub fn all_counters(d: Device) -> u64
-    ensures { λ r. ⌜ r ≡ allCounters d ⌝ }
+pub fn all_counters(d: Device) -> CounterSet
+    ensures { λ r. ⌜ r ≡ record { 0 = allCounters d } ⌝ }
 {
     let count = counter_count(d);
-    (1 << count) - 1
+    CounterSet((1 << count) - 1)
 }
 
 // The code of the device's letter.
@@ -38,18 +39,19 @@ pub fn letter_of(d: Device) -> u64
 
 // The setup of a device with a usable set, where that has a counter and none past the device's.
 fn opened_on(device: Device, usable: CounterSet) -> Opened
-    ensures { λ r. ⌜ r ≡ pick (usableSet device usable) (Opened.With (record { device = device; usable = usable })) Opened.Nothing ⌝ }
+    ensures { λ r. ⌜ r ≡ pick (usableSet device usable) (Opened.With (record { device = device; usable = usable })) (Opened.Refused Refusal.BadOpening) ⌝ }
 {
     let counters = usable.0;
     if 0 < counters {
-        if counters <= all_counters(device) {
+        let all = all_counters(device);
+        if counters <= all.0 {
             return Opened::With(Setup { device, usable });
         }
     }
-    Opened::Nothing
+    Opened::Refused(Refusal::BadOpening)
 }
 
-// What the opening opens: refusal 3 stands where it is nothing.
+// What the opening opens, or refusal 3.
 pub fn setup_of(o: Opening) -> Opened
     ensures { λ r. ⌜ r ≡ openedAs (setupOf o) ⌝ }
 {
@@ -61,5 +63,5 @@ pub fn setup_of(o: Opening) -> Opened
     if letter == letter_of(Device::S) {
         return opened_on(Device::S, usable);
     }
-    Opened::Nothing
+    Opened::Refused(Refusal::BadOpening)
 }

@@ -27,10 +27,10 @@ pub struct Setup {
     pub usable: CounterSet,
 }
 
-// What an opening opens: a session with a setup, or nothing.
+// What an opening opens: a session with a setup, or why none.
 pub enum Opened {
     With(Setup),
-    Nothing,
+    Refused(Refusal),
 }
 
 // The four kinds of request.

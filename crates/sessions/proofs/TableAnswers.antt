@@ -17,7 +17,8 @@ use Rattle.requests.specs.declared.Request.{Request}
 use Rattle.requests.specs.declared.Entry.{Entry}
 use Rattle.requests.specs.declared.Refusal.{Refusal}
 use Rattle.requests.specs.declared.Refusal.the-variants.{CallOrder, BadOpening, BadId, IdWaiting, IdNotWaiting, NoPlanAlone, QueueFull, SliceTooShort}
-use Rattle.requests.specs.declared.Opened.the-variants.{With, Nothing}
+use Rattle.requests.specs.declared.Opened.{Opened}
+use Rattle.requests.specs.declared.Opened.the-variants.{With}
 use Rattle.requests.specs.declared.Answer.{Answer}
 use Rattle.requests.specs.declared.Answer.the-variants.{Accepted, Refused}
 use Rattle.requests.specs.Choice.{Row, firstHolding}
@@ -204,9 +205,9 @@ module _ (s : Session) (o : Opening) where
   unfolding openOf answered answerFor refusedBy
   open-order h = rw (plain-opened s h, open-again queueLimit (s .setup) (queued s) o)
 
-  pub open-refused : s .opened ≡ false → openedAs (setupOf o) ≡ Nothing → record { answer = Refused BadOpening; session = s } ≡ openOf s o
+  pub open-refused : (x : Refusal) → s .opened ≡ false → openedAs (setupOf o) ≡ Opened.Refused x → record { answer = Refused x; session = s } ≡ openOf s o
   unfolding openOf answered answerFor refusedBy
-  open-refused h e = let n = opened-none (setupOf o) e in rw (plain-closed s h, open-bad queueLimit o n)
+  open-refused x h e = let n = opened-none (setupOf o) x e in rw (plain-closed s h, open-bad queueLimit o (n .0), n .1)
 
   pub open-with : (t : Setup) → s .opened ≡ false → openedAs (setupOf o) ≡ With t → record { answer = Accepted; session = sessionOf t [] } ≡ openOf s o
   unfolding openOf answered answerFor refusedBy

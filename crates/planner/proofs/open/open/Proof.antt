@@ -11,8 +11,8 @@ returns c = let a = c .before .args in open-order (a .session) (a .opening) (c .
 setup-of-requires : tie.Need-setup-of-requires
 setup-of-requires c κs = search needs
 
-enum-told : tie.Need-enum-told
-enum-told c = search needs
+enum-known-refusal : tie.Need-enum-known-refusal
+enum-known-refusal c = search needs
 
 enum-known-setup : tie.Need-enum-known-setup
 enum-known-setup c = search needs
@@ -22,9 +22,9 @@ opened-with-requires c κs = search needs
 
 returns-2 : tie.Need-returns-2
 returns-2 c =
-    let p = c .before .before in
+    let p = c .before .before .before in
     let a = p .before .before .args in
-    open-refused (a .session) (a .opening) (p .before .if1 .left) (sym (p .setup-of .ensures) ∙ c .enum-told .given .1)
+    open-refused (a .session) (a .opening) _ (p .before .if1 .left) (sym (p .setup-of .ensures) ∙ c .before .refusal .given .1)
 
 returns-3 : tie.Need-returns-3
 returns-3 c =
@@ -39,7 +39,7 @@ open-spec =
     (tie.spec
     returns
     setup-of-requires
-    enum-told
+    enum-known-refusal
     enum-known-setup
     opened-with-requires
     returns-2

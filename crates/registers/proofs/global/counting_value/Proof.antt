@@ -1,26 +1,26 @@
 -- `counting_value` adds the used counters' bits, by `counting-is`.
 use native.Mathlib.Omega.{arith}
 use borrow.Author.Needs.{needs}
-use Rattle.registers.proofs.GlobalControl.{all-small, rest-small, unusable-small, counting-is}
+use Rattle.registers.proofs.GlobalControl.{all-small, all-number, rest-small, unusable-small, counting-is}
 use Rattle.registers.proofs.global.counting_value.Statement.{statement}
 use Rattle.registers.proofs.global.counting_value.Tie as tie
 
 add-result : tie.Need-add-result
-add-result c = omega (arith, c .before .all-counters .ensures, all-small (c .before .before .args .setup .device))
+add-result c = omega (arith, all-number _ _ (c .before .all-counters .ensures), all-small (c .before .before .args .setup .device))
 
 add-result-2 : tie.Need-add-result-2
 add-result-2 c =
     omega (
       arith,
-      c .before .before .all-counters .ensures,
+      all-number _ _ (c .before .before .all-counters .ensures),
       all-small (c .before .before .before .args .setup .device),
       c .before .unusable-counters .ensures,
       unusable-small (c .before .before .before .args .setup),
-      rest-small (c .before .before .before .args .used .0) (c .before .before .all-counters .result),
+      rest-small (c .before .before .before .args .used .0) (c .before .before .all-counters .result .0),
     )
 
 returns : tie.Need-returns
-returns c = counting-is (c .before .before .before .args .setup) _ (c .before .before .all-counters .ensures) _ _ (c .before .unusable-counters .ensures)
+returns c = counting-is (c .before .before .before .args .setup) _ (all-number _ _ (c .before .before .all-counters .ensures)) _ _ (c .before .unusable-counters .ensures)
 
 pub counting-value-spec : {M : Type 1} → statement M
 counting-value-spec =

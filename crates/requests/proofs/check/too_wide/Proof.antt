@@ -7,7 +7,7 @@ use Rattle.requests.proofs.check.too_wide.Tie as tie
 
 returns : tie.Need-returns
 unfolding tooWide
-returns c = rw (c .before .all-counters .ensures)
+returns c = rw (c .before .before .all-counters .ensures)
 
 pub too-wide-spec : {M : Type 1} → statement M
 too-wide-spec =

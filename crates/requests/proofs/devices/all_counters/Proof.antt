@@ -8,6 +8,7 @@ use lib.Dec.{lit<}
 use lib.Pow.{pow-pos, shl-exact}
 use borrow.Author.Needs.{needs}
 use Rattle.requests.specs.Devices.{counterCount, allCounters}
+use Rattle.requests.specs.declared.CounterSet.{CounterSet}
 use Rattle.requests.proofs.Openings.{counters-fit}
 use Rattle.requests.proofs.devices.all_counters.Statement.{statement}
 use Rattle.requests.proofs.devices.all_counters.Tie as tie
@@ -18,15 +19,15 @@ shifted c =
     rw (c .counter-count .ensures)
     (shl-exact 1 (counterCount (c .before .args .d)) 64 (lit< tt) (omega (arith, counters-fit (c .before .args .d))) ∙ one-mul _)
 
-shl-result : tie.Need-shl-result
-shl-result c = rw (c .counter-count .ensures) (counters-fit (c .before .args .d))
+shl-t3 : tie.Need-shl-t3
+shl-t3 c = rw (c .counter-count .ensures) (counters-fit (c .before .args .d))
 
-sub-result : tie.Need-sub-result
-sub-result c = rw (shifted c) (pow-pos (counterCount (c .before .args .d)))
+sub-t4 : tie.Need-sub-t4
+sub-t4 c = rw (shifted c) (pow-pos (counterCount (c .before .args .d)))
 
 returns : tie.Need-returns
 unfolding allCounters
-returns c = ap (λ (x : ℕ). x - 1) (shifted c)
+returns c = ap {B = CounterSet} (λ (x : ℕ). record { 0 = x - 1 }) (shifted c)
 
 pub all-counters-spec : {M : Type 1} → statement M
-all-counters-spec = tie.close (tie.spec (λ c κs. search needs) shl-result sub-result returns)
+all-counters-spec = tie.close (tie.spec (λ c κs. search needs) shl-t3 sub-t4 returns)

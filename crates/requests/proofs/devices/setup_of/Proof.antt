@@ -2,7 +2,7 @@
 -- Assumes nothing.
 use mathlib.Core.Path.{sym, _∙_}
 use borrow.Author.Needs.{needs}
-use Rattle.requests.proofs.Openings.{letter-g, letter-s, no-letter, opened-on, opened-nothing}
+use Rattle.requests.proofs.Openings.{letter-g, letter-s, no-letter, opened-on, opened-refused}
 use Rattle.requests.proofs.devices.setup_of.Statement.{statement}
 use Rattle.requests.proofs.devices.setup_of.Tie as tie
 use Rattle.requests.specs.declared.Device.the-variants.{G, S}
@@ -25,7 +25,7 @@ returns-2 c =
 returns-3 : tie.Need-returns-3
 returns-3 c =
     sym
-    (opened-nothing (c .before .before .before .before .before .args .o)
+    (opened-refused (c .before .before .before .before .before .args .o)
     (no-letter _ (λ e. c .before .before .if1 .left (e ∙ sym (c .before .before .before .letter-of .ensures)))
     (λ e. c .if2 .left (e ∙ sym (c .before .letter-of2 .ensures)))))
 
