@@ -8,13 +8,13 @@ use lib.Seq.{getD-append-add}
 use Rattle.requests.specs.declared.Refusal.the-variants.{NotInGrammar, CallOrder, BadOpening, BadId, IdWaiting, IdNotWaiting, KindNotOnDevice, NotListed, Incomplete, OutOfRange, Conflicting, NoPlanAlone, QueueFull, SliceTooShort, NotLeftByPlan}
 use Rattle.requests.specs.declared.Answer.{Answer}
 use Rattle.requests.specs.declared.Answer.the-variants.{Accepted, Refused}
-use Rattle.requests.specs.Refusals.{numberOf}
+use Rattle.requests.specs.Refusals.{numberOf, answerFor}
 use Rattle.requests.specs.Devices.{letterOf}
 use Rattle.sessions.specs.Sessions.{openOf, addOf, dropOf, turnOf, turnSlice, planOf}
 use Rattle.sessions.specs.declared.Session.{Session}
 use Rattle.sessions.specs.declared.TurnAnswered.{TurnAnswered}
 use Rattle.records.specs.Text.{bytes, tab, newline, decimalDigits, decimalText, lineOf}
-use Rattle.records.specs.Parse.{parseLine}
+use Rattle.records.specs.Parse.{parseLine, parsedRefusal}
 use Rattle.records.specs.declared.Record.{Record}
 use Rattle.records.specs.declared.Record.the-variants.{Open, Add, Drop, Turn}
 use Rattle.records.specs.declared.Parsed.{Parsed}
@@ -72,7 +72,7 @@ record-text s (Drop id) e = drop-fits s id (ends-fourteen [] (dropOf s id .answe
 record-text s Turn e = turn-fits s (turn-text (turnOf s turnRoom) (turnSlice s (replicate turnRoom 0)) e)
 
 parsed-text : (s : Session) (p : Parsed) → ¬ (parsedReply s p .text ≡ fourteen)
-unfolding parsedReply
+unfolding parsedReply answerFor parsedRefusal
 parsed-text s (Line r) e = record-text s r e
 parsed-text s (Fault k) e = let same = ends-fourteen [] (Refused NotInGrammar) e in let z : _≡_ {A = ℕ} 0 1 = cc in omega arith
 

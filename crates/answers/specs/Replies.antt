@@ -3,10 +3,9 @@ use mathlib.Core.List.{List, [], _∷_, _++_, flatMap}
 use mathlib.Core.Option.{Option, none, some}
 use Prim.Native.Nat.{ℕ, _*_}
 use lib.ListN.{take, replicate}
-use Rattle.requests.specs.declared.Refusal.the-variants.{NotInGrammar}
 use Rattle.requests.specs.declared.Answer.{Answer}
 use Rattle.requests.specs.declared.Answer.the-variants.{Accepted, Refused}
-use Rattle.requests.specs.Refusals.{numberOf}
+use Rattle.requests.specs.Refusals.{numberOf, answerFor}
 use Rattle.requests.specs.Devices.{letterOf}
 use Rattle.plans.specs.Places.{Counted, countedOf}
 use Rattle.sessions.specs.declared.Session.{Session}
@@ -15,7 +14,7 @@ use Rattle.sessions.specs.declared.Assigned.{Assigned}
 use Rattle.sessions.specs.declared.TurnAnswered.{TurnAnswered}
 use Rattle.sessions.specs.Sessions.{openOf, addOf, dropOf, turnOf, turnSlice, planOf}
 use Rattle.records.specs.Text.{bytes, hexText, decimalText, lineOf}
-use Rattle.records.specs.Parse.{parseLine}
+use Rattle.records.specs.Parse.{parseLine, parsedRefusal}
 use Rattle.records.specs.declared.Record.{Record}
 use Rattle.records.specs.declared.Record.the-variants.{Open, Add, Drop, Turn}
 use Rattle.records.specs.declared.Parsed.{Parsed}
@@ -66,10 +65,10 @@ recordReply s (Add id r) = replyOf (addOf s id r)
 recordReply s (Drop id) = replyOf (dropOf s id)
 recordReply s Turn = turnReply (turnOf s turnRoom) (turnSlice s (replicate turnRoom 0))
 
--- 1: the line is not in the grammar
+-- the reply to what a line is: the record's, or the refusal of a line that is none
 unfoldable pub parsedReply : Session → Parsed → Reply
 parsedReply s (Line r) = recordReply s r
-parsedReply s (Fault k) = record { text = answerText (Refused NotInGrammar); session = s }
+parsedReply s (Fault k) = record { text = answerText (answerFor (parsedRefusal (Fault k))); session = s }
 
 -- the reply to a line
 unfoldable pub answerLine : Session → List ℕ → Reply

@@ -1,10 +1,12 @@
 -- A line is a record exactly when it is that record's text. Assumes nothing.
 use mathlib.Core.Path.{_≡_, refl, ap, sym, _∙_}
 use mathlib.Core.List.{List}
+use mathlib.Core.Option.{some}
 use Prim.Native.Nat.{ℕ}
+use Rattle.requests.specs.Refusals.{numberOf, answerFor, answerNumber}
 use Rattle.records.specs.Text.{lineOf}
 use Rattle.records.specs.Records.{recordText}
-use Rattle.records.specs.Parse.{isClosed, parseLine}
+use Rattle.records.specs.Parse.{isClosed, parseLine, parsedRefusal}
 use Rattle.records.specs.Grammar.{IsText, Grammar}
 use Rattle.records.specs.declared.Record.{Record}
 use Rattle.records.specs.declared.Parsed.{Parsed}
@@ -29,10 +31,22 @@ text-only line r e =
     let told : Told (textOf line) (isClosed line) r = record-tells (textOf line) (isClosed line) r given in
     (told .fits, closed-only line (told .newline-read) within ∙ sym (line-of-fields (textOf line)) ∙ ap lineOf (told .parts))
 
+-- everything else has a field at fault
+text-not : (line : List ℕ) → ((r : Record) → ¬ IsText line r) → (k : ℕ) × (parseLine line ≡ Fault k)
+text-not line no-text = go (parseLine line) refl
+  where
+    go : (p : Parsed) → parseLine line ≡ p → (k : ℕ) × (parseLine line ≡ Fault k)
+    go (Line r) e = absurd (no-text r (text-only line r e))
+    go (Fault k) e = (k, e)
+
 -- the statement
 pub grammar : Grammar
-grammar = record { parsed = text-parsed; only = text-only; other = λ line no-text. go line no-text (parseLine line) refl }
-  where
-    go : (line : List ℕ) → ((r : Record) → ¬ IsText line r) → (p : Parsed) → parseLine line ≡ p → (k : ℕ) × (parseLine line ≡ Fault k)
-    go line no-text (Line r) e = absurd (no-text r (text-only line r e))
-    go line no-text (Fault k) e = (k, e)
+unfolding numberOf answerFor answerNumber parsedRefusal
+grammar =
+    record {
+      parsed = text-parsed;
+      only = text-only;
+      other = text-not;
+      in-grammar = λ line r h. rw (text-parsed line r h);
+      outside = λ line h. rw (text-not line h .1);
+    }

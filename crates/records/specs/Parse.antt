@@ -1,9 +1,12 @@
 -- Document 01, 'Lines': what a line of bytes is.
 use mathlib.Core.Bool.{Bool, true, false}
 use mathlib.Core.List.{List}
+use mathlib.Core.Option.{Option, none, some}
 use Prim.Native.Nat.{ℕ, _-_}
 use lib.ListN.{length, getD, take}
 use lib.Dec.{ltb, eqb}
+use Rattle.requests.specs.declared.Refusal.{Refusal}
+use Rattle.requests.specs.declared.Refusal.the-variants.{NotInGrammar}
 use Rattle.requests.specs.Choice.{pick}
 use Rattle.records.specs.Text.{newline}
 use Rattle.records.specs.Fields.{fields}
@@ -35,3 +38,9 @@ textLength line = pick (isClosed line) (length line - 1) (length line)
 -- what a line is
 unfoldable pub parseLine : List ℕ → Parsed
 parseLine line = parseText (take longest (take (textLength line) line)) (isClosed line) (ltb longest (textLength line))
+
+-- by which row of the refusal table a line is refused for what it is: by none where it is a record; by "1: the line is not in the grammar"
+-- whichever field is at fault
+unfoldable pub parsedRefusal : Parsed → Option Refusal
+parsedRefusal (Line r) = none
+parsedRefusal (Fault k) = some NotInGrammar

@@ -22,13 +22,13 @@ pub enum Parsed {
     Fault(usize),
 }
 
-// What a field is that has to be a number.
+// What a field is that has to be a number. Inside the parser: it has no number of its own in the refusal table.
 pub enum Number {
     Value(u64),
     Bad,
 }
 
-// The numbers of a line, 0 for those that it does not have; or the first field at fault.
+// The numbers of a line, 0 for those that it does not have; or the first field at fault. Inside the parser too.
 enum LineNumbers {
     Read(u64, u64, u64, u64),
     Fault(usize),

@@ -2,6 +2,8 @@
 use borrow.Author.Needs.{needs}
 use native.Mathlib.Omega.{arith}
 use denote.Ref.{now}
+use Rattle.requests.specs.Refusals.{answerFor}
+use Rattle.records.specs.Parse.{parsedRefusal}
 use Rattle.answers.specs.Replies.{parsedReply}
 use Rattle.answers.specs.Written.{replyRoom}
 use Rattle.answers.proofs.Delivering.{delivered, reply-short, reply-delivered}
@@ -41,7 +43,7 @@ same-length-2 : tie.Need-same-length-2
 same-length-2 c = search needs
 
 returns-3 : tie.Need-returns-3
-unfolding replyRoom parsedReply
+unfolding replyRoom parsedReply answerFor parsedRefusal
 returns-3 c =
     let told = c .before .before .before .before in
     let a = told .before .before .before .before .args in
