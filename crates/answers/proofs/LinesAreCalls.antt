@@ -1,14 +1,21 @@
--- A record is one of the four calls, by the cases of the record.
+-- A record is one of the four calls, by the cases of the record, and its reply says what the call answers, by the laws on reading.
 use mathlib.Core.Path.{_≡_, refl}
-use mathlib.Core.List.{List, [], _++_, flatMap}
+use mathlib.Core.Logic.{_≢_}
+use mathlib.Core.List.{List, [], _∷_, _++_, flatMap}
+use mathlib.Core.Option.{some}
 use Prim.Native.Nat.{ℕ, _*_}
 use lib.ListN.{take, replicate}
+use Rattle.requests.specs.Devices.{letterOf}
+use Rattle.requests.specs.Refusals.{answerNumber}
 use Rattle.sessions.specs.declared.Session.{Session}
-use Rattle.sessions.specs.Sessions.{answerTo, nextSession, planOf, turnOf, turnSlice}
+use Rattle.sessions.specs.Sessions.{openOf, addOf, dropOf, turnOf, turnSlice, planOf, answerTo, nextSession}
 use Rattle.records.specs.declared.Record.{Record}
 use Rattle.records.specs.declared.Record.the-variants.{Open, Add, Drop, Turn}
 use Rattle.answers.specs.Replies.{answerText, takeLines, setLines, turnRoom, replyOf, turnReply, recordReply}
+use Rattle.answers.specs.Reader.{Answers, replySays}
 use Rattle.answers.specs.LinesAreCalls.{callOf, LinesAreCalls}
+use Rattle.answers.proofs.ReadLines.{whole-reads, answer-reads}
+use Rattle.answers.proofs.TurnsSaid.{turn-said}
 
 left : (s : Session) (r : Record) → recordReply s r .session ≡ nextSession s (callOf r)
 unfolding recordReply replyOf turnReply nextSession callOf
@@ -28,5 +35,12 @@ answers-last s (Add id r) = ([], refl)
 answers-last s (Drop id) = ([], refl)
 answers-last s Turn = (told s, refl)
 
+answered-alone : (s : Session) (r : Record) → r ≢ Turn → replySays (recordReply s r .text) ≡ some (Answers (answerNumber (answerTo s (callOf r))) ∷ [])
+unfolding recordReply replyOf answerTo callOf
+answered-alone s (Open d u) h = whole-reads (answer-reads (openOf s (record { device = letterOf d; usable = u }) .answer))
+answered-alone s (Add id r) h = whole-reads (answer-reads (addOf s id r .answer))
+answered-alone s (Drop id) h = whole-reads (answer-reads (dropOf s id .answer))
+answered-alone s Turn h = absurd (h refl)
+
 pub lines-are-calls : LinesAreCalls
-lines-are-calls = record { session = left; answer = answers-last }
+lines-are-calls = record { session = left; answer = answers-last; alone = answered-alone; turn = turn-said }

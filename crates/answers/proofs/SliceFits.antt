@@ -1,23 +1,32 @@
 -- No call that a line makes is refused by row 14: it applies to no turn with room for 18 writes, by the limit of the writes, and to no other call.
 use mathlib.Core.Path.{_≡_, sym, _∙_}
-use Prim.Native.Nat.{ℕ, _≤_}
+use mathlib.Core.List.{List}
+use mathlib.Core.Option.{none}
+use Prim.Native.Nat.{ℕ, _*_, _≤_}
 use native.Mathlib.Omega.{arith}
+use lib.ListN.{length}
+use borrow.Author.Tests.{le-ltb}
 use Rattle.requests.specs.declared.Device.{Device}
 use Rattle.requests.specs.declared.Device.the-variants.{G, S}
 use Rattle.requests.specs.declared.Opening.{Opening}
+use Rattle.requests.specs.declared.Setup.{Setup}
 use Rattle.requests.specs.declared.Request.{Request}
+use Rattle.requests.specs.declared.Entry.{Entry}
 use Rattle.requests.specs.declared.Refusal.the-variants.{SliceTooShort}
 use Rattle.requests.specs.declared.Answer.the-variants.{Refused}
 use Rattle.requests.specs.Refusals.{numberOf}
 use Rattle.layouts.specs.WriteCount.{writeLimit}
 use Rattle.layouts.proofs.WriteCount.{write-count}
 use Rattle.sessions.specs.Calls.{Call, Open, Add, Drop, Turn, Plain, notOpen, opened}
+use Rattle.sessions.specs.Turns.{taken, writesOf}
+use Rattle.sessions.specs.Table.{refusal}
 use Rattle.sessions.specs.RefusalTable.{Applies, short}
 use Rattle.sessions.specs.Sessions.{queueLimit, plainOf, refusedBy, openOf, addOf, dropOf, turnOf, answerTo}
 use Rattle.sessions.specs.declared.Session.{Session}
 use Rattle.sessions.proofs.Agreed.{answer-is}
 use Rattle.sessions.proofs.Rows.{refusal-table}
-use Rattle.sessions.proofs.TableAnswers.{answer-some}
+use Rattle.sessions.proofs.TableAnswers.{turn-accepted, answer-some}
+use Rattle.sessions.proofs.TakenPlan.{taken-first}
 use Rattle.answers.specs.Replies.{turnRoom}
 
 limit-small : (d : Device) → writeLimit d ≤ 18
@@ -46,6 +55,13 @@ unfolding refusedBy numberOf
 not-answered s c h e =
     let row = answer-some (refusedBy s c) SliceTooShort (sym (answer-is s c) ∙ e) in
     h (refusal-table .refused queueLimit (plainOf s) c SliceTooShort row .0)
+
+-- so a turn of an open session is accepted
+pub turn-goes : (t : Setup) (q : List Entry) → refusal queueLimit (opened t q) (Turn turnRoom) ≡ none
+unfolding turnRoom writesOf
+turn-goes t q =
+    turn-accepted queueLimit t q turnRoom
+    (le-ltb turnRoom (2 * length (writesOf t (taken t q))) (omega (arith, write-count .at-most t _ _ (taken-first t q .legal), limit-small (t .device))))
 
 module _ (s : Session) where
   pub open-fits : (o : Opening) → ¬ (openOf s o .answer ≡ Refused SliceTooShort)

@@ -1,4 +1,5 @@
 pub mod Replies
+pub mod Reader
 pub mod Written
 pub mod Texts
 pub mod Examples

@@ -1,4 +1,5 @@
--- Fields without tabs, written as a line, are the fields of its text; and a text is its fields written as a line. Assumes nothing.
+-- Fields without tabs and newlines, written as a line, are the fields of its text, which is one line; and a text is its fields written as a line.
+-- Assumes nothing.
 use mathlib.Core.Path.{_≡_, refl, ap, sym, _∙_}
 use mathlib.Core.Bool.{Bool, true, false, true≢false}
 use mathlib.Core.List.{List, [], _∷_, _++_, append-assoc}
@@ -7,63 +8,75 @@ use native.Mathlib.Omega.{arith}
 use lib.Dec.{ltb, eqb}
 use lib.ListN.{length, length-append}
 use borrow.Author.Tests.{ltb-true, eqb-true, ne-eqb}
-use Rattle.requests.specs.Choice.{pick}
+use Rattle.requests.specs.Choice.{pick, both}
+use Rattle.requests.proofs.Tests.{both-parts, true-both}
 use Rattle.records.specs.Text.{tab, newline, lineOf}
 use Rattle.records.specs.Fields.{onto, fields}
 use Rattle.records.specs.Numbers.{digitOf, numberFrom}
 use Rattle.records.specs.declared.Number.the-variants.{Value}
 use Rattle.records.proofs.Outcomes.{read-where}
 
--- whether a run of bytes has no tab
-unfoldable pub tabFree : List ℕ → Bool
-tabFree [] = true
-tabFree (b ∷ f) = pick (eqb b tab) false (tabFree f)
+-- whether a run of bytes lacks the byte x
+unfoldable pub lacks : ℕ → List ℕ → Bool
+lacks x [] = true
+lacks x (b ∷ f) = pick (eqb b x) false (lacks x f)
 
--- a tab is no digit
-tab-digit : digitOf tab ≡ 16
-unfolding digitOf tab
-tab-digit = refl
+module _ (x : ℕ) where
+  -- a numeral lacks what is no digit
+  pub numeral-lacks : digitOf x ≡ 16 → (base n : ℕ) (f : List ℕ) (m : ℕ) → base ≤ 16 → numberFrom base n f ≡ Value m → lacks x f ≡ true
+  unfolding numberFrom lacks
+  numeral-lacks none base n [] m most e = refl
+  numeral-lacks none base n (b ∷ f) m most e =
+      let (digit, value) = read-where (ltb (digitOf b) base) (numberFrom base (n * base + digitOf b) f) m e in
+      rw (ne-eqb b x (other (ltb-true (digitOf b) base digit))) (numeral-lacks none base (n * base + digitOf b) f m most value)
+    where
+      other : digitOf b < base → ¬ (b ≡ x)
+      other h is = let below : digitOf x < base = rw is at h in omega arith
 
--- a numeral has no tab
-pub numeral-free : (base n : ℕ) (f : List ℕ) (m : ℕ) → base ≤ 16 → numberFrom base n f ≡ Value m → tabFree f ≡ true
-unfolding numberFrom tabFree
-numeral-free base n [] m most e = refl
-numeral-free base n (b ∷ f) m most e =
-    let (digit, value) = read-where (ltb (digitOf b) base) (numberFrom base (n * base + digitOf b) f) m e in
-    rw (ne-eqb b tab (other (ltb-true (digitOf b) base digit))) (numeral-free base (n * base + digitOf b) f m most value)
-  where
-    other : digitOf b < base → ¬ (b ≡ tab)
-    other h is = let below : digitOf tab < base = rw is at h in omega (arith, tab-digit)
+  -- a first byte and others, none of them x
+  pub record Lacking (b : ℕ) (f : List ℕ) : Type 0 where
+    pub first : eqb b x ≡ false
+    pub others : lacks x f ≡ true
 
--- a first byte and others, none a tab
-record Free (b : ℕ) (f : List ℕ) : Type 0 where
-  first : eqb b tab ≡ false
-  others : tabFree f ≡ true
+  -- a run that lacks it lacks it at every place
+  pub lacks-parts : (b : ℕ) (f : List ℕ) → lacks x (b ∷ f) ≡ true → Lacking b f
+  unfolding lacks
+  lacks-parts b f e = go (eqb b x) refl e
+    where
+      go : (t : Bool) → eqb b x ≡ t → pick t false (lacks x f) ≡ true → Lacking b f
+      go true p q = absurd (true≢false (sym q))
+      go false p q = record { first = p; others = q }
 
--- a field with no tab has none at any place
-free-parts : (b : ℕ) (f : List ℕ) → tabFree (b ∷ f) ≡ true → Free b f
-unfolding tabFree
-free-parts b f e = go (eqb b tab) refl e
-  where
-    go : (t : Bool) → eqb b tab ≡ t → pick t false (tabFree f) ≡ true → Free b f
-    go true p q = absurd (true≢false (sym q))
-    go false p q = record { first = p; others = q }
+  -- two runs that lack it
+  lacks-append : (f g : List ℕ) → lacks x f ≡ true → lacks x g ≡ true → lacks x (f ++ g) ≡ true
+  unfolding lacks
+  lacks-append [] g h k = k
+  lacks-append (b ∷ f) g h k = let s : Lacking b f = lacks-parts b f h in rw (s .first) (lacks-append f g (s .others) k)
 
--- it is one field alone
-pub one-field : (f : List ℕ) → tabFree f ≡ true → fields f ≡ f ∷ []
+-- a field without a tab is one field alone
+pub one-field : (f : List ℕ) → lacks tab f ≡ true → fields f ≡ f ∷ []
 unfolding fields
 one-field [] h = refl
-one-field (b ∷ f) h = let s : Free b f = free-parts b f h in rw (s .first, one-field f (s .others))
+one-field (b ∷ f) h = let s : Lacking tab b f = lacks-parts tab b f h in rw (s .first, one-field f (s .others))
 
 -- and the first one before a tab
-pub first-field : (f t : List ℕ) → tabFree f ≡ true → fields (f ++ tab ∷ t) ≡ f ∷ fields t
+pub first-field : (f t : List ℕ) → lacks tab f ≡ true → fields (f ++ tab ∷ t) ≡ f ∷ fields t
 unfolding fields tab
 first-field [] t h = refl
-first-field (b ∷ f) t h = let s : Free b f = free-parts b f h in rw (s .first, first-field f t (s .others))
+first-field (b ∷ f) t h = let s : Lacking tab b f = lacks-parts tab b f h in rw (s .first, first-field f t (s .others))
 
--- a field that a record may hold after its verb
+-- whether a run of bytes may be a field of a line
+unfoldable pub oneField : List ℕ → Bool
+oneField f = both (lacks tab f) (lacks newline f)
+
+-- a numeral may
+pub numeral-field : (base n : ℕ) (f : List ℕ) (m : ℕ) → base ≤ 16 → numberFrom base n f ≡ Value m → oneField f ≡ true
+unfolding oneField digitOf tab newline
+numeral-field base n f m most e = true-both _ _ (numeral-lacks tab refl base n f m most e) (numeral-lacks newline refl base n f m most e)
+
+-- a field that a line may hold after its verb
 pub record Plain (f : List ℕ) : Type 0 where
-  pub free : tabFree f ≡ true
+  pub field : oneField f ≡ true
   pub short : length f ≤ 16
 
 -- fields that are all so
@@ -76,18 +89,23 @@ pub record Written (f : List ℕ) (fs : List (List ℕ)) : Type 0 where
   pub text : List ℕ
   pub line : lineOf (f ∷ fs) ≡ text ++ newline ∷ []
   pub parts : fields text ≡ f ∷ fs
+  pub one-line : lacks newline text ≡ true
   pub size : length text ≤ length f + 17 * length fs
 
 -- every such line has one
-pub written : (f : List ℕ) (fs : List (List ℕ)) → tabFree f ≡ true → Plains fs → Written f fs
-unfolding lineOf
-written f [] h none = record { text = f; line = refl; parts = one-field f h; size = omega arith }
+pub written : (f : List ℕ) (fs : List (List ℕ)) → oneField f ≡ true → Plains fs → Written f fs
+unfolding oneField lineOf lacks tab newline
+written f [] h none =
+    let (no-tab, no-newline) = both-parts (lacks tab f) (lacks newline f) h in
+    record { text = f; line = refl; parts = one-field f no-tab; one-line = no-newline; size = omega arith }
 written f (g ∷ fs) h (more p ps) =
-    let w : Written g fs = written g fs (p .free) ps in
+    let (no-tab, no-newline) = both-parts (lacks tab f) (lacks newline f) h in
+    let w : Written g fs = written g fs (p .field) ps in
     record {
       text = f ++ tab ∷ w .text;
       line = rw (w .line, append-assoc);
-      parts = first-field f (w .text) h ∙ ap (λ (gs : List (List ℕ)). f ∷ gs) (w .parts);
+      parts = first-field f (w .text) no-tab ∙ ap (λ (gs : List (List ℕ)). f ∷ gs) (w .parts);
+      one-line = lacks-append newline f (tab ∷ w .text) no-newline (w .one-line);
       size = simp length-append (omega (arith, w .size, p .short));
     }
 

@@ -20,25 +20,25 @@ use Rattle.records.specs.declared.Record.{Record}
 use Rattle.records.specs.declared.Record.the-variants.{Open, Add, Drop, Turn}
 use Rattle.records.proofs.Decimals.{decimal-reads, decimal-only}
 use Rattle.records.proofs.Hexes.{hex-reads, hex-only}
-use Rattle.records.proofs.Tabs.{tabFree, numeral-free, Plain, Plains, none, more, Written, written}
+use Rattle.records.proofs.Tabs.{lacks, oneField, numeral-field, Plain, Plains, none, more, Written, written}
 
--- a decimal is short and has no tab
-decimal-plain : (n : ℕ) → Decimal n → Plain (decimalText n)
+-- a decimal is short, and one field
+pub decimal-plain : (n : ℕ) → Decimal n → Plain (decimalText n)
 decimal-plain n h =
     let told = decimal-only (decimalText n) n (decimal-reads n h) in
-    record { free = numeral-free 10 0 (decimalText n) n (omega arith) (told .3); short = omega (arith, told .2) }
+    record { field = numeral-field 10 0 (decimalText n) n (omega arith) (told .3); short = omega (arith, told .2) }
 
 -- hex of at most 16 digits
-hex-plain : (w n : ℕ) → w ≤ 16 → Hex w n → Plain (hexText w n)
+pub hex-plain : (w n : ℕ) → w ≤ 16 → Hex w n → Plain (hexText w n)
 hex-plain w n narrow h =
     let told = hex-only w (hexText w n) n (hex-reads w n h) in
-    record { free = numeral-free 16 0 (hexText w n) n (omega arith) (told .3); short = omega (arith, told .2) }
+    record { field = numeral-field 16 0 (hexText w n) n (omega arith) (told .3); short = omega (arith, told .2) }
 
 -- a device's letter
 letter-plain : (d : Device) → Plain (letterOf d ∷ [])
-unfolding letterOf tabFree tab
-letter-plain G = record { free = refl; short = omega arith }
-letter-plain S = record { free = refl; short = omega arith }
+unfolding letterOf oneField both lacks tab newline
+letter-plain G = record { field = refl; short = omega arith }
+letter-plain S = record { field = refl; short = omega arith }
 
 -- a record's text, of at most 80 bytes before its newline
 pub record TextOf (r : Record) : Type 0 where
@@ -47,23 +47,23 @@ pub record TextOf (r : Record) : Type 0 where
   pub parts : fields text ≡ recordFields r
   pub fits-line : length text ≤ 80
 
--- the verb has no tab and at most 7 bytes, and at most 4 fields follow it
+-- the verb is a field of at most 7 bytes, and at most 4 fields follow it
 brief : List ℕ → List (List ℕ) → Bool
-brief word fs = both (tabFree word) (both (leb (length word) 7) (leb (length fs) 4))
+brief word fs = both (oneField word) (both (leb (length word) 7) (leb (length fs) 4))
 
 -- so the text has at most 7 + 4 * 17 bytes
 text-of : (r : Record) (word : List ℕ) (fs : List (List ℕ)) → recordFields r ≡ word ∷ fs → brief word fs ≡ true → Plains fs → TextOf r
 unfolding recordText brief
 text-of r word fs e small plain =
-    let (free, sizes) = both-parts (tabFree word) (both (leb (length word) 7) (leb (length fs) 4)) small in
+    let (field, sizes) = both-parts (oneField word) (both (leb (length word) 7) (leb (length fs) 4)) small in
     let (short, few) = both-parts (leb (length word) 7) (leb (length fs) 4) sizes in
-    let w : Written word fs = written word fs free plain in
+    let w : Written word fs = written word fs field plain in
     let size : length (w .text) ≤ 80 = omega (arith, w .size, leb-true (length word) 7 short, leb-true (length fs) 4 few) in
     record { text = w .text; line = rw e (w .line); parts = w .parts ∙ sym e; fits-line = size }
 
 -- every record has one
 pub record-written : (r : Record) → Fits r → TextOf r
-unfolding recordFields addFields bytes brief tabFree tab both
+unfolding recordFields addFields bytes brief oneField lacks tab newline both
 record-written (Open d u) h = text-of _ _ _ refl refl (more (letter-plain d) (more (decimal-plain (u .0) h) none))
 record-written (Add id (Event c m a)) h =
     text-of _ _ _ refl refl

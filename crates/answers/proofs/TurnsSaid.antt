@@ -1,0 +1,166 @@
+-- What the reply to a turn says: its plan, line by line, its list, write by write, and its answer. Assumes nothing.
+--     assigned-fits    the numbers of a legal plan fit the fields of a `take` line
+--     turn-said        so a reader gets plan and list back
+use mathlib.Core.Path.{_≡_, refl, ap, sym, _∙_}
+use mathlib.Core.Bool.{Bool, true, false}
+use mathlib.Core.List.{List, [], _∷_, _++_, map, flatMap}
+use mathlib.Core.Option.{some}
+use Prim.Native.Nat.{ℕ, suc, _*_}
+use native.Mathlib.Omega.{arith}
+use lib.ListN.{length, take, drop, replicate, length-replicate}
+use Rattle.requests.specs.declared.Setup.{Setup}
+use Rattle.requests.specs.declared.Entry.{Entry}
+use Rattle.requests.specs.declared.Request.{Request}
+use Rattle.requests.specs.declared.Request.the-variants.{Event, Packet, Offcore, Latency}
+use Rattle.requests.specs.declared.Refusal.the-variants.{CallOrder}
+use Rattle.requests.specs.declared.Answer.the-variants.{Refused}
+use Rattle.requests.specs.Devices.{capacity, counterCount}
+use Rattle.requests.specs.Refusals.{answerFor, answerNumber}
+use Rattle.plans.specs.declared.Place.{Place}
+use Rattle.plans.specs.declared.Place.the-variants.{Counter, WithRsp, Pair}
+use Rattle.plans.specs.Lists.{All, nil, cons, Each, none, and}
+use Rattle.plans.specs.Places.{Counted, countedOf, countersOf}
+use Rattle.plans.specs.Legal.{Allowed, Usable, counters, event, packet, offcore, latency}
+use Rattle.plans.proofs.Sets.{all-imp}
+use Rattle.plans.proofs.PlanLengthHolds.{plan-length}
+use Rattle.layouts.specs.Writes.{Write, writes, flat, filled}
+use Rattle.sessions.specs.declared.Session.{Session}
+use Rattle.sessions.specs.declared.Assigned.{Assigned}
+use Rattle.sessions.specs.declared.TurnAnswered.{TurnAnswered}
+use Rattle.sessions.specs.Turns.{requestsOf, fits, taken, passed, turned, placesOf, assign, writesOf}
+use Rattle.sessions.specs.Calls.{Turn, Plain, opened, waiting}
+use Rattle.sessions.specs.Table.{refusal}
+use Rattle.sessions.specs.Sessions.{queueLimit, queued, plainOf, refusedBy, turnOf, turnSlice, planOf, answerTo}
+use Rattle.sessions.proofs.Lists.{all-left, all-right, all-map}
+use Rattle.sessions.proofs.Agreed.{answer-is}
+use Rattle.sessions.proofs.Rearranged.{all-turned}
+use Rattle.sessions.proofs.Refused.{unchanged}
+use Rattle.sessions.proofs.Answers.{turn-plan-is, turn-count-is, turn-slice-is}
+use Rattle.sessions.proofs.TableAnswers.{plain-closed, plain-opened, turn-closed}
+use Rattle.sessions.proofs.TakenPlan.{taken-first}
+use Rattle.records.specs.Text.{bytes, decimalText, lineOf}
+use Rattle.records.specs.Records.{Decimal, AddFits}
+use Rattle.answers.specs.Replies.{answerText, registerText, takeLines, setLines, turnRoom, turnReply, recordReply}
+use Rattle.answers.specs.Reader.{Said, Takes, Sets, Answers, replySays}
+use Rattle.answers.specs.LinesAreCalls.{takesOf, setsOf, Askable, TurnSays}
+use Rattle.answers.proofs.ReadLines.{Reads, nothing-reads, then-reads, joined-reads, whole-reads, RegisterFits, take-reads, set-reads, answer-reads}
+use Rattle.answers.proofs.WriteWidths.{WordsFit, words-fit, WriteFits, writes-fit}
+use Rattle.answers.proofs.SliceFits.{turn-goes}
+
+-- ---- `take` lines
+
+-- a counter and its register fit their fields
+abbrev CountedFits : Counted → Type 0
+CountedFits c = Decimal (c .0) × RegisterFits (c .1)
+
+-- so do an id and all that it is given
+abbrev AssignedFits : Assigned → Type 0
+AssignedFits a = Decimal (a .id) × All CountedFits (countedOf (a .place))
+
+counted-read : (id : ℕ) → Decimal id → {cs : List Counted} → All CountedFits cs
+    → Reads (flatMap (λ (c : Counted). lineOf (bytes "take" ∷ decimalText id ∷ decimalText (c .0) ∷ registerText (c .1) ∷ [])) cs) (map (λ (c : Counted). Takes id (c .0) (c .1)) cs)
+unfolding flatMap
+counted-read id h nil = nothing-reads
+counted-read id h (cons {a = c} k ks) = then-reads (take-reads id (c .0) (c .1) h (k .0) (k .1)) (counted-read id h ks)
+
+plan-read : (plan : List Assigned) → All AssignedFits plan → Reads (flatMap takeLines plan) (takesOf plan)
+unfolding takeLines takesOf
+plan-read plan h = joined-reads takeLines _ (all-imp (λ a k. counted-read (a .id) (k .0) (k .1)) h)
+
+-- ---- the numbers of a legal plan
+
+id-fits : (id : ℕ) (r : Request) → AddFits id r → Decimal id
+id-fits id (Event c m a) h = h .0
+id-fits id (Packet x y a) h = h .0
+id-fits id (Offcore w a) h = h .0
+id-fits id (Latency t a b) h = h .0
+
+counter-fits : (s : Setup) (k : ℕ) → Usable s k → Decimal k
+unfolding capacity
+counter-fits s k h = omega (arith, h .0, plan-length .device-at-most (s .device))
+
+place-fits : (s : Setup) (r : Request) (p : Place) → Allowed r p → All (Usable s) (countersOf p) → All CountedFits (countedOf p)
+unfolding countersOf countedOf
+place-fits s _ _ (event {k = k} a) (cons u nil) = cons (counter-fits s k u, tt) nil
+place-fits s _ _ (packet {k = k} a) (cons u nil) = cons (counter-fits s k u, tt) nil
+place-fits s _ _ (offcore {k = k} {i = i} a b) (cons u nil) = cons {a = (k, some i)} (counter-fits s k u, omega arith) nil
+place-fits s _ _ (latency {j = j} {k = k} a b) (cons u (cons v nil)) = cons {a = (j, some 0)} (counter-fits s j u, omega arith) (cons {a = (k, some 1)} (counter-fits s k v, omega arith) nil)
+
+assigned-fits : (s : Setup) (es : List Entry) (ps : List Place) → Askable es → Each Allowed (requestsOf es) ps → All (Usable s) (counters ps) → All AssignedFits (assign es ps)
+unfolding requestsOf counters assign flatMap
+assigned-fits s [] [] nil none us = nil
+assigned-fits s (e ∷ es) (p ∷ ps) (cons f fs) (and a each) us =
+    cons (id-fits (e .id) (e .request) f, place-fits s (e .request) p a (all-left (countersOf p) (counters ps) us))
+    (assigned-fits s es ps fs each (all-right (countersOf p) us))
+
+-- ---- `set` lines
+
+sets-read : {ws : List Write} → All WriteFits ws → Reads (setLines (flat ws)) (setsOf ws)
+unfolding setLines flat setsOf
+sets-read nil = nothing-reads
+sets-read (cons {a = w} h hs) = then-reads (set-reads (w .0) (w .1) (h .0) (h .1)) (sets-read hs)
+
+-- the list at the start of a slice
+listed : (ws : List Write) (rest : List ℕ) → take (2 * length ws) (flat ws ++ rest) ≡ flat ws
+unfolding flat
+listed [] rest = refl
+listed (w ∷ ws) rest =
+    let e : 2 * suc (length ws) ≡ suc (suc (2 * length ws)) = omega arith in
+    rw (e, listed ws rest)
+
+-- ---- the reply
+
+-- plan, list and answer are read back from the reply that is made of them
+turn-reads : (a : TurnAnswered) (slice : List ℕ) (ws : List Write) → All AssignedFits (planOf a) → All WriteFits ws → flat ws ≡ take (2 * a .writes) slice
+    → replySays (turnReply a slice .text) ≡ some (takesOf (planOf a) ++ setsOf ws ++ Answers (answerNumber (a .answer)) ∷ [])
+unfolding turnReply
+turn-reads a slice ws plan list is =
+    rw (← is) (whole-reads (then-reads (then-reads (plan-read (planOf a) plan) (sets-read list)) (answer-reads (a .answer))))
+
+-- what is taken of a queue can be asked for as the queue can
+taken-askable : (s : Setup) (q : List Entry) → Askable q → Askable (taken s q)
+unfolding taken passed
+taken-askable s q h = all-right (passed s q) (all-turned (fits s) [] q h)
+
+requests-fit : {es : List Entry} → Askable es → All WordsFit (requestsOf es)
+unfolding requestsOf
+requests-fit h = all-map (λ (e : Entry). e .request) (all-imp (λ e f. words-fit (e .id) (e .request) f) h)
+
+module _ (s : Session) where
+  -- the slice that a line lends a turn
+  lent : List ℕ
+  lent = replicate turnRoom 0
+
+  -- before open there is neither plan nor list
+  closed-said : s .opened ≡ false → TurnSays s
+  unfolding recordReply lent answerTo refusedBy answerFor flat
+  closed-said h =
+      let refused : turnOf s turnRoom .answer ≡ Refused CallOrder = answer-is s (Turn turnRoom) ∙ rw (plain-closed s h, turn-closed queueLimit turnRoom) in
+      let empty : flat [] ≡ take (2 * turnOf s turnRoom .writes) (turnSlice s lent) = rw (unchanged .writes s turnRoom CallOrder refused) in
+      record { list = []; left = empty; says = turn-reads (turnOf s turnRoom) (turnSlice s lent) [] (rw (unchanged .plan s turnRoom CallOrder refused) nil) nil empty }
+
+  -- afterwards they are those of the requests taken
+  opened-said : s .opened ≡ true → Askable (queued s) → TurnSays s
+  unfolding recordReply lent writesOf filled
+  opened-said h askable =
+      let t : Setup = s .setup in
+      let q : List Entry = queued s in
+      let es : List Entry = taken t q in
+      let ws : List Write = writesOf t es in
+      let same = plain-opened s h in
+      let legal = taken-first t q .legal in
+      let slice : turnSlice s lent ≡ filled ws lent = turn-slice-is s t q same lent (rw (length-replicate {A = ℕ} turnRoom 0) (turn-goes t q)) in
+      let left : flat ws ≡ take (2 * turnOf s turnRoom .writes) (turnSlice s lent) =
+      rw (slice, turn-count-is s t q same turnRoom (turn-goes t q)) (sym (listed ws (drop (2 * length ws) lent))) in
+      let plan : All AssignedFits (planOf (turnOf s turnRoom)) =
+      rw (turn-plan-is s t q same turnRoom (turn-goes t q)) (assigned-fits t es (placesOf t es) (taken-askable t q askable) (legal .allowed) (legal .usable-only)) in
+      let list : All WriteFits ws = writes-fit (requestsOf es) (placesOf t es) (requests-fit (taken-askable t q askable)) t in
+      record { list = ws; left = left; says = turn-reads (turnOf s turnRoom) (turnSlice s lent) ws plan list left }
+
+  pub turn-said : Askable (waiting (plainOf s)) → TurnSays s
+  unfolding waiting
+  turn-said askable = go (s .opened) refl
+    where
+      go : (b : Bool) → s .opened ≡ b → TurnSays s
+      go true h = opened-said h (rw (plain-opened s h) at askable)
+      go false h = closed-said h

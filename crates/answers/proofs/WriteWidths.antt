@@ -1,0 +1,184 @@
+-- Every write of a plan fits the fields of a `set` line, where the requests' numbers fit the fields of the lines that add them. Write by write,
+-- by `writes-all` of the registers' laws. Assumes nothing.
+use mathlib.Core.Bool.{Bool, true, false}
+use mathlib.Core.List.{List, [], _∷_, flatMap}
+use Prim.Native.Nat.{ℕ, _+_, _%_, _^_, _≤_, _<_}
+use native.Mathlib.Nat.{mod-lt}
+use native.Mathlib.Omega.{arith}
+use lib.Dec.{eqb}
+use lib.ListN.{getD}
+use lib.Pow.{pow-mono}
+use Rattle.requests.specs.declared.Device.{Device}
+use Rattle.requests.specs.declared.Device.the-variants.{G, S}
+use Rattle.requests.specs.declared.Setup.{Setup}
+use Rattle.requests.specs.declared.Request.{Request}
+use Rattle.requests.specs.declared.Request.the-variants.{Event, Packet, Offcore, Latency}
+use Rattle.requests.specs.Choice.{pick}
+use Rattle.requests.specs.Bits.{anyResponse, outstanding, latencyWord}
+use Rattle.requests.specs.Devices.{capacity, counterCount, allCounters}
+use Rattle.plans.specs.declared.Place.{Place}
+use Rattle.plans.specs.declared.Place.the-variants.{Counter, WithRsp, Pair}
+use Rattle.plans.specs.Lists.{All, nil, cons}
+use Rattle.plans.specs.Places.{second}
+use Rattle.plans.specs.Legal.{wordsOf, packetsOf, ofAll}
+use Rattle.plans.proofs.Sets.{all-append}
+use Rattle.plans.proofs.PlanLengthHolds.{plan-length}
+use Rattle.layouts.specs.Layout.{tabulate, layoutOf, controlAt, counterAt, rsp0At, rsp1At, mmCfgAt, matchAt, maskAt, mmEnable, enabled, eventWord, offcoreCode, rspMask, rspWord, packetWord}
+use Rattle.layouts.specs.Settings.{usesOf, wordAt, headOr, nonempty, settingsOf}
+use Rattle.layouts.specs.Writes.{Write, unusable, offcoreWrites, packetWrites, filterWrites, writes}
+use Rattle.layouts.proofs.ListLaws.{all-head}
+use Rattle.layouts.proofs.Tabulated.{getD-tabulate}
+use Rattle.layouts.proofs.RegisterAddresses.{in-room}
+use Rattle.layouts.proofs.RegistersAfter.{writes-all}
+use Rattle.layouts.proofs.ControlWords.{word-at}
+use Rattle.records.specs.Records.{Hex, AddFits}
+
+-- the words of a request fit their fields
+abbrev pub WordsFit : Request → Type 0
+WordsFit (Event c m a) = Hex 2 c × Hex 2 m
+WordsFit (Packet x y a) = Hex 16 x × Hex 16 y
+WordsFit (Offcore w a) = Hex 16 w
+WordsFit (Latency t a b) = Hex 4 t
+
+pub words-fit : (id : ℕ) (r : Request) → AddFits id r → WordsFit r
+words-fit id (Event c m a) h = (h .1, h .2)
+words-fit id (Packet x y a) h = (h .1, h .2)
+words-fit id (Offcore w a) h = h .1
+words-fit id (Latency t a b) h = h .1
+
+-- an address and a value fit theirs
+abbrev pub WriteFits : Write → Type 0
+WriteFits w = Hex 4 (w .0) × Hex 16 (w .1)
+
+-- ---- the values that requests ask for
+
+-- what holds of each request's holds of all
+of-all : {A : Type 0} {P : A → Type 0} (f : Request → Place → List A) → ((r : Request) (p : Place) → WordsFit r → All P (f r p))
+    → {rs : List Request} → All WordsFit rs → (ps : List Place) → All P (ofAll f rs ps)
+unfolding ofAll
+of-all f h nil ps = nil
+of-all f h (cons w ws) [] = nil
+of-all f h (cons {a = r} w ws) (p ∷ ps) = all-append (h r p w) (of-all f h ws ps)
+
+event-fits : (d : Device) (c m : ℕ) → Hex 2 c → Hex 2 m → Hex 16 (eventWord d c m)
+unfolding eventWord enabled
+event-fits G c m h k = omega arith
+event-fits S c m h k = omega arith
+
+rsp-fits : (d : Device) (i : ℕ) → Hex 16 (rspWord d i)
+unfolding rspWord rspMask offcoreCode
+rsp-fits d i = go (eqb i 0)
+  where
+    go : (b : Bool) → Hex 16 (eventWord d offcoreCode (pick b 1 2))
+    go true = event-fits d offcoreCode 1 (omega arith) (omega arith)
+    go false = event-fits d offcoreCode 2 (omega arith) (omega arith)
+
+-- control words
+uses-fit : (d : Device) (r : Request) (p : Place) → WordsFit r → All (λ (u : ℕ × ℕ). Hex 16 (u .1)) (usesOf d r p)
+unfolding usesOf packetWord
+uses-fit d (Event c m a) p h = cons (event-fits d c m (h .0) (h .1)) nil
+uses-fit d (Packet x y a) p h = cons (event-fits d 0 0 (omega arith) (omega arith)) nil
+uses-fit d (Offcore w a) p h = cons (rsp-fits d (second p)) nil
+uses-fit d (Latency t a b) p h = cons (rsp-fits d 0) (cons (rsp-fits d 1) nil)
+
+latency-fits : (i t : ℕ) → Hex 4 t → Hex 16 (latencyWord i t)
+unfolding latencyWord outstanding anyResponse
+latency-fits i t h = go (eqb i 0)
+  where
+    go : (b : Bool) → Hex 16 (t + 2 ^ elim b [ true ↦ outstanding | false ↦ anyResponse ])
+    go true = omega arith
+    go false = omega arith
+
+-- words of RSP registers
+asked-fit : (i : ℕ) (r : Request) (p : Place) → WordsFit r → All (Hex 16) (wordsOf i r p)
+unfolding wordsOf
+asked-fit i (Event c m a) p h = nil
+asked-fit i (Packet x y a) p h = nil
+asked-fit i (Offcore w a) (Counter k) h = nil
+asked-fit i (Offcore w a) (WithRsp k j) h = go (eqb j i)
+  where
+    go : (b : Bool) → All (Hex 16) (pick b (w ∷ []) [])
+    go true = cons h nil
+    go false = nil
+asked-fit i (Offcore w a) (Pair j k) h = nil
+asked-fit i (Latency t a b) p h = cons (latency-fits i t h) nil
+
+-- match and mask words
+abbrev PacketFits : ℕ × ℕ → Type 0
+PacketFits x = Hex 16 (x .0) × Hex 16 (x .1)
+
+packet-fits : (r : Request) → WordsFit r → All PacketFits (packetsOf r)
+unfolding packetsOf
+packet-fits (Event c m a) h = nil
+packet-fits (Packet x y a) h = cons h nil
+packet-fits (Offcore w a) h = nil
+packet-fits (Latency t a b) h = nil
+
+packets-fit : {rs : List Request} → All WordsFit rs → All PacketFits (flatMap packetsOf rs)
+unfolding flatMap
+packets-fit nil = nil
+packets-fit (cons {a = r} h hs) = all-append (packet-fits r h) (packets-fit hs)
+
+-- ---- writes
+
+zero-fits : Hex 16 0
+zero-fits = omega arith
+
+control-fits : (d : Device) (k v : ℕ) → k < capacity → Hex 16 v → WriteFits (controlAt d k, v)
+unfolding controlAt layoutOf capacity
+control-fits G k v l h = (omega arith, h)
+control-fits S k v l h = (omega arith, h)
+
+counter-fits : (d : Device) (k : ℕ) → k < capacity → WriteFits (counterAt d k, 0)
+unfolding counterAt layoutOf capacity
+counter-fits G k l = (omega arith, zero-fits)
+counter-fits S k l = (omega arith, zero-fits)
+
+global-fits : (d : Device) (v : ℕ) → Hex 16 v → WriteFits (layoutOf d .global, v)
+unfolding layoutOf
+global-fits G v h = (omega arith, h)
+global-fits S v h = (omega arith, h)
+
+-- bits of unusable counters and of any others of the device
+enable-fits : (s : Setup) (u : ℕ) → Hex 16 (unusable s + u % 2 ^ counterCount (s .device))
+unfolding unusable allCounters capacity
+enable-fits s u =
+    let small : 2 ^ counterCount (s .device) ≤ 2 ^ 8 = pow-mono (plan-length .device-at-most (s .device)) in
+    let some : 1 ≤ 2 ^ counterCount (s .device) = pow-mono {i = 0} (omega arith) in
+    omega (arith, mod-lt u {m = 2 ^ counterCount (s .device)} some)
+
+filter-fits : (a v : ℕ) → a < 0x10000 → Hex 16 v → WriteFits (a, v)
+filter-fits a v l h = (omega arith, h)
+
+packet-writes-fit : (b : Bool) (x y : ℕ) → PacketFits (x, y) → All WriteFits (packetWrites b x y)
+unfolding packetWrites mmCfgAt matchAt maskAt mmEnable
+packet-writes-fit true x y h =
+    cons (filter-fits mmCfgAt 0 (omega arith) zero-fits)
+    (cons (filter-fits matchAt x (omega arith) (h .0))
+    (cons (filter-fits maskAt y (omega arith) (h .1))
+    (cons (filter-fits mmCfgAt (2 ^ mmEnable) (omega arith) (omega arith)) nil)))
+packet-writes-fit false x y h = cons (filter-fits mmCfgAt 0 (omega arith) zero-fits) nil
+
+module _ (rs : List Request) (ps : List Place) (fit : All WordsFit rs) where
+  -- the word of an RSP register
+  rsp-word-fits : (i : ℕ) → Hex 16 (headOr 0 (ofAll (wordsOf i) rs ps))
+  rsp-word-fits i = all-head 0 (ofAll (wordsOf i) rs ps) zero-fits (of-all (wordsOf i) (asked-fit i) fit ps)
+
+  filters-fit : (d : Device) → All WriteFits (filterWrites d (settingsOf d rs ps))
+  unfolding filterWrites offcoreWrites settingsOf rsp0At rsp1At
+  filters-fit G = cons (filter-fits rsp0At _ (omega arith) (rsp-word-fits 0)) (cons (filter-fits rsp1At _ (omega arith) (rsp-word-fits 1)) nil)
+  filters-fit S = packet-writes-fit (nonempty (flatMap packetsOf rs)) _ _ (all-head (0, 0) (flatMap packetsOf rs) (zero-fits, zero-fits) (packets-fit fit))
+
+  pub writes-fit : (s : Setup) → All WriteFits (writes s rs ps)
+  unfolding writes settingsOf
+  writes-fit s =
+      let d = s .device in
+      let us = ofAll (usesOf d) rs ps in
+      writes-all s (settingsOf d rs ps) WriteFits
+      (global-fits d (unusable s) (omega (arith, enable-fits s 0)))
+      (λ k l h. control-fits d k 0 (in-room d k l) zero-fits)
+      (filters-fit d)
+      (λ k l h. counter-fits d k (in-room d k l))
+      (λ k l h. control-fits d k (getD (tabulate capacity (wordAt us)) k 0) (in-room d k l)
+      (rw (getD-tabulate capacity (wordAt us) k 0 (in-room d k l)) (word-at (Hex 16) us k zero-fits (of-all (usesOf d) (uses-fit d) fit ps))))
+      (global-fits d (unusable s + settingsOf d rs ps .used .0 % 2 ^ counterCount d) (enable-fits s (settingsOf d rs ps .used .0)))
