@@ -4,7 +4,9 @@ pub mod WriteWidths
 pub mod SliceFits
 pub mod TurnsSaid
 pub mod LinesAreCalls
+pub mod LineLists
 pub mod LinesAnswered
+pub mod LinesSay
 pub mod NeverShort
 pub mod Lengths
 pub mod TurnLimits

@@ -1,10 +1,10 @@
 -- What the reply to a turn says: its plan, line by line, its list, write by write, and its answer. Assumes nothing.
 --     assigned-fits    the numbers of a legal plan fit the fields of a `take` line
---     turn-said        so a reader gets plan and list back
+--     closed-says, opened-says   so a reader gets them back, and the list: the reply before open, and the reply afterwards
+--     turn-said        the statement for any session
 use mathlib.Core.Path.{_≡_, refl, ap, sym, _∙_}
-use mathlib.Core.Bool.{Bool, true, false}
 use mathlib.Core.List.{List, [], _∷_, _++_, map, flatMap}
-use mathlib.Core.Option.{some}
+use mathlib.Core.Option.{none, some}
 use Prim.Native.Nat.{ℕ, suc, _*_}
 use native.Mathlib.Omega.{arith}
 use lib.ListN.{length, take, drop, replicate, length-replicate}
@@ -13,12 +13,13 @@ use Rattle.requests.specs.declared.Entry.{Entry}
 use Rattle.requests.specs.declared.Request.{Request}
 use Rattle.requests.specs.declared.Request.the-variants.{Event, Packet, Offcore, Latency}
 use Rattle.requests.specs.declared.Refusal.the-variants.{CallOrder}
-use Rattle.requests.specs.declared.Answer.the-variants.{Refused}
+use Rattle.requests.specs.declared.Answer.the-variants.{Accepted, Refused}
 use Rattle.requests.specs.Devices.{capacity, counterCount}
-use Rattle.requests.specs.Refusals.{answerFor, answerNumber}
+use Rattle.requests.specs.Refusals.{numberOf, answerFor, answerNumber}
 use Rattle.plans.specs.declared.Place.{Place}
 use Rattle.plans.specs.declared.Place.the-variants.{Counter, WithRsp, Pair}
-use Rattle.plans.specs.Lists.{All, nil, cons, Each, none, and}
+use Rattle.plans.specs.Lists.{All, nil, cons, Each, and}
+use Rattle.plans.specs.Lists as lists
 use Rattle.plans.specs.Places.{Counted, countedOf, countersOf}
 use Rattle.plans.specs.Legal.{Allowed, Usable, counters, event, packet, offcore, latency}
 use Rattle.plans.proofs.Sets.{all-imp}
@@ -28,7 +29,8 @@ use Rattle.sessions.specs.declared.Session.{Session}
 use Rattle.sessions.specs.declared.Assigned.{Assigned}
 use Rattle.sessions.specs.declared.TurnAnswered.{TurnAnswered}
 use Rattle.sessions.specs.Turns.{requestsOf, fits, taken, passed, turned, placesOf, assign, writesOf}
-use Rattle.sessions.specs.Calls.{Turn, Plain, opened, waiting}
+use Rattle.sessions.specs.Calls.{Plain, notOpen, opened, waiting}
+use Rattle.sessions.specs.Calls as calls
 use Rattle.sessions.specs.Table.{refusal}
 use Rattle.sessions.specs.Sessions.{queueLimit, queued, plainOf, refusedBy, turnOf, turnSlice, planOf, answerTo}
 use Rattle.sessions.proofs.Lists.{all-left, all-right, all-map}
@@ -36,10 +38,11 @@ use Rattle.sessions.proofs.Agreed.{answer-is}
 use Rattle.sessions.proofs.Rearranged.{all-turned}
 use Rattle.sessions.proofs.Refused.{unchanged}
 use Rattle.sessions.proofs.Answers.{turn-plan-is, turn-count-is, turn-slice-is}
-use Rattle.sessions.proofs.TableAnswers.{plain-closed, plain-opened, turn-closed}
+use Rattle.sessions.proofs.TableAnswers.{turn-closed}
 use Rattle.sessions.proofs.TakenPlan.{taken-first}
 use Rattle.records.specs.Text.{bytes, decimalText, lineOf}
 use Rattle.records.specs.Records.{Decimal, AddFits}
+use Rattle.records.specs.declared.Record.the-variants.{Turn}
 use Rattle.answers.specs.Replies.{answerText, registerText, takeLines, setLines, turnRoom, turnReply, recordReply}
 use Rattle.answers.specs.Reader.{Said, Takes, Sets, Answers, replySays}
 use Rattle.answers.specs.LinesAreCalls.{takesOf, setsOf, Askable, TurnSays}
@@ -88,7 +91,7 @@ place-fits s _ _ (latency {j = j} {k = k} a b) (cons u (cons v nil)) = cons {a =
 
 assigned-fits : (s : Setup) (es : List Entry) (ps : List Place) → Askable es → Each Allowed (requestsOf es) ps → All (Usable s) (counters ps) → All AssignedFits (assign es ps)
 unfolding requestsOf counters assign flatMap
-assigned-fits s [] [] nil none us = nil
+assigned-fits s [] [] nil lists.none us = nil
 assigned-fits s (e ∷ es) (p ∷ ps) (cons f fs) (and a each) us =
     cons (id-fits (e .id) (e .request) f, place-fits s (e .request) p a (all-left (countersOf p) (counters ps) us))
     (assigned-fits s es ps fs each (all-right (countersOf p) us))
@@ -126,41 +129,68 @@ requests-fit : {es : List Entry} → Askable es → All WordsFit (requestsOf es)
 unfolding requestsOf
 requests-fit h = all-map (λ (e : Entry). e .request) (all-imp (λ e f. words-fit (e .id) (e .request) f) h)
 
-module _ (s : Session) where
-  -- the slice that a line lends a turn
-  lent : List ℕ
-  lent = replicate turnRoom 0
+-- the slice that a line lends a turn
+lent : List ℕ
+lent = replicate turnRoom 0
 
-  -- before open there is neither plan nor list
-  closed-said : s .opened ≡ false → TurnSays s
-  unfolding recordReply lent answerTo refusedBy answerFor flat
-  closed-said h =
-      let refused : turnOf s turnRoom .answer ≡ Refused CallOrder = answer-is s (Turn turnRoom) ∙ rw (plain-closed s h, turn-closed queueLimit turnRoom) in
+-- before open there is neither plan nor list
+module _ (s : Session) (same : plainOf s ≡ notOpen) where
+  refused : turnOf s turnRoom .answer ≡ Refused CallOrder
+  unfolding answerTo refusedBy answerFor
+  refused = answer-is s (calls.Turn turnRoom) ∙ rw (same, turn-closed queueLimit turnRoom)
+
+  closed-said : TurnSays s
+  unfolding recordReply lent flat
+  closed-said =
       let empty : flat [] ≡ take (2 * turnOf s turnRoom .writes) (turnSlice s lent) = rw (unchanged .writes s turnRoom CallOrder refused) in
       record { list = []; left = empty; says = turn-reads (turnOf s turnRoom) (turnSlice s lent) [] (rw (unchanged .plan s turnRoom CallOrder refused) nil) nil empty }
 
-  -- afterwards they are those of the requests taken
-  opened-said : s .opened ≡ true → Askable (queued s) → TurnSays s
-  unfolding recordReply lent writesOf filled
-  opened-said h askable =
-      let t : Setup = s .setup in
-      let q : List Entry = queued s in
-      let es : List Entry = taken t q in
-      let ws : List Write = writesOf t es in
-      let same = plain-opened s h in
-      let legal = taken-first t q .legal in
-      let slice : turnSlice s lent ≡ filled ws lent = turn-slice-is s t q same lent (rw (length-replicate {A = ℕ} turnRoom 0) (turn-goes t q)) in
-      let left : flat ws ≡ take (2 * turnOf s turnRoom .writes) (turnSlice s lent) =
-      rw (slice, turn-count-is s t q same turnRoom (turn-goes t q)) (sym (listed ws (drop (2 * length ws) lent))) in
-      let plan : All AssignedFits (planOf (turnOf s turnRoom)) =
-      rw (turn-plan-is s t q same turnRoom (turn-goes t q)) (assigned-fits t es (placesOf t es) (taken-askable t q askable) (legal .allowed) (legal .usable-only)) in
-      let list : All WriteFits ws = writes-fit (requestsOf es) (placesOf t es) (requests-fit (taken-askable t q askable)) t in
-      record { list = ws; left = left; says = turn-reads (turnOf s turnRoom) (turnSlice s lent) ws plan list left }
+  pub closed-says : replySays (recordReply s Turn .text) ≡ some (Answers (some (numberOf CallOrder)) ∷ [])
+  unfolding recordReply turnReply takesOf flatMap setLines answerNumber
+  closed-says =
+      rw (unchanged .plan s turnRoom CallOrder refused, unchanged .writes s turnRoom CallOrder refused, refused) (whole-reads (answer-reads (Refused CallOrder)))
 
-  pub turn-said : Askable (waiting (plainOf s)) → TurnSays s
-  unfolding waiting
-  turn-said askable = go (s .opened) refl
-    where
-      go : (b : Bool) → s .opened ≡ b → TurnSays s
-      go true h = opened-said h (rw (plain-opened s h) at askable)
-      go false h = closed-said h
+-- afterwards they are those of the requests taken
+module _ (s : Session) (t : Setup) (q : List Entry) (same : plainOf s ≡ opened t q) (askable : Askable q) where
+  es : List Entry
+  es = taken t q
+
+  plan-is : planOf (turnOf s turnRoom) ≡ assign es (placesOf t es)
+  unfolding es
+  plan-is = turn-plan-is s t q same turnRoom (turn-goes t q)
+
+  plan-fits : All AssignedFits (planOf (turnOf s turnRoom))
+  unfolding es
+  plan-fits = let legal = taken-first t q .legal in rw plan-is (assigned-fits t es (placesOf t es) (taken-askable t q askable) (legal .allowed) (legal .usable-only))
+
+  list-left : flat (writesOf t es) ≡ take (2 * turnOf s turnRoom .writes) (turnSlice s lent)
+  unfolding es lent filled
+  list-left =
+      let slice : turnSlice s lent ≡ filled (writesOf t es) lent = turn-slice-is s t q same lent (rw (length-replicate {A = ℕ} turnRoom 0) (turn-goes t q)) in
+      rw (slice, turn-count-is s t q same turnRoom (turn-goes t q)) (sym (listed (writesOf t es) (drop (2 * length (writesOf t es)) lent)))
+
+  opened-said : TurnSays s
+  unfolding es recordReply lent writesOf
+  opened-said =
+      record {
+        list = writesOf t es;
+        left = list-left;
+        says =
+            turn-reads (turnOf s turnRoom) (turnSlice s lent) (writesOf t es) plan-fits
+            (writes-fit (requestsOf es) (placesOf t es) (requests-fit (taken-askable t q askable)) t) list-left;
+      }
+
+  pub opened-says : replySays (recordReply s Turn .text)
+      ≡ some (takesOf (assign (taken t q) (placesOf t (taken t q))) ++ setsOf (writes t (requestsOf (taken t q)) (placesOf t (taken t q))) ++ Answers none ∷ [])
+  unfolding es opened-said writesOf answerTo refusedBy answerFor answerNumber
+  opened-says =
+      let accepted : turnOf s turnRoom .answer ≡ Accepted = answer-is s (calls.Turn turnRoom) ∙ rw (same, turn-goes t q) in
+      opened-said .says ∙ rw (plan-is, accepted)
+
+pub turn-said : (s : Session) → Askable (waiting (plainOf s)) → TurnSays s
+unfolding waiting
+turn-said s askable = go (plainOf s) refl askable
+  where
+    go : (p : Plain) → plainOf s ≡ p → Askable (waiting p) → TurnSays s
+    go notOpen same h = closed-said s same
+    go (opened t q) same h = opened-said s t q same h

@@ -7,3 +7,6 @@ pub mod NeverShort
 pub mod ReplyLength
 pub mod LinesAnswered
 pub mod LinesAreCalls
+pub mod LineLists
+pub mod LinesSay
+pub mod Demand3OfLines
