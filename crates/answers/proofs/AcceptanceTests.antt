@@ -1,15 +1,23 @@
 -- The examples, by computation: every definition that they reach is unfolded.
 use mathlib.Core.Path.{refl}
 use mathlib.Core.List.{flatMap}
+use Rattle.requests.specs.Choice.{both}
 use Rattle.requests.specs.Devices.{capacity}
 use Rattle.requests.specs.Refusals.{numberOf}
 use Rattle.plans.specs.Places.{countedOf}
 use Rattle.sessions.specs.Sessions.{turnAnswer, planOf}
+use Rattle.records.specs.Fields.{fields, sameBytes}
+use Rattle.records.specs.Numbers.{digitOf, numberFrom, decimalOf, hexOf}
 use Rattle.records.specs.Text.{bytes, tab, newline, hexDigit, hexText, decimalDigits, decimalText, lineOf}
 use Rattle.answers.specs.Replies.{answerText, registerText, takeLines, setLines, turnReply}
 use Rattle.records.specs.Examples.{tabbed}
-use Rattle.answers.specs.Examples.{typed, taken, Examples}
+use Rattle.answers.specs.Reader.{takeSays, setSays, noSays, fieldsSay, linesOf, linesSay, replySays}
+use Rattle.answers.specs.Examples.{typed, taken, Examples, Readings}
 
 pub examples-hold : Examples
 unfolding flatMap tabbed capacity numberOf countedOf turnAnswer planOf bytes tab newline hexDigit hexText decimalDigits decimalText lineOf answerText registerText takeLines setLines turnReply typed taken
 examples-hold = refl
+
+pub readings-hold : Readings
+unfolding flatMap tabbed typed both bytes tab newline fields sameBytes digitOf numberFrom decimalOf hexOf takeSays setSays noSays fieldsSay linesOf linesSay replySays
+readings-hold = refl

@@ -7,6 +7,8 @@ pub mod LinesAreCalls
 pub mod LineLists
 pub mod LinesAnswered
 pub mod LinesSay
+pub mod GivenTo
+pub mod Demand3OfLines
 pub mod NeverShort
 pub mod Lengths
 pub mod TurnLimits

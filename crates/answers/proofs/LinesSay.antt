@@ -14,21 +14,21 @@ use Rattle.requests.specs.declared.Refusal.the-variants.{CallOrder}
 use Rattle.requests.specs.Refusals.{numberOf, answerFor, answerNumber}
 use Rattle.sessions.specs.declared.Session.{Session}
 use Rattle.sessions.specs.Turns.{taken, placesOf}
-use Rattle.sessions.specs.Calls.{Call, Plain, notOpen, opened, waiting}
+use Rattle.sessions.specs.Calls.{Plain, notOpen, opened, waiting}
 use Rattle.sessions.specs.Calls as calls
 use Rattle.sessions.specs.Table.{refusal}
-use Rattle.sessions.specs.Sessions.{queueLimit, plainOf, answerTo, sessionAfter, queueAfter}
+use Rattle.sessions.specs.Sessions.{queueLimit, plainOf, answerTo, queueAfter}
 use Rattle.sessions.proofs.Agreed.{agreement}
 use Rattle.sessions.proofs.TableAnswers.{turn-closed}
 use Rattle.sessions.proofs.TakenPlan.{taken-first}
 use Rattle.records.specs.Records.{recordText, Fits}
 use Rattle.records.specs.declared.Record.{Record}
 use Rattle.records.specs.declared.Record.the-variants.{Open, Add, Drop, Turn}
-use Rattle.answers.specs.Replies.{Reply, turnRoom, recordReply, answerLine}
+use Rattle.answers.specs.Replies.{Reply, turnRoom, recordReply}
 use Rattle.answers.specs.Reader.{Answers, replySays}
 use Rattle.answers.specs.LinesAreCalls.{callOf, Askable}
 use Rattle.answers.specs.LineLists.{callsBy, sessionBy, replyAfter}
-use Rattle.answers.specs.LinesSay.{TurnTold, SaidAfter, LinesSay}
+use Rattle.answers.specs.LinesSay.{TurnTold, LinesSay}
 use Rattle.answers.proofs.SliceFits.{turn-goes}
 use Rattle.answers.proofs.TurnsSaid.{closed-says, opened-says}
 use Rattle.answers.proofs.LinesAreCalls.{lines-are-calls}

@@ -18,7 +18,7 @@ use Rattle.requests.specs.Refusals.{numberOf, answerNumber}
 use Rattle.plans.specs.Lists.{All, nil, cons}
 use Rattle.records.specs.Text.{bytes, tab, newline, hexText, decimalText, lineOf}
 use Rattle.records.specs.Records.{Decimal, Hex}
-use Rattle.records.specs.Fields.{onto, fields, sameBytes}
+use Rattle.records.specs.Fields.{onto, sameBytes}
 use Rattle.records.specs.Numbers.{digitOf, numberFrom, decimalOf}
 use Rattle.records.proofs.Decimals.{decimal-reads}
 use Rattle.records.proofs.Hexes.{hex-reads}

@@ -2,7 +2,7 @@
 --     assigned-fits    the numbers of a legal plan fit the fields of a `take` line
 --     closed-says, opened-says   so a reader gets them back, and the list: the reply before open, and the reply afterwards
 --     turn-said        the statement for any session
-use mathlib.Core.Path.{_≡_, refl, ap, sym, _∙_}
+use mathlib.Core.Path.{_≡_, refl, sym, _∙_}
 use mathlib.Core.List.{List, [], _∷_, _++_, map, flatMap}
 use mathlib.Core.Option.{none, some}
 use Prim.Native.Nat.{ℕ, suc, _*_}
@@ -14,10 +14,9 @@ use Rattle.requests.specs.declared.Request.{Request}
 use Rattle.requests.specs.declared.Request.the-variants.{Event, Packet, Offcore, Latency}
 use Rattle.requests.specs.declared.Refusal.the-variants.{CallOrder}
 use Rattle.requests.specs.declared.Answer.the-variants.{Accepted, Refused}
-use Rattle.requests.specs.Devices.{capacity, counterCount}
+use Rattle.requests.specs.Devices.{capacity}
 use Rattle.requests.specs.Refusals.{numberOf, answerFor, answerNumber}
 use Rattle.plans.specs.declared.Place.{Place}
-use Rattle.plans.specs.declared.Place.the-variants.{Counter, WithRsp, Pair}
 use Rattle.plans.specs.Lists.{All, nil, cons, Each, and}
 use Rattle.plans.specs.Lists as lists
 use Rattle.plans.specs.Places.{Counted, countedOf, countersOf}
@@ -28,11 +27,10 @@ use Rattle.layouts.specs.Writes.{Write, writes, flat, filled}
 use Rattle.sessions.specs.declared.Session.{Session}
 use Rattle.sessions.specs.declared.Assigned.{Assigned}
 use Rattle.sessions.specs.declared.TurnAnswered.{TurnAnswered}
-use Rattle.sessions.specs.Turns.{requestsOf, fits, taken, passed, turned, placesOf, assign, writesOf}
+use Rattle.sessions.specs.Turns.{requestsOf, fits, taken, passed, placesOf, assign, writesOf}
 use Rattle.sessions.specs.Calls.{Plain, notOpen, opened, waiting}
 use Rattle.sessions.specs.Calls as calls
-use Rattle.sessions.specs.Table.{refusal}
-use Rattle.sessions.specs.Sessions.{queueLimit, queued, plainOf, refusedBy, turnOf, turnSlice, planOf, answerTo}
+use Rattle.sessions.specs.Sessions.{queueLimit, plainOf, refusedBy, turnOf, turnSlice, planOf, answerTo}
 use Rattle.sessions.proofs.Lists.{all-left, all-right, all-map}
 use Rattle.sessions.proofs.Agreed.{answer-is}
 use Rattle.sessions.proofs.Rearranged.{all-turned}
@@ -43,8 +41,8 @@ use Rattle.sessions.proofs.TakenPlan.{taken-first}
 use Rattle.records.specs.Text.{bytes, decimalText, lineOf}
 use Rattle.records.specs.Records.{Decimal, AddFits}
 use Rattle.records.specs.declared.Record.the-variants.{Turn}
-use Rattle.answers.specs.Replies.{answerText, registerText, takeLines, setLines, turnRoom, turnReply, recordReply}
-use Rattle.answers.specs.Reader.{Said, Takes, Sets, Answers, replySays}
+use Rattle.answers.specs.Replies.{registerText, takeLines, setLines, turnRoom, turnReply, recordReply}
+use Rattle.answers.specs.Reader.{Takes, Answers, replySays}
 use Rattle.answers.specs.LinesAreCalls.{takesOf, setsOf, Askable, TurnSays}
 use Rattle.answers.proofs.ReadLines.{Reads, nothing-reads, then-reads, joined-reads, whole-reads, RegisterFits, take-reads, set-reads, answer-reads}
 use Rattle.answers.proofs.WriteWidths.{WordsFit, words-fit, WriteFits, writes-fit}

@@ -1,6 +1,7 @@
--- Document 01, 'Lines' and 'Bench tries': the lines of a reply as they are written there, by a table of them.
+-- Document 01, 'Lines' and 'Bench tries': the lines of a reply as they are written there, by a table of them, and what a reader makes of such lines.
 use mathlib.Core.Path.{_≡_}
 use mathlib.Core.List.{List, [], _∷_, _++_, map, flatMap}
+use mathlib.Core.Option.{Option, none, some}
 use Prim.Native.Nat.{ℕ}
 use Prim.Native.String.{String}
 use Rattle.requests.specs.declared.Refusal.the-variants.{NotInGrammar, CallOrder, BadOpening, BadId, IdWaiting, IdNotWaiting, KindNotOnDevice, NotListed, Incomplete, OutOfRange, Conflicting, NoPlanAlone, QueueFull, SliceTooShort, NotLeftByPlan}
@@ -11,6 +12,7 @@ use Rattle.sessions.specs.Sessions.{newSession, turnAnswer}
 use Rattle.records.specs.Text.{newline}
 use Rattle.records.specs.Examples.{tabbed}
 use Rattle.answers.specs.Replies.{answerText, takeLines, turnReply}
+use Rattle.answers.specs.Reader.{Said, Takes, Sets, Answers, replySays}
 
 -- lines as they are typed, each closed by a newline
 unfoldable pub typed : List String → List ℕ
@@ -58,3 +60,28 @@ examples =
 -- each is typed so
 abbrev pub Examples : Type 0
 Examples = map (λ (e : Example). e .text) examples ≡ map (λ (e : Example). typed (e .lines)) examples
+
+-- a reply, and what a reader makes of it
+pub record Reading : Type 0 where
+  pub reply : List ℕ
+  pub said : Option (List Said)
+
+abbrev pub readings : List Reading
+readings =
+    record {
+      reply = typed ("take 2 1 0" ∷ "take 2 2 1" ∷ "take 65535 0 -" ∷ "set 01A6 0000004000000001" ∷ "ok" ∷ []);
+      said = some (Takes 2 1 (some 0) ∷ Takes 2 2 (some 1) ∷ Takes 65535 0 none ∷ Sets 0x01A6 0x4000000001 ∷ Answers none ∷ []);
+    }
+    ∷ record { reply = typed ("no 12" ∷ []); said = some (Answers (some 12) ∷ []) }
+    -- a leading zero, a field too few, lower case, a verb that no reply has, an empty line, and a line that is not closed
+    ∷ record { reply = typed ("take 02 1 0" ∷ "ok" ∷ []); said = none }
+    ∷ record { reply = typed ("take 2 1" ∷ "ok" ∷ []); said = none }
+    ∷ record { reply = typed ("set 01a6 0000004000000001" ∷ "ok" ∷ []); said = none }
+    ∷ record { reply = typed ("turn" ∷ []); said = none }
+    ∷ record { reply = typed ("ok" ∷ "" ∷ []); said = none }
+    ∷ record { reply = tabbed "ok"; said = none }
+    ∷ []
+
+-- each is read so
+abbrev pub Readings : Type 0
+Readings = map (λ (r : Reading). replySays (r .reply)) readings ≡ map (λ (r : Reading). r .said) readings

@@ -1,0 +1,220 @@
+-- Demand 3 of lines: demand 3 of the calls that they make, each call found at its line, and what the lines' replies say. Assumes nothing.
+--     turn-found            a completed turn in its place among the calls
+--     dropped-by, taken-by  the lines that drop and take
+use mathlib.Core.Path.{_≡_, refl, ap, subst, _∙_}
+use mathlib.Core.Logic.{_≢_, _⊎_, inl, inr}
+use mathlib.Core.Bool.{false}
+use mathlib.Core.List.{List, [], _∷_, _++_, map, map-append, append-assoc, append-nil, List·Memᴰ, List·Memᴰ·not-nil, List·Memᴰ·cases-cons}
+use mathlib.Core.Option.{Option, none, some}
+use Prim.Native.Nat.{ℕ, zero, suc, _+_, _≤_}
+use native.Mathlib.Omega.{arith}
+use lib.ListN.{length, take}
+use Rattle.requests.specs.declared.Setup.{Setup}
+use Rattle.requests.specs.declared.Entry.{Entry}
+use Rattle.requests.specs.declared.Refusal.{Refusal}
+use Rattle.requests.specs.declared.Answer.the-variants.{Accepted, Refused}
+use Rattle.requests.specs.Refusals.{answerFor}
+use Rattle.plans.specs.Places.{countersOf}
+use Rattle.plans.specs.Legal.{counters}
+use Rattle.layouts.specs.Writes.{writes}
+use Rattle.sessions.specs.declared.Session.{Session}
+use Rattle.sessions.specs.Turns.{requestsOf, taken, passed, turned, assign}
+use Rattle.sessions.specs.Calls.{Call, Plain, notOpen, opened}
+use Rattle.sessions.specs.Calls as calls
+use Rattle.sessions.specs.Table.{refusal}
+use Rattle.sessions.specs.Plain.{step, run, completes, completed}
+use Rattle.sessions.specs.Sessions.{queueLimit, plainOf, refusedBy, turnOf, planOf, answerTo, nextSession, sessionAfter, queueAfter}
+use Rattle.sessions.specs.Completed.{CompletedTurn, turnIf, turnsBy, turnsOf}
+use Rattle.sessions.specs.Sound.{Sound}
+use Rattle.sessions.specs.DistinctIds.{Distinct}
+use Rattle.sessions.specs.Demand3.{InOneOf, Dropped}
+use Rattle.sessions.proofs.Lists.{all-joined, pairwise-right}
+use Rattle.sessions.proofs.Agreed.{answer-is, next-is, agreement}
+use Rattle.sessions.proofs.TableAnswers.{turn-closed}
+use Rattle.sessions.proofs.SoundKept.{sound-turned, well-formed}
+use Rattle.sessions.proofs.Demand3.{demand3}
+use Rattle.records.specs.Records.{Fits}
+use Rattle.records.specs.declared.Record.{Record}
+use Rattle.records.specs.declared.Record.the-variants.{Open, Add, Drop, Turn}
+use Rattle.answers.specs.Reader.{Said, Answers}
+use Rattle.answers.specs.LinesAreCalls.{callOf, takesOf, setsOf}
+use Rattle.answers.specs.LineLists.{callsBy}
+use Rattle.answers.specs.Demand3OfLines.{DroppedBy, TakenBy, Demand3OfLines}
+use Rattle.answers.proofs.LineLists.{LineOf, line-of, calls-append, run-append}
+use Rattle.answers.proofs.LinesSay.{lines-say}
+use Rattle.answers.proofs.GivenTo.{given-append, given-end, Placed, placed}
+
+-- ---- a completed turn in its place among the calls
+
+-- what one call completes: no turn, or one, of an open queue
+data Completing (p : Plain) (s : Session) (c : Call) : Type 0 where
+  nothing : turnsBy p s c ≡ [] → completes queueLimit p c ≡ 0 → Completing p s c
+  one : (room : ℕ) (t : CompletedTurn) → c ≡ calls.Turn room → p ≡ opened (t .setup) (t .queue) → turnsBy p s c ≡ t ∷ [] → completes queueLimit p c ≡ 1
+      → Completing p s c
+
+completing-turn : (x : Setup) (q : List Entry) (s : Session) (room : ℕ) → plainOf s ≡ opened x q → Completing (opened x q) s (calls.Turn room)
+unfolding turnsBy completes turnIf answerTo refusedBy answerFor
+completing-turn x q s room same = go (refusal queueLimit (opened x q) (calls.Turn room)) refl
+  where
+    go : (y : Option Refusal) → refusal queueLimit (opened x q) (calls.Turn room) ≡ y → Completing (opened x q) s (calls.Turn room)
+    go none e =
+        let accepted : turnOf s room .answer ≡ Accepted = answer-is s (calls.Turn room) ∙ rw (same, e) in
+        one room (record { setup = x; queue = q; plan = planOf (turnOf s room) }) refl refl (rw accepted) (rw e)
+    go (some y) e =
+        let rejected : turnOf s room .answer ≡ Refused y = answer-is s (calls.Turn room) ∙ rw (same, e) in
+        nothing (rw rejected) (rw e)
+
+completing : (p : Plain) (s : Session) (c : Call) → plainOf s ≡ p → Completing p s c
+unfolding turnsBy completes
+completing notOpen s (calls.Open o) same = nothing refl refl
+completing notOpen s (calls.Add id r) same = nothing refl refl
+completing notOpen s (calls.Drop id) same = nothing refl refl
+completing notOpen s (calls.Turn room) same = nothing refl (rw (turn-closed queueLimit room))
+completing (opened x q) s (calls.Open o) same = nothing refl refl
+completing (opened x q) s (calls.Add id r) same = nothing refl refl
+completing (opened x q) s (calls.Drop id) same = nothing refl refl
+completing (opened x q) s (calls.Turn room) same = completing-turn x q s room same
+
+-- the turn t among calls, after at most n others, where the plain queue has its setup and its queue
+record Found (p : Plain) (cs : List Call) (n : ℕ) (t : CompletedTurn) : Type 0 where
+  since : List Call
+  room : ℕ
+  rest : List Call
+  split : cs ≡ since ++ calls.Turn room ∷ rest
+  early : completed queueLimit p since ≤ n
+  there : run queueLimit p since ≡ opened (t .setup) (t .queue)
+
+-- with a call in front
+found-later : (p : Plain) (c : Call) (cs : List Call) (n m : ℕ) (t : CompletedTurn) → completes queueLimit p c + n ≤ m → Found (step queueLimit p c) cs n t → Found p (c ∷ cs) m t
+unfolding completed run
+found-later p c cs n m t more f =
+    record {
+      since = c ∷ f .since;
+      room = f .room;
+      rest = f .rest;
+      split = ap (λ (x : List Call). c ∷ x) (f .split);
+      early = omega (arith, f .early);
+      there = f .there;
+    }
+
+turn-found : (cs : List Call) (p : Plain) (s : Session) → plainOf s ≡ p → (n : ℕ) (t : CompletedTurn) → List·Memᴰ t (take (suc n) (turnsOf p s cs)) → Found p cs n t
+unfolding turnsOf completed run
+turn-found [] p s same n t m = absurd (List·Memᴰ·not-nil m)
+turn-found (c ∷ cs) p s same n t m =
+    go (completing p s c same) m (turn-found cs (step queueLimit p c) (nextSession s c) (next-is s c ∙ ap (λ (x : Plain). step queueLimit x c) same))
+  where
+    rest : List CompletedTurn
+    rest = turnsOf (step queueLimit p c) (nextSession s c) cs
+
+    -- a later turn than the first
+    later : completes queueLimit p c ≡ 1 → (k : ℕ) → List·Memᴰ t (take k rest)
+        → ((j : ℕ) (u : CompletedTurn) → List·Memᴰ u (take (suc j) rest) → Found (step queueLimit p c) cs j u) → Found p (c ∷ cs) k t
+    later count zero l below = absurd (List·Memᴰ·not-nil l)
+    later count (suc k) l below = found-later p c cs k (suc k) t (omega arith) (below k t l)
+
+    -- the first turn, or a later one
+    either-turn : (room : ℕ) (u : CompletedTurn) → c ≡ calls.Turn room → p ≡ opened (u .setup) (u .queue) → completes queueLimit p c ≡ 1 → (t ≡ u) ⊎ List·Memᴰ t (take n rest)
+        → ((j : ℕ) (v : CompletedTurn) → List·Memᴰ v (take (suc j) rest) → Found (step queueLimit p c) cs j v) → Found p (c ∷ cs) n t
+    either-turn room u is at count (inl k) below =
+        record { since = []; room = room; rest = cs; split = ap (λ (x : Call). x ∷ cs) is; early = omega arith; there = rw k at }
+    either-turn room u is at count (inr l) below = later count n l below
+
+    go : Completing p s c → List·Memᴰ t (take (suc n) (turnsBy p s c ++ rest))
+        → ((j : ℕ) (u : CompletedTurn) → List·Memᴰ u (take (suc j) rest) → Found (step queueLimit p c) cs j u) → Found p (c ∷ cs) n t
+    go (nothing empty count) l below = found-later p c cs n n t (omega arith) (below n t (rw empty at l))
+    go (one room u is at turns count) l below = either-turn room u is at count (List·Memᴰ·cases-cons (rw turns at l)) below
+
+-- ---- the records of calls
+
+drop-only : (r : Record) (id : ℕ) → callOf r ≡ calls.Drop id → r ≡ Drop id
+unfolding callOf
+drop-only (Open d u) id e = let z : _≡_ {A = ℕ} 0 1 = cc in absurd (omega arith)
+drop-only (Add i r) id e = let z : _≡_ {A = ℕ} 0 1 = cc in absurd (omega arith)
+drop-only (Drop i) id e = let is : i ≡ id = cc in ap Drop is
+drop-only Turn id e = let z : _≡_ {A = ℕ} 0 1 = cc in absurd (omega arith)
+
+turn-only : (r : Record) (room : ℕ) → callOf r ≡ calls.Turn room → r ≡ Turn
+unfolding callOf
+turn-only (Open d u) room e = let z : _≡_ {A = ℕ} 0 1 = cc in absurd (omega arith)
+turn-only (Add i r) room e = let z : _≡_ {A = ℕ} 0 1 = cc in absurd (omega arith)
+turn-only (Drop i) room e = let z : _≡_ {A = ℕ} 0 1 = cc in absurd (omega arith)
+turn-only Turn room e = refl
+
+-- ---- the lines
+
+-- the ids taken are distinct
+taken-distinct : (s : Setup) (q : List Entry) → Sound queueLimit s q → Distinct (taken s q)
+unfolding turned
+taken-distinct s q sound =
+    pairwise-right (map (λ (e : Entry). e .id) (passed s q))
+    (rw (map-append (λ (e : Entry). e .id) (passed s q) (taken s q)) at (sound-turned queueLimit s q sound .distinct))
+
+module _ (start : Session) (closed : start .opened ≡ false) (before after : List (List ℕ)) (p : ℕ) (e : Entry) where
+  -- the plain queue between them
+  from : Plain
+  from = queueAfter (callsBy before)
+
+  -- the plain queue after more lines
+  queue-since : (since : List (List ℕ)) (cs : List Call) → callsBy since ≡ cs → queueAfter (callsBy (before ++ since)) ≡ run queueLimit from cs
+  unfolding from
+  queue-since since cs is = rw (calls-append before since, is) (run-append queueLimit notOpen (callsBy before) cs)
+
+  dropped-by : Dropped queueLimit from (callsBy after) p e → DroppedBy start before after p e
+  unfolding from callOf
+  dropped-by d =
+      let l : LineOf after (d .since) (calls.Drop (e .id)) = line-of after (d .since) (calls.Drop (e .id)) (d .rest) (d .split) in
+      let is : l .asked ≡ Drop (e .id) = drop-only (l .asked) (e .id) (l .is) in
+      let other : Drop (e .id) ≢ Turn = λ n. let z : _≡_ {A = ℕ} 0 1 = cc in omega arith in
+      record {
+        since = l .since;
+        rest = l .rest;
+        split = l .split ∙ rw is;
+        answered = lines-say start closed (before ++ l .since) .accepted (Drop (e .id)) (subst Fits is (l .fits-fields)) other
+            (rw (queue-since (l .since) (d .since) (l .made)) (d .accepted));
+        early = rw (l .made) (d .early);
+        first = rw (l .made) (d .first);
+      }
+
+  taken-by : InOneOf (take (suc p) (turnsOf from (sessionAfter start (callsBy before)) (callsBy after))) e → TakenBy start before after p e
+  unfolding from counters
+  taken-by o =
+      let t : CompletedTurn = o .turn in
+      let f : Found from (callsBy after) p t = turn-found (callsBy after) from (sessionAfter start (callsBy before)) (agreement .stands start closed (callsBy before)) p t (o .member) in
+      let l : LineOf after (f .since) (calls.Turn (f .room)) = line-of after (f .since) (calls.Turn (f .room)) (f .rest) (f .split) in
+      let is : l .asked ≡ Turn = turn-only (l .asked) (f .room) (l .is) in
+      let there : queueAfter (callsBy (before ++ l .since)) ≡ opened (t .setup) (t .queue) = queue-since (l .since) (f .since) (l .made) ∙ f .there in
+      let told = lines-say start closed (before ++ l .since) .turn (t .setup) (t .queue) there in
+      let es : List Entry = taken (t .setup) (t .queue) in
+      let plan : List Said = takesOf (assign es (told .places)) in
+      let list : List Said = setsOf (writes (t .setup) (requestsOf es) (told .places)) in
+      let distinct : Distinct es = taken-distinct (t .setup) (t .queue) (well-formed (callsBy (before ++ l .since)) (t .setup) (t .queue) there) in
+      let g : Placed es (told .places) e = placed es (told .places) e (told .first .legal .allowed) distinct (o .in-plan .takes) in
+      record {
+        since = l .since;
+        rest = l .rest;
+        split = l .split ∙ rw is;
+        early = rw (l .made) (f .early);
+        setup = t .setup;
+        queue = t .queue;
+        there = there;
+        told = told;
+        said = plan ++ list ++ Answers none ∷ [];
+        answered = told .says;
+        place = g .place;
+        given = rw (append-assoc plan list (Answers none ∷ []), given-append (e .id) plan (list ++ Answers none ∷ []), given-end (e .id), append-nil) (g .given);
+        usable = all-joined countersOf (told .places) {a = g .place} (told .first .legal .usable-only) (g .among);
+        allowed = g .allowed;
+      }
+
+pub demand3-of-lines : Demand3OfLines
+unfolding from
+demand3-of-lines start closed before after ahead behind e waits enough = go (demand3 start closed (callsBy before) (callsBy after) ahead behind e waits enough)
+  where
+    p : ℕ
+    p = length ahead
+
+    go : Dropped queueLimit (queueAfter (callsBy before)) (callsBy after) p e
+        ⊎ InOneOf (take (suc p) (turnsOf (queueAfter (callsBy before)) (sessionAfter start (callsBy before)) (callsBy after))) e
+        → DroppedBy start before after p e ⊎ TakenBy start before after p e
+    go (inl d) = inl (dropped-by start closed before after p e d)
+    go (inr o) = inr (taken-by start closed before after p e o)
