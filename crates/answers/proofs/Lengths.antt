@@ -70,7 +70,7 @@ pub set-lines-length : (xs : List ℕ) → length (setLines xs) ≤ 13 * length 
 unfolding setLines lineOf bytes
 set-lines-length [] = omega arith
 set-lines-length (a ∷ []) = omega arith
-set-lines-length (a ∷ v ∷ rest) = simp length-append (omega (arith, hex-length 4 a, hex-length 16 v, set-lines-length rest))
+set-lines-length (a ∷ v ∷ rest) = simp (length-append, hex-length) (omega (arith, set-lines-length rest))
 
 pub answer-length : (a : Answer) → length (answerText a) ≤ 24
 unfolding answerText lineOf bytes

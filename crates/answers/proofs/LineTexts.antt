@@ -1,4 +1,4 @@
--- Laws of the lines of a reply: one request or one write more, and a `take` line in its parts.
+-- Laws of the lines of a reply: where numbers end, one request or one write more, and a `take` line in its parts.
 -- Assumes nothing.
 use mathlib.Core.Path.{_≡_, refl}
 use mathlib.Core.List.{List, [], _∷_, _++_, flatMap, append-assoc, append-nil}
@@ -13,6 +13,7 @@ use Rattle.plans.specs.declared.Place.the-variants.{Counter, WithRsp, Pair}
 use Rattle.plans.specs.Places.{countedOf}
 use Rattle.sessions.specs.declared.Assigned.{Assigned}
 use Rattle.records.specs.Text.{bytes, newline, hexText, decimalDigits, decimalText, lineOf}
+use Rattle.records.proofs.Hexes.{hex-length}
 use Rattle.answers.specs.Replies.{registerText, takeLines, setLines}
 use Rattle.answers.specs.Texts.{Put, takeStart}
 use Rattle.answers.proofs.Lengths.{decimal-length, joined-length, take-lines-length, set-lines-length}
@@ -20,6 +21,10 @@ use Rattle.answers.proofs.Lengths.{decimal-length, joined-length, take-
 -- where a number ends
 pub number-end : (number : ℕ) {d e : List ℕ} {at n : ℕ} → Put d at (decimalText number) e n → n ≤ at + 20
 number-end number p = omega (arith, p .place, decimal-length number)
+
+-- where hex of a width ends
+pub hex-end : (width number : ℕ) {d e : List ℕ} {at n : ℕ} → Put d at (hexText width number) e n → n ≡ at + width
+hex-end width number p = omega (arith, p .place, hex-length width number)
 
 -- ---- `take` lines
 
@@ -64,11 +69,6 @@ pub takes-length : (plan : List Assigned) (n : ℕ) → length (flatMap takeLine
 takes-length plan n = omega (arith, joined-length takeLines 136 take-lines-length (take n plan), length-take n plan)
 
 -- ---- `set` lines
-
--- the line of one write
-pub set-line : (a v : ℕ) → setLines (a ∷ v ∷ []) ≡ lineOf (bytes "set" ∷ hexText 4 a ∷ hexText 16 v ∷ [])
-unfolding setLines
-set-line a v = append-nil _
 
 -- the lines of the first n writes
 pub sets-length : (list : List ℕ) (n : ℕ) → length (setLines (take (2 * n) list)) ≤ 26 * n

@@ -74,7 +74,7 @@ record-text s Turn e = turn-fits s (turn-text (turnOf s turnRoom) (turnSlice s (
 parsed-text : (s : Session) (p : Parsed) → ¬ (parsedReply s p .text ≡ fourteen)
 unfolding parsedReply answerFor parsedRefusal
 parsed-text s (Line r) e = record-text s r e
-parsed-text s (Fault k) e = let same = ends-fourteen [] (Refused NotInGrammar) e in let z : _≡_ {A = ℕ} 0 1 = cc in omega arith
+parsed-text s (Fault k) e = let same = ends-fourteen [] _ e in let z : _≡_ {A = ℕ} 0 1 = cc in omega arith
 
 pub never-short : NeverShort
 unfolding answerLine fourteen

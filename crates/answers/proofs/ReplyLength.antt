@@ -7,12 +7,10 @@ use Rattle.requests.specs.Devices.{letterOf}
 use Rattle.sessions.specs.Sessions.{openOf, addOf, dropOf, turnOf, turnSlice, planOf}
 use Rattle.sessions.specs.declared.Session.{Session}
 use Rattle.sessions.specs.declared.TurnAnswered.{TurnAnswered}
-use Rattle.records.specs.Parse.{parsedRefusal}
 use Rattle.records.specs.declared.Record.{Record}
 use Rattle.records.specs.declared.Record.the-variants.{Open, Add, Drop, Turn}
 use Rattle.records.specs.declared.Parsed.the-variants.{Line, Fault}
 use Rattle.requests.specs.declared.Answer.{Answer}
-use Rattle.requests.specs.Refusals.{answerFor}
 use Rattle.answers.specs.Replies.{turnRoom, answerText, takeLines, replyOf, turnReply, recordReply, parsedReply}
 use Rattle.answers.specs.Written.{replyRoom}
 use Rattle.answers.specs.ReplyLength.{ReplyLength}
@@ -47,4 +45,4 @@ record-short s Turn = let l = turn-at-most s turnRoom in turn-short (turnOf s tu
 pub reply-length : ReplyLength
 unfolding parsedReply
 reply-length s (Line r) = record-short s r
-reply-length s (Fault k) = answer-short (answerFor (parsedRefusal (Fault k)))
+reply-length s (Fault k) = answer-short _
