@@ -18,3 +18,4 @@ pub mod FreeEvents
 pub mod PlanLengthHolds
 pub mod PartsHold
 pub mod AcceptanceTests
+pub mod ReachHolds

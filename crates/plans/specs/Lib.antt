@@ -15,3 +15,4 @@ pub mod Packed
 pub mod PlanTest
 pub mod PlanLength
 pub mod PlanTries
+pub mod Reach

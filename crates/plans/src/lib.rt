@@ -8,6 +8,7 @@ mod latency;
 mod left;
 mod offcore;
 pub mod packed;
+pub mod reach;
 mod remaining;
 pub mod rows;
 pub mod search;

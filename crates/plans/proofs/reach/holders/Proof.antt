@@ -1,0 +1,34 @@
+-- `reach::holders` is the table of `holdersOf`, number for number.
+use mathlib.Core.Path.{_≡_, refl}
+use native.Mathlib.Omega.{arith}
+use borrow.Author.Needs.{needs}
+use Rattle.plans.specs.Reach.{holdersOf}
+use Rattle.plans.proofs.reach.holders.Statement.{statement}
+use Rattle.plans.proofs.reach.holders.Tie as tie
+
+returns : tie.Need-returns
+unfolding holdersOf
+returns c = search needs
+
+returns-2 : tie.Need-returns-2
+unfolding holdersOf
+returns-2 c = search needs
+
+returns-3 : tie.Need-returns-3
+unfolding holdersOf
+returns-3 c = search needs
+
+returns-4 : tie.Need-returns-4
+unfolding holdersOf
+returns-4 c = search needs
+
+returns-5 : tie.Need-returns-5
+unfolding holdersOf
+returns-5 c = search needs
+
+returns-6 : tie.Need-returns-6
+unfolding holdersOf
+returns-6 c = let e : c .before .args .k ≡ 5 = omega (arith, c .before .pre) in rw e refl
+
+pub holders-spec : {M : Type 1} → statement M
+holders-spec = tie.close (tie.spec returns returns-2 returns-3 returns-4 returns-5 returns-6)
