@@ -13,6 +13,7 @@ use Rattle.requests.specs.declared.Request.{Request}
 use Rattle.requests.specs.declared.Request.the-variants.{Event, Packet, Offcore, Latency}
 use Rattle.requests.specs.Choice.{pick}
 use Rattle.requests.specs.Bits.{latencyWord}
+use Rattle.requests.specs.Devices.{has}
 use Rattle.plans.specs.declared.Register.{Register}
 use Rattle.plans.specs.declared.Register.the-variants.{Word}
 use Rattle.plans.specs.declared.Room.{Room}
@@ -24,6 +25,7 @@ use Rattle.plans.specs.Rows.{setOf, requestOf, requestAt}
 use Rattle.plans.specs.Counters.{available}
 use Rattle.plans.specs.Left.{withoutCounter, withRsp0, withRsp1, withPacket}
 use Rattle.plans.specs.Filters.{wordAt, askedPacket, rspOf, filterOf, roomOf}
+use Rattle.plans.proofs.CounterBits.{not-available, chosen-same}
 
 -- ---- the user of a register
 
@@ -101,6 +103,11 @@ pub counter-missing : (a : CounterSet) (k : ℕ) (m : Room) → available a (m .
 unfolding available takeCounter
 counter-missing a k m h = rw h
 
+-- the counters of `a` that are free, in place of `a`
+pub counter-chosen : (a choice : CounterSet) (k : ℕ) (m : Room) → has choice k ≡ available a (m .free) k → takeCounter a k m ≡ takeCounter choice k m
+unfolding takeCounter available
+counter-chosen a choice k m chosen = rw (chosen-same a (m .free) choice k chosen)
+
 pick-then : (b : Bool) (m : Room) (f : Room → Admission) → andThen (pick b (Admitted m) NoRoom) f ≡ pick b (f m) NoRoom
 pick-then true m f = refl
 pick-then false m f = refl
@@ -121,6 +128,31 @@ offcoreTaken rows a held0 held1 left0 left1 k j =
 abbrev pub pairTaken : List ℕ → CounterSet → CounterSet → Left → ℕ → ℕ → Admission
 pairTaken rows a b used j k = andThen (takeCounter a j (roomOf rows used)) (takeCounter b k)
 
+-- the counters of `a` that are free, in place of `a`
+module _ (rows : List ℕ) (choice : CounterSet) where
+  pub offcore-chosen : (a : CounterSet) (held0 held1 : Bool) (left0 left1 : Left) (k j : ℕ) → has choice k ≡ available a (left0 .free) k → has choice k ≡ available a (left1 .free) k
+      → offcoreTaken rows a held0 held1 left0 left1 k j ≡ offcoreTaken rows choice held0 held1 left0 left1 k j
+  offcore-chosen a held0 held1 left0 left1 k j p q = rw (counter-chosen a choice k (roomOf rows left0) p, counter-chosen a choice k (roomOf rows left1) q)
+
+  pub offcore-missing : (held0 held1 : Bool) (left0 left1 : Left) (k j : ℕ) → has choice k ≡ false → offcoreTaken rows choice held0 held1 left0 left1 k j ≡ NoRoom
+  offcore-missing held0 held1 left0 left1 k j h =
+      rw (counter-missing choice k (roomOf rows left0) (not-available choice (left0 .free) k h), counter-missing choice k (roomOf rows left1) (not-available choice (left1 .free) k h))
+      (rw (neither held0, neither held1) (neither (eqb j 0)))
+    where
+      neither : (b : Bool) → pick b NoRoom NoRoom ≡ NoRoom
+      neither true = refl
+      neither false = refl
+
+  module _ (b : CounterSet) (used : Left) (j : ℕ) where
+    pub pair-chosen : (a : CounterSet) (k : ℕ) → has choice j ≡ available a (used .free) j → pairTaken rows a b used j k ≡ pairTaken rows choice b used j k
+    pair-chosen a k p = rw (counter-chosen a choice j (roomOf rows used) p)
+
+    pub pair-first : (after : Left) (k : ℕ) → available choice (used .free) j ≡ true → after ≡ withoutCounter used j → pairTaken rows choice b used j k ≡ takeCounter b k (roomOf rows after)
+    pair-first after k h e = rw (counter-taken rows choice j used after h e)
+
+    pub pair-missing : (k : ℕ) → has choice j ≡ false → pairTaken rows choice b used j k ≡ NoRoom
+    pair-missing k h = rw (counter-missing choice j (roomOf rows used) (not-available choice (used .free) j h))
+
 module _ (rows : List ℕ) (at : ℕ) (left : Left) where
   abbrev room : Room
   room = roomOf rows left
@@ -135,21 +167,12 @@ module _ (rows : List ℕ) (at : ℕ) (left : Left) where
     unfolding admit takePacket
     packet-differs h = rw h
 
-  pub offcore-asked : (w : ℕ) (a : CounterSet) (held0 held1 : Bool) (left0 left1 : Left) → left0 ≡ withRsp0 left (at + 1) → left1 ≡ withRsp1 left (at + 1)
-      → Offcore w a ≡ requestAt rows at → held0 ≡ holds (room .rsp0) w → held1 ≡ holds (room .rsp1) w
-      → (k j : ℕ) → admit (Offcore w a) k j room ≡ offcoreTaken rows a held0 held1 left0 left1 k j
+  pub offcore-asked : (w : ℕ) (a : CounterSet) (held0 held1 : Bool) → Offcore w a ≡ requestAt rows at → held0 ≡ holds (room .rsp0) w → held1 ≡ holds (room .rsp1) w
+      → (k j : ℕ) → admit (Offcore w a) k j room ≡ offcoreTaken rows a held0 held1 (withRsp0 left (at + 1)) (withRsp1 left (at + 1)) k j
   unfolding admit takeWord
-  offcore-asked w a held0 held1 left0 left1 u v r f g k j =
-      rw (← f, ← g, u, v, offcore-used rows at 0 w a r, offcore-used rows at 1 w a r)
+  offcore-asked w a held0 held1 r f g k j =
+      rw (← f, ← g, offcore-used rows at 0 w a r, offcore-used rows at 1 w a r)
       (either-then (eqb j 0) held0 held1 _ _ (takeCounter a k))
-
-  pub words-differ : (w : ℕ) (a : CounterSet) → holds (room .rsp0) w ≡ false → holds (room .rsp1) w ≡ false → (k j : ℕ) → admit (Offcore w a) k j room ≡ NoRoom
-  unfolding admit takeWord
-  words-differ w a f g k j = rw (f, g) (go (eqb j 0))
-    where
-      go : (b : Bool) → andThen (pick b NoRoom NoRoom) (takeCounter a k) ≡ NoRoom
-      go true = refl
-      go false = refl
 
   module _ (t : ℕ) (a b : CounterSet) (j k : ℕ) where
     pub latency-held : (half used : Left) → half ≡ withRsp0 left (at + 1) → used ≡ withRsp1 half (at + 1) → Latency t a b ≡ requestAt rows at

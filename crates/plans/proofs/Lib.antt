@@ -4,10 +4,14 @@ pub mod Lawful
 pub mod Strict
 pub mod FirstFound
 mod CounterBits
+mod NextCounters
+mod OwnCounters
 pub mod RequestRows
 pub mod Unpacking
+mod Leaving
 mod Admitting
 mod Trying
+mod SecondCounters
 mod Giving
 pub mod PlanTestHolds
 pub mod Sublists

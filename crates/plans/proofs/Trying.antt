@@ -1,10 +1,10 @@
 -- The places of a request tried in order give the plan of the requests that remain. Assumes nothing.
 use mathlib.Core.Path.{_≡_, refl, sym, _∙_}
-use mathlib.Core.Bool.{true}
+use mathlib.Core.Bool.{Bool, true, false}
 use mathlib.Core.List.{List, [], _∷_}
 use mathlib.Core.Option.{Option, none, some}
 use Prim.Native.Nat.{ℕ, zero, suc, _+_, _-_, _*_, _/_, _%_, _<_, _≤_}
-use native.Mathlib.Nat.{mul-le-mul, sub-zero, suc-mul, mul-one}
+use native.Mathlib.Nat.{mul-le-mul, sub-zero, suc-mul, mul-one, le-refl, le-div-iff-mul-le, div-lt-iff-lt-mul}
 use native.Mathlib.Numerals.{add-one}
 use native.Mathlib.Omega.{arith}
 use lib.Arith.{digits-lt, digits-div, digits-mod}
@@ -13,7 +13,8 @@ use Rattle.requests.specs.declared.Device.{Device}
 use Rattle.requests.specs.declared.Setup.{Setup}
 use Rattle.requests.specs.declared.Request.{Request}
 use Rattle.requests.specs.declared.Request.the-variants.{Event, Packet, Offcore, Latency}
-use Rattle.requests.specs.Devices.{counterCount}
+use Rattle.requests.specs.Choice.{both, pick}
+use Rattle.requests.specs.Devices.{has, counterCount}
 use Rattle.plans.specs.declared.Place.{Place}
 use Rattle.plans.specs.declared.Place.the-variants.{Counter}
 use Rattle.plans.specs.declared.Room.{Room}
@@ -23,12 +24,13 @@ use Rattle.plans.specs.declared.Admission.the-variants.{Admitted, NoRoom
 use Rattle.plans.specs.Places.{first, second}
 use Rattle.plans.specs.Search.{emptyRoom, holdsPacket, takeCounter, placeOf, admit, width, firstFrom, putFirst, thenRest, tryNumber, planIn, firstPlan}
 use Rattle.plans.specs.Rows.{requestAt, rowsFrom}
-use Rattle.plans.specs.Left.{withPacket}
+use Rattle.plans.specs.Counters.{available}
+use Rattle.plans.specs.Left.{withoutCounter, withPacket}
 use Rattle.plans.specs.Filters.{filterOf, roomOf}
 use Rattle.plans.specs.Remaining.{on, planFrom, planAfter, counterFirst, planCounter}
 use Rattle.plans.specs.Packed.{codeOf, packed}
 use Rattle.plans.proofs.RequestRows.{rows-next}
-use Rattle.plans.proofs.Admitting.{packet-held}
+use Rattle.plans.proofs.Admitting.{counter-taken, counter-missing, counter-chosen, packet-held}
 use Rattle.plans.proofs.Unpacking.{none-packed, place-first, place-second}
 
 -- ---- numbered tries: number p gives the place before the rest, whose packed plan is x
@@ -56,10 +58,35 @@ try-done : (try : ℕ → Option (List Place)) (p total : ℕ) → total ≤ p �
 unfolding firstFrom
 try-done try p total l = let z : total - p ≡ 0 = omega arith in rw z
 
+-- one try, and those after it
+pub first-none : (try : ℕ → Option (List Place)) (p left : ℕ) → try p ≡ none → firstFrom try p (suc left) ≡ firstFrom try (suc p) left
+unfolding firstFrom
+first-none try p left e = rw (e, firstFrom)
+
+pub first-some : (try : ℕ → Option (List Place)) (p left : ℕ) (ps : List Place) → try p ≡ some ps → firstFrom try p (suc left) ≡ some ps
+unfolding firstFrom
+first-some try p left ps e = rw (e, firstFrom)
+
 none-tried : (try : ℕ → Option (List Place)) → ((p : ℕ) → try p ≡ none) → (p left : ℕ) → firstFrom try p left ≡ none
 unfolding firstFrom
 none-tried try h p zero = refl
 none-tried try h p (suc left) = rw (h p, firstFrom) (none-tried try h (suc p) left)
+
+-- tries that give nothing are passed over
+tries-skipped : (try : ℕ → Option (List Place)) (total p q : ℕ) → p ≤ q → ((i : ℕ) → p ≤ i → i < q → try i ≡ none) → firstFrom try p (total - p) ≡ firstFrom try q (total - q)
+unfolding firstFrom
+tries-skipped try total p q l h = go (q - p) p (omega arith) h
+  where
+    step : (r : ℕ) → try r ≡ none → firstFrom try r (total - r) ≡ firstFrom try (suc r) (total - suc r)
+    step r e = past (total - r) refl
+      where
+        past : (left : ℕ) → total - r ≡ left → firstFrom try r left ≡ firstFrom try (suc r) (total - suc r)
+        past zero z = let y : total - suc r ≡ 0 = omega arith in rw y
+        past (suc left) z = let y : total - suc r ≡ left = omega arith in rw (y, e, firstFrom)
+
+    go : (gap r : ℕ) → r + gap ≡ q → ((i : ℕ) → r ≤ i → i < q → try i ≡ none) → firstFrom try r (total - r) ≡ firstFrom try q (total - q)
+    go zero r e f = let same : r ≡ q = omega arith in rw same
+    go (suc gap) r e f = step r (f r (omega arith) (omega arith)) ∙ go gap (suc r) (omega arith) (λ i a b. f i (omega arith) b)
 
 -- ---- the request in row `at`
 
@@ -73,6 +100,16 @@ module _ (d : Device) (rows : List ℕ) (at count : ℕ) where
   unfolding thenRest putFirst
   rest-planned p (Admitted room) = refl
   rest-planned p NoRoom = refl
+
+  -- a counter is taken where the register is held, and the plan of the rest is x
+  module _ (a : CounterSet) (k : ℕ) (left : Left) (held : Bool) (x : ℕ) where
+    pub held-taken : (after : Left) (y : ℕ) → held ≡ true → available a (left .free) k ≡ true → after ≡ withoutCounter left k
+        → y ≡ packed (planFrom d rows at count (roomOf rows after)) → x ≡ y → x ≡ packed (planAfter d rows at count (pick held (takeCounter a k (roomOf rows left)) NoRoom))
+    held-taken after y h free e planned is = rw (h, counter-taken rows a k left after free e, is) planned
+
+    pub held-not : held ≡ false → x ≡ 0 → x ≡ packed (planAfter d rows at count (pick held (takeCounter a k (roomOf rows left)) NoRoom))
+    unfolding packed
+    held-not h z = rw h z
 
 -- the try of place number p
 abbrev tries : Device → List ℕ → ℕ → ℕ → Request → Room → ℕ → Option (List Place)
@@ -92,37 +129,48 @@ module _ (d : Device) (rows : List ℕ) (at count : ℕ) (r : Request) (taken : 
   abbrev try : ℕ → Option (List Place)
   try = triesTaking d rows at count r taken
 
-  pub tries-begin : (m : Room) (n w : ℕ) → at < count → r ≡ requestAt rows at → n ≡ counterCount d → w ≡ width (on d) r
-      → ((k j : ℕ) → admit r k j m ≡ taken k j) → planFrom d rows at count m ≡ triesFrom n w try 0 0
+  -- `asked` is the row's request, and `r` has the same places
+  pub tries-begin : (asked : Request) (m : Room) (n w : ℕ) → at < count → asked ≡ requestAt rows at → n ≡ counterCount d → w ≡ width (on d) asked
+      → w ≡ width (on d) r → ((k j : ℕ) → placeOf asked k j ≡ placeOf r k j) → ((k j : ℕ) → admit asked k j m ≡ taken k j)
+      → planFrom d rows at count m ≡ triesFrom n w try 0 0
   unfolding planIn tryNumber triesTaking
-  tries-begin m n w l e f g same =
+  tries-begin asked m n w l e f g h places same =
       let z : 0 * w + 0 ≡ 0 = omega arith in
       rw (rows-next rows at count l, ← e, ← g, ← f, z) (rw (sub-zero (n * w)) (λ i. firstFrom (λ p. number p i) 0 (n * w)))
     where
-      number : (p : ℕ) → tries d rows at count r m p ≡ try p
-      number p = rw (same (p / width (on d) r) (p % width (on d) r))
+      number : (p : ℕ) → tries d rows at count asked m p ≡ try p
+      number p = rw (← g, ← h, places (p / w) (p % w), same (p / w) (p % w))
 
-  module _ (n w k j : ℕ) (e : w ≡ width (on d) r) (l : j < w) (below : k < n) (x : ℕ) (g : x ≡ packed (planAfter d rows (at + 1) count (taken k j))) where
-    inside : k * w + j < n * w
-    inside = digits-lt below l
-
-    tried : try (k * w + j) ≡ putFirst (placeOf r k j) (planAfter d rows (at + 1) count (taken k j))
+  module _ (w k j : ℕ) (e : w ≡ width (on d) r) (l : j < w) where
+    pub place-tried : try (k * w + j) ≡ putFirst (placeOf r k j) (planAfter d rows (at + 1) count (taken k j))
     unfolding triesTaking
-    tried = rw (← e, digits-div k l, digits-mod k l) (rest-planned d rows (at + 1) count (placeOf r k j) (taken k j))
+    place-tried = rw (← e, digits-div k l, digits-mod k l) (rest-planned d rows (at + 1) count (placeOf r k j) (taken k j))
 
-    pub tries-hit : (x ≡ 0 → ⊥) → x * 64 + k * 8 + j ≡ packed (triesFrom n w try k j)
-    tries-hit plan = rw (place-first r k j, place-second (on d) r k j (rw (← e) l)) at (try-hit try (k * w + j) (n * w) (placeOf r k j) _ x inside tried g plan)
+    module _ (n : ℕ) (below : k < n) (x : ℕ) (g : x ≡ packed (planAfter d rows (at + 1) count (taken k j))) where
+      inside : k * w + j < n * w
+      inside = digits-lt below l
 
-    pub tries-next : x ≡ 0 → triesFrom n w try k j ≡ triesFrom n w try k (j + 1)
-    tries-next z =
-        let s : k * w + (j + 1) ≡ k * w + j + 1 = omega arith in
-        rw s (try-next try (k * w + j) (n * w) (placeOf r k j) _ x inside tried g z)
+      pub tries-hit : (x ≡ 0 → ⊥) → x * 64 + k * 8 + j ≡ packed (triesFrom n w try k j)
+      tries-hit plan = rw (place-first r k j, place-second (on d) r k j (rw (← e) l)) at (try-hit try (k * w + j) (n * w) (placeOf r k j) _ x inside place-tried g plan)
 
-    pub tries-carry : x ≡ 0 → j + 1 ≡ w → triesFrom n w try k j ≡ triesFrom n w try (k + 1) 0
-    tries-carry z c =
-        let row : (k + 1) * w ≡ k * w + w = rw (add-one k) (suc-mul k w) in
-        let s : (k + 1) * w + 0 ≡ k * w + j + 1 = omega (arith, row) in
-        rw s (try-next try (k * w + j) (n * w) (placeOf r k j) _ x inside tried g z)
+      pub tries-next : x ≡ 0 → triesFrom n w try k j ≡ triesFrom n w try k (j + 1)
+      tries-next z =
+          let s : k * w + (j + 1) ≡ k * w + j + 1 = omega arith in
+          rw s (try-next try (k * w + j) (n * w) (placeOf r k j) _ x inside place-tried g z)
+
+      pub tries-carry : x ≡ 0 → j + 1 ≡ w → triesFrom n w try k j ≡ triesFrom n w try (k + 1) 0
+      tries-carry z c =
+          let row : (k + 1) * w ≡ k * w + w = rw (add-one k) (suc-mul k w) in
+          let s : (k + 1) * w + 0 ≡ k * w + j + 1 = omega (arith, row) in
+          rw s (try-next try (k * w + j) (n * w) (placeOf r k j) _ x inside place-tried g z)
+
+  -- counters that are not there are passed over
+  pub places-skipped : (n w k l : ℕ) → w ≡ width (on d) r → 1 ≤ w → k ≤ l → ((i : ℕ) → k ≤ i → i < l → (j : ℕ) → taken i j ≡ NoRoom)
+      → triesFrom n w try k 0 ≡ triesFrom n w try l 0
+  unfolding triesTaking thenRest
+  places-skipped n w k l e wide lower missing =
+      tries-skipped try (n * w) (k * w + 0) (l * w + 0) (omega (arith, mul-le-mul lower (le-refl w)))
+      (λ p from below. rw (← e, missing (p / w) (le-div-iff-mul-le wide .1 (omega arith)) (div-lt-iff-lt-mul wide .1 (omega arith)) (p % w)))
 
 pub tries-done : (n w k j : ℕ) (try : ℕ → Option (List Place)) → n ≤ k → triesFrom n w try k j ≡ none
 tries-done n w k j try h =
@@ -139,7 +187,7 @@ nowhere-admitted d rows at count m r l e h =
 -- ---- a request that takes one counter
 
 -- its place number p is counter p
-pub counter-plan : (d : Device) (rows : List ℕ) (at count : ℕ) (m room : Room) (r : Request) (a : CounterSet) → at < count → r ≡ requestAt rows at
+counter-plan : (d : Device) (rows : List ℕ) (at count : ℕ) (m room : Room) (r : Request) (a : CounterSet) → at < count → r ≡ requestAt rows at
     → width (on d) r ≡ 1 → ((k : ℕ) → placeOf r k 0 ≡ Counter k) → ((k : ℕ) → admit r k 0 m ≡ takeCounter a k room)
     → planFrom d rows at count m ≡ planCounter d rows (at + 1) count a room
 unfolding planIn tryNumber counterFirst
@@ -171,19 +219,32 @@ module _ (d : Device) (rows : List ℕ) (next count : ℕ) (a : CounterSet) (roo
   abbrev pub counters : ℕ → Option (List Place)
   counters = counterFirst d rows next count a room
 
-  module _ (n k x : ℕ) (l : k < n) (g : x ≡ packed (planAfter d rows next count (takeCounter a k room))) where
-    counter-tried : counters k ≡ putFirst (Counter k) (planAfter d rows next count (takeCounter a k room))
-    unfolding counterFirst
-    counter-tried = rest-planned d rows next count (Counter k) (takeCounter a k room)
+  pub counter-tried : (k : ℕ) → counters k ≡ putFirst (Counter k) (planAfter d rows next count (takeCounter a k room))
+  unfolding counterFirst
+  counter-tried k = rest-planned d rows next count (Counter k) (takeCounter a k room)
 
+  module _ (n k x : ℕ) (l : k < n) (g : x ≡ packed (planAfter d rows next count (takeCounter a k room))) where
     pub counter-hit : (x ≡ 0 → ⊥) → x * 64 + k * 8 ≡ packed (firstFrom counters k (n - k))
     unfolding first second
     counter-hit plan =
-        let h : x * 64 + k * 8 + 0 ≡ packed (firstFrom counters k (n - k)) = try-hit counters k n (Counter k) _ x l counter-tried g plan in
+        let h : x * 64 + k * 8 + 0 ≡ packed (firstFrom counters k (n - k)) = try-hit counters k n (Counter k) _ x l (counter-tried k) g plan in
         omega (arith, h)
 
     pub counter-next : x ≡ 0 → firstFrom counters k (n - k) ≡ firstFrom counters (k + 1) (n - (k + 1))
-    counter-next z = try-next counters k n (Counter k) _ x l counter-tried g z
+    counter-next z = try-next counters k n (Counter k) _ x l (counter-tried k) g z
+
+  -- counters that the set does not have are passed over
+  pub counters-skipped : (n p q : ℕ) → p ≤ q → ((i : ℕ) → p ≤ i → i < q → has a i ≡ false) → firstFrom counters p (n - p) ≡ firstFrom counters q (n - q)
+  unfolding counterFirst thenRest available both
+  counters-skipped n p q l h = tries-skipped counters n p q l (λ i x y. rw (counter-missing a i room (rw (h i x y))))
+
+  -- the counters of the set that are free, in place of the set
+  pub choice-plan : (choice : CounterSet) → ((k : ℕ) → has choice k ≡ available a (room .free) k) → planCounter d rows next count a room ≡ planCounter d rows next count choice room
+  unfolding counterFirst
+  choice-plan choice chosen = λ i. firstFrom (λ k. number k i) 0 (counterCount d)
+    where
+      number : (k : ℕ) → counterFirst d rows next count a room k ≡ counterFirst d rows next count choice room k
+      number k = rw (counter-chosen a choice k room (chosen k))
 
   pub counter-done : (n k : ℕ) → n ≤ k → firstFrom counters k (n - k) ≡ none
   counter-done n k l = try-done counters k n l

@@ -1,6 +1,7 @@
 -- Counters taken from the free ones.
-use mathlib.Core.Bool.{Bool}
-use Prim.Native.Nat.{ℕ, _-_, _^_}
+use mathlib.Core.Bool.{Bool, true, false}
+use mathlib.Core.Path.{_≡_}
+use Prim.Native.Nat.{ℕ, _-_, _^_, _<_, _≤_}
 use Rattle.requests.specs.declared.CounterSet.{CounterSet}
 use Rattle.requests.specs.Choice.{both}
 use Rattle.requests.specs.Devices.{has}
@@ -12,3 +13,9 @@ available allowed free k = both (has allowed k) (has free k)
 -- the set without counter k
 abbrev pub without : CounterSet → ℕ → CounterSet
 without set k = record { 0 = set .0 - 2 ^ k }
+
+-- r is the least counter of the set from k on, or, where there is none, past every set of 64 bits
+pub record NextIn (set : CounterSet) (k r : ℕ) : Type 0 where
+  pub not-before : k ≤ r
+  pub none-between : (i : ℕ) → k ≤ i → i < r → has set i ≡ false
+  pub there : r < 64 → has set r ≡ true

@@ -1,5 +1,7 @@
 -- What the requests placed so far leave, as it changes with each of them.
-use Prim.Native.Nat.{ℕ, _≤_}
+use Prim.Native.Nat.{ℕ, _^_, _<_, _≤_}
+use Rattle.requests.specs.declared.Device.{Device}
+use Rattle.requests.specs.Devices.{counterCount}
 use Rattle.plans.specs.declared.left.Left.{Left}
 use Rattle.plans.specs.Counters.{without}
 
@@ -7,18 +9,22 @@ use Rattle.plans.specs.Counters.{without}
 abbrev pub InRows : Left → Type 0
 InRows left = (left .rsp0 ≤ 8) × (left .rsp1 ≤ 8) × (left .packet ≤ 8)
 
--- the same without counter k
+-- no counter is free that the device does not have
+abbrev pub OnDevice : Device → Left → Type 0
+OnDevice d left = left .free .0 < 2 ^ counterCount d
+
+-- what is left without counter k
 abbrev pub withoutCounter : Left → ℕ → Left
 withoutCounter left k = record { free = without (left .free) k; rsp0 = left .rsp0; rsp1 = left .rsp1; packet = left .packet }
 
--- the same with RSP0 used
+-- what is left with RSP0 used
 abbrev pub withRsp0 : Left → ℕ → Left
 withRsp0 left user = record { free = left .free; rsp0 = user; rsp1 = left .rsp1; packet = left .packet }
 
--- the same with RSP1 used
+-- what is left with RSP1 used
 abbrev pub withRsp1 : Left → ℕ → Left
 withRsp1 left user = record { free = left .free; rsp0 = left .rsp0; rsp1 = user; packet = left .packet }
 
--- the same with the match/mask register used
+-- what is left with the match/mask register used
 abbrev pub withPacket : Left → ℕ → Left
 withPacket left user = record { free = left .free; rsp0 = left .rsp0; rsp1 = left .rsp1; packet = user }

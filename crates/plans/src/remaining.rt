@@ -2,14 +2,12 @@
 // Everywhere 0 is no plan. `next` is the row behind the request that is placed, and so also its number as a register's user.
 ghost use mathlib.Core.Path.{_≡_};
 ghost use Prim.Native.Nat.{_≤_};
-ghost use Rattle.requests.specs.Choice.{pick};
-ghost use Rattle.plans.specs.declared.Admission.the-variants.{NoRoom};
-ghost use Rattle.plans.specs.Search.{takeCounter};
-ghost use Rattle.plans.specs.Left.{InRows};
+ghost use Rattle.plans.specs.Left.{InRows, OnDevice};
 ghost use Rattle.plans.specs.Filters.{roomOf};
-ghost use Rattle.plans.specs.Remaining.{planFrom, planAfter, planCounter};
+ghost use Rattle.plans.specs.Remaining.{planFrom, planCounter};
 ghost use Rattle.plans.specs.Packed.{packed};
 use crate::counters::available;
+use crate::counters::next_in;
 use crate::filters::holds_packet;
 use crate::latency::place_latency;
 use crate::left::Left;
@@ -20,33 +18,10 @@ use crate::rows::request_at;
 use requests::CounterSet;
 use requests::Device;
 use requests::Request;
-use requests::devices::counter_count;
 
-// The plan from row `next` on, where counter k is taken for a request whose register is held.
-pub fn try_counter(
-    device: Device,
-    rows: &[u64; 32],
-    count: usize,
-    next: usize,
-    held: bool,
-    allowed: CounterSet,
-    k: u64,
-    left: Left,
-) -> u64
-    requires { ⌜ (count ≤ 8) × (next ≤ count) × InRows left ⌝ }
-    ensures { λ r. ⌜ r ≡ packed (planAfter device (now (rows .entry)) next count (pick held (takeCounter allowed k (roomOf (now (rows .entry)) left)) NoRoom)) ⌝ }
-{
-    if held {
-        let free = left.free;
-        if available(allowed, free, k) {
-            return place_from(device, rows, count, next, without_counter(left, k));
-        }
-    }
-    0
-}
-
-// The plan of a request that takes one counter, and of the rest from row `next` on: each counter is tried in order.
-fn place_counter(
+// The plan of a request that takes one counter, and of the rest from row `next` on: each counter that is allowed and free is tried in
+// order.
+pub fn place_counter(
     device: Device,
     rows: &[u64; 32],
     count: usize,
@@ -54,24 +29,25 @@ fn place_counter(
     allowed: CounterSet,
     left: Left,
 ) -> u64
-    requires { ⌜ (count ≤ 8) × (1 ≤ next) × (next ≤ count) × InRows left ⌝ }
+    requires { ⌜ (count ≤ 8) × (1 ≤ next) × (next ≤ count) × InRows left × OnDevice device left ⌝ }
     ensures { λ r. ⌜ r ≡ packed (planCounter device (now (rows .entry)) next count allowed (roomOf (now (rows .entry)) left)) ⌝ }
 {
-    let n = counter_count(device);
-    let mut k: u64 = 0;
-    while k < n {
-        let rest = try_counter(device, rows, count, next, true, allowed, k, left);
+    let free = left.free;
+    let choice = available(allowed, free);
+    let mut k = next_in(choice, 0);
+    while k < 64 {
+        let rest = place_from(device, rows, count, next, without_counter(left, k));
         if rest != 0 {
             return rest * 64 + k * 8;
         }
-        k += 1;
+        k = next_in(choice, k + 1);
     }
     0
 }
 
 // The plan from row `at` on: that row's request is given each of its places in order, and the rest is planned in the room that is left.
 pub fn place_from(device: Device, rows: &[u64; 32], count: usize, at: usize, left: Left) -> u64
-    requires { ⌜ (count ≤ 8) × (at ≤ count) × InRows left ⌝ }
+    requires { ⌜ (count ≤ 8) × (at ≤ count) × InRows left × OnDevice device left ⌝ }
     ensures { λ r. ⌜ r ≡ packed (planFrom device (now (rows .entry)) at count (roomOf (now (rows .entry)) left)) ⌝ }
 {
     if at == count {

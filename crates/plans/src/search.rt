@@ -6,7 +6,9 @@ ghost use Rattle.plans.specs.Rows.{rowsFrom};
 ghost use Rattle.plans.specs.Packed.{packed};
 use crate::left::Left;
 use crate::remaining::place_from;
+use requests::CounterSet;
 use requests::Setup;
+use requests::devices::all_counters;
 
 // The first plan of the requests in the first `count` rows, packed; 0 where there is none.
 pub fn plan_rows(setup: Setup, rows: &[u64; 32], count: usize) -> u64
@@ -16,7 +18,7 @@ pub fn plan_rows(setup: Setup, rows: &[u64; 32], count: usize) -> u64
     let device = setup.device;
     let usable = setup.usable;
     let left = Left {
-        free: usable,
+        free: CounterSet(usable.0 & all_counters(device)),
         rsp0: 0,
         rsp1: 0,
         packet: 0,

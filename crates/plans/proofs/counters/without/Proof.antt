@@ -14,13 +14,13 @@ shift : (k : ℕ) → k < 64 → 1 * 2 ^ k % 2 ^ 64 ≡ 2 ^ k
 shift k l = shl-exact 1 k 64 (lit< tt) (omega arith) ∙ one-mul (2 ^ k)
 
 shl-t3 : tie.Need-shl-t3
-shl-t3 c = has-below (c .args .set) (c .args .k) (omega arith) (c .pre)
+shl-t3 c = has-below 64 (c .args .set) (c .args .k) (omega arith) (c .pre)
 
 sub-t4 : tie.Need-sub-t4
-sub-t4 c = rw (shift (c .before .args .k) (omega (arith, has-below (c .before .args .set) (c .before .args .k) (omega arith) (c .before .pre)))) (has-le (c .before .args .set) (c .before .args .k) (c .before .pre))
+sub-t4 c = rw (shift (c .before .args .k) (omega (arith, has-below 64 (c .before .args .set) (c .before .args .k) (omega arith) (c .before .pre)))) (has-le (c .before .args .set) (c .before .args .k) (c .before .pre))
 
 returns : tie.Need-returns
-returns c = rw (shift (c .before .args .k) (omega (arith, has-below (c .before .args .set) (c .before .args .k) (omega arith) (c .before .pre))))
+returns c = rw (shift (c .before .args .k) (omega (arith, has-below 64 (c .before .args .set) (c .before .args .k) (omega arith) (c .before .pre))))
 
 pub without-spec : {M : Type 1} → statement M
 without-spec = tie.close (tie.spec shl-t3 sub-t4 returns)

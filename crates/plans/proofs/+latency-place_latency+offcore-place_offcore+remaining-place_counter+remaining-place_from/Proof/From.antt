@@ -5,12 +5,12 @@ use native.Mathlib.Omega.{arith}
 use Rattle.plans.specs.Filters.{roomOf}
 use Rattle.plans.proofs.Admitting.{packet-differs}
 use Rattle.plans.proofs.Trying.{none-remain, nowhere-admitted, event-plan, packet-plan}
-use Rattle.plans.proofs.+latency-place_latency+latency-try_pair+offcore-place_offcore+remaining-place_counter+remaining-place_from+remaining-try_counter.Proof.Measures.{place-counter-below, place-from-at, place-latency-below, place-offcore-below}
+use Rattle.plans.proofs.+latency-place_latency+offcore-place_offcore+remaining-place_counter+remaining-place_from.Proof.Measures.{place-counter-below, place-from-at, place-latency-below, place-offcore-below}
 use Rattle.plans.proofs.latency.place_latency.Reads as place-latency
 use Rattle.plans.proofs.offcore.place_offcore.Reads as place-offcore
 use Rattle.plans.proofs.remaining.place_counter.Reads as place-counter
 use Rattle.plans.proofs.remaining.place_from.Reads as place-from
-use Rattle.plans.proofs.+latency-place_latency+latency-try_pair+offcore-place_offcore+remaining-place_counter+remaining-place_from+remaining-try_counter.Lts-remaining-place_from as place-from-lts
+use Rattle.plans.proofs.+latency-place_latency+offcore-place_offcore+remaining-place_counter+remaining-place_from.Lts-remaining-place_from as place-from-lts
 use Rattle.plans.proofs.filters.holds_packet.Reads as holds-packet-reads
 use Rattle.plans.proofs.left.with_packet.Reads as with-packet-reads
 use Rattle.plans.proofs.rows.request_at.Reads as request-at-reads

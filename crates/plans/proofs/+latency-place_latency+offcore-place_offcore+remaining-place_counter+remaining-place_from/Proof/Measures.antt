@@ -4,22 +4,15 @@ use borrow.Fn.Kinds.{In}
 use borrow.Fn.PlainCycle.{Measures, is, falls, and}
 use Rattle.plans.proofs.latency.place_latency.Reads as place-latency
 use Rattle.plans.proofs.latency.place_latency.Kinds as place-latency-kinds
-use Rattle.plans.proofs.latency.try_pair.Reads as try-pair
-use Rattle.plans.proofs.latency.try_pair.Kinds as try-pair-kinds
 use Rattle.plans.proofs.offcore.place_offcore.Reads as place-offcore
 use Rattle.plans.proofs.offcore.place_offcore.Kinds as place-offcore-kinds
 use Rattle.plans.proofs.remaining.place_counter.Reads as place-counter
 use Rattle.plans.proofs.remaining.place_counter.Kinds as place-counter-kinds
 use Rattle.plans.proofs.remaining.place_from.Reads as place-from
 use Rattle.plans.proofs.remaining.place_from.Kinds as place-from-kinds
-use Rattle.plans.proofs.remaining.try_counter.Reads as try-counter
-use Rattle.plans.proofs.remaining.try_counter.Kinds as try-counter-kinds
 
 abbrev pub μ-place-latency : Measures 1 place-latency-kinds.ps ℕ
 μ-place-latency κs a = 4 * (a .1 .1 .0 - a .1 .1 .1 .0) + 2
-
-abbrev pub μ-try-pair : Measures 1 try-pair-kinds.ps ℕ
-μ-try-pair κs a = 4 * (a .1 .1 .0 - a .1 .1 .1 .0) + 5
 
 abbrev pub μ-place-offcore : Measures 1 place-offcore-kinds.ps ℕ
 μ-place-offcore κs a = 4 * (a .1 .1 .0 - a .1 .1 .1 .0) + 2
@@ -30,20 +23,11 @@ abbrev pub μ-place-counter : Measures 1 place-counter-kinds.ps ℕ
 abbrev pub μ-place-from : Measures 1 place-from-kinds.ps ℕ
 μ-place-from κs a = 4 * (a .1 .1 .0 - a .1 .1 .1 .0) + 3
 
-abbrev pub μ-try-counter : Measures 1 try-counter-kinds.ps ℕ
-μ-try-counter κs a = 4 * (a .1 .1 .0 - a .1 .1 .1 .0) + 4
-
 abbrev pub place-latency-at : ℕ → In 1 place-latency-kinds.ps
 place-latency-at t = and 1 place-latency-kinds.ps (is 1 place-latency-kinds.ps μ-place-latency t) place-latency.Pre
 
 abbrev pub place-latency-below : ℕ → In 1 place-latency-kinds.ps
 place-latency-below t = and 1 place-latency-kinds.ps (falls 1 place-latency-kinds.ps _<_ μ-place-latency t) place-latency.Pre
-
-abbrev pub try-pair-at : ℕ → In 1 try-pair-kinds.ps
-try-pair-at t = and 1 try-pair-kinds.ps (is 1 try-pair-kinds.ps μ-try-pair t) try-pair.Pre
-
-abbrev pub try-pair-below : ℕ → In 1 try-pair-kinds.ps
-try-pair-below t = and 1 try-pair-kinds.ps (falls 1 try-pair-kinds.ps _<_ μ-try-pair t) try-pair.Pre
 
 abbrev pub place-offcore-at : ℕ → In 1 place-offcore-kinds.ps
 place-offcore-at t = and 1 place-offcore-kinds.ps (is 1 place-offcore-kinds.ps μ-place-offcore t) place-offcore.Pre
@@ -62,9 +46,3 @@ place-from-at t = and 1 place-from-kinds.ps (is 1 place-from-kinds.ps μ-place-f
 
 abbrev pub place-from-below : ℕ → In 1 place-from-kinds.ps
 place-from-below t = and 1 place-from-kinds.ps (falls 1 place-from-kinds.ps _<_ μ-place-from t) place-from.Pre
-
-abbrev pub try-counter-at : ℕ → In 1 try-counter-kinds.ps
-try-counter-at t = and 1 try-counter-kinds.ps (is 1 try-counter-kinds.ps μ-try-counter t) try-counter.Pre
-
-abbrev pub try-counter-below : ℕ → In 1 try-counter-kinds.ps
-try-counter-below t = and 1 try-counter-kinds.ps (falls 1 try-counter-kinds.ps _<_ μ-try-counter t) try-counter.Pre

@@ -1,0 +1,203 @@
+-- The counters that are allowed and free, tried in order (`counter-hit`, `counter-next`, `counters-skipped`). Assumes nothing.
+use mathlib.Core.Path.{_≡_, _∙_}
+use mathlib.Core.Bool.{true}
+use mathlib.Core.List.{List}
+use mathlib.Core.Option.{Option}
+use Prim.Native.Nat.{ℕ, _+_, _-_, _*_, _<_}
+use native.Mathlib.Nat.{sub-zero}
+use native.Mathlib.Omega.{arith}
+use Rattle.requests.specs.declared.CounterSet.{CounterSet}
+use Rattle.requests.specs.Devices.{has, counterCount}
+use Rattle.plans.specs.declared.Place.{Place}
+use Rattle.plans.specs.declared.Room.{Room}
+use Rattle.plans.specs.Counters.{NextIn}
+use Rattle.plans.specs.Search.{takeCounter, firstFrom}
+use Rattle.plans.specs.Filters.{roomOf}
+use Rattle.plans.specs.Remaining.{planAfter, planCounter}
+use Rattle.plans.specs.Packed.{packed}
+use Rattle.plans.proofs.CounterBits.{has-below, chosen-free, chosen-available}
+use Rattle.plans.proofs.Unpacking.{counters-few, rest-code}
+use Rattle.plans.proofs.Admitting.{counter-taken}
+use Rattle.plans.proofs.Trying.{counters, choice-plan, counter-hit, counter-next, counters-skipped, counter-done}
+use Rattle.plans.proofs.+latency-place_latency+offcore-place_offcore+remaining-place_counter+remaining-place_from.Proof.Measures.{place-counter-at, place-from-below}
+use Rattle.plans.proofs.remaining.place_counter.Reads as place-counter
+use Rattle.plans.proofs.remaining.place_from.Reads as place-from
+use Rattle.plans.proofs.+latency-place_latency+offcore-place_offcore+remaining-place_counter+remaining-place_from.Lts-remaining-place_counter as place-counter-lts
+use Rattle.plans.proofs.counters.available.Reads as available-reads
+use Rattle.plans.proofs.counters.next_in.Reads as next-in-reads
+use Rattle.plans.proofs.left.without_counter.Reads as without-counter-reads
+
+abbrev pub place-counter-Inv-loop : place-counter-lts.InvT-loop
+place-counter-Inv-loop device rows count next left choice k₀ k =
+    let tried = counters device rows next count choice (roomOf rows left) in
+    (k < 64 → has choice k ≡ true) × (firstFrom tried 0 (counterCount device - 0) ≡ firstFrom tried k (counterCount device - k))
+
+abbrev pub place-counter-μ-loop : place-counter-lts.MeasureT-loop
+place-counter-μ-loop device rows count next left choice k₀ k = 64 - k
+
+abbrev pub place-counter-claims : ℕ → place-counter-lts.Claims
+place-counter-claims t = (
+  available-reads.Asked,
+  available-reads.Learnt,
+  next-in-reads.Asked,
+  next-in-reads.Learnt,
+  without-counter-reads.Asked,
+  without-counter-reads.Learnt,
+  place-from-below t,
+  place-from.Post,
+)
+
+-- ---- what is known at the places of `place_counter`
+
+module _ (t : ℕ) where
+  abbrev Start : Type 0
+  Start = place-counter-lts.Start (place-counter-claims t) (place-counter-at t) place-counter.Post place-counter-Inv-loop place-counter-μ-loop
+
+  -- the counters are to be tried
+  abbrev Ready : Type 0
+  Ready = place-counter-lts.After-next-in (place-counter-claims t) (place-counter-at t) place-counter.Post place-counter-Inv-loop place-counter-μ-loop
+
+  -- there is a counter to be tried
+  abbrev Trying : Type 0
+  Trying = place-counter-lts.In-loop (place-counter-claims t) (place-counter-at t) place-counter.Post place-counter-Inv-loop place-counter-μ-loop
+
+  -- it is tried
+  abbrev Tried : Type 0
+  Tried = place-counter-lts.After-place-from (place-counter-claims t) (place-counter-at t) place-counter.Post place-counter-Inv-loop place-counter-μ-loop
+
+  module _ (c : Ready) where
+    abbrev start : Start
+    start = c .before .before .before
+
+    abbrev choice : CounterSet
+    choice = c .before .available .result
+
+    abbrev room : Room
+    room = roomOf (start .args .rows .now) (start .args .left)
+
+    -- the plan from the given counter on
+    abbrev planned : ℕ → Option (List Place)
+    planned k =
+        let a = start .args in
+        firstFrom (counters (a .device) (a .rows .now) (a .next) (a .count) choice room) k (counterCount (a .device) - k)
+
+    begun : planCounter (start .args .device) (start .args .rows .now) (start .args .next) (start .args .count) (start .args .allowed) room ≡ planned 0
+    begun =
+        let a = start .args in
+        rw (sub-zero (counterCount (a .device))) (choice-plan (a .device) (a .rows .now) (a .next) (a .count) (a .allowed) room choice (c .before .available .ensures))
+
+    skipped : (k r : ℕ) → NextIn choice k r → planned k ≡ planned r
+    skipped k r next =
+        let a = start .args in
+        counters-skipped (a .device) (a .rows .now) (a .next) (a .count) choice room (counterCount (a .device)) k r (next .not-before) (next .none-between)
+
+  module _ (c : Trying) where
+    abbrev ready : Ready
+    ready = c .before .before
+
+    abbrev k : ℕ
+    k = c .before .loop .k
+
+    there : has (choice ready) k ≡ true
+    there = c .before .loop .inv .0 (c .loop-test .taken)
+
+    free : has (start ready .args .left .free) k ≡ true
+    free = let a = start ready .args in chosen-free (a .allowed) (a .left .free) (choice ready) k (ready .before .available .ensures k) there
+
+    below : k < counterCount (start ready .args .device)
+    below = let s = start ready in has-below (counterCount (s .args .device)) (s .args .left .free) k (s .pre .1 .4) free
+
+  module _ (c : Tried) where
+    abbrev trying : Trying
+    trying = c .before .before
+
+    abbrev begin : Ready
+    begin = ready trying
+
+    abbrev rest : ℕ
+    rest = c .place-from .result
+
+    rest-planned : let a = start begin .args in
+        rest ≡ packed (planAfter (a .device) (a .rows .now) (a .next) (a .count) (takeCounter (choice begin) (k trying) (room begin)))
+    rest-planned =
+        let a = start begin .args in
+        let available = chosen-available (a .allowed) (a .left .free) (choice begin) (k trying) (begin .before .available .ensures (k trying)) (there trying) in
+        rw (counter-taken (a .rows .now) (choice begin) (k trying) (a .left) _ available (c .before .without-counter .ensures)) (c .place-from .ensures)
+
+    rest-small : rest < 8796093022208
+    rest-small =
+        let a = start begin .args in
+        rest-code (a .device) (a .rows .now) (a .next) (a .count) (takeCounter (choice begin) (k trying) (room begin)) rest (omega arith) rest-planned
+
+    taken : (rest ≡ 0 → ⊥) → rest * 64 + k trying * 8 ≡ packed (planned begin (k trying))
+    taken =
+        let a = start begin .args in
+        counter-hit (a .device) (a .rows .now) (a .next) (a .count) (choice begin) (room begin) (counterCount (a .device)) (k trying) rest (below trying) rest-planned
+
+    passed : rest ≡ 0 → planned begin (k trying) ≡ planned begin (k trying + 1)
+    passed =
+        let a = start begin .args in
+        counter-next (a .device) (a .rows .now) (a .next) (a .count) (choice begin) (room begin) (counterCount (a .device)) (k trying) rest (below trying) rest-planned
+
+-- ---- the needs of `place_counter`
+
+pub place-counter-loop-holds : (t : ℕ)
+    → place-counter-lts.Need-loop-holds (place-counter-claims t) (place-counter-at t) place-counter.Post place-counter-Inv-loop place-counter-μ-loop
+place-counter-loop-holds t c = let next = c .next-in .ensures in (next .there, skipped t c 0 (c .next-in .result) next)
+
+pub place-counter-without-counter-requires : (t : ℕ)
+    → place-counter-lts.Need-without-counter-requires (place-counter-claims t) (place-counter-at t) place-counter.Post place-counter-Inv-loop place-counter-μ-loop
+place-counter-without-counter-requires t c κs = free t c
+
+pub place-counter-place-from-requires : (t : ℕ)
+    → place-counter-lts.Need-place-from-requires (place-counter-claims t) (place-counter-at t) place-counter.Post place-counter-Inv-loop place-counter-μ-loop
+place-counter-place-from-requires t c κs =
+    let s = start t (ready t (c .before)) in
+    (rw (← s .pre .0) (omega arith), rw (c .without-counter .ensures) (omega arith))
+
+pub place-counter-mul-result : (t : ℕ)
+    → place-counter-lts.Need-mul-result (place-counter-claims t) (place-counter-at t) place-counter.Post place-counter-Inv-loop place-counter-μ-loop
+place-counter-mul-result t c = omega (arith, rest-small t (c .before))
+
+pub place-counter-add-result : (t : ℕ)
+    → place-counter-lts.Need-add-result (place-counter-claims t) (place-counter-at t) place-counter.Post place-counter-Inv-loop place-counter-μ-loop
+place-counter-add-result t c = omega (arith, rest-small t (c .before))
+
+pub place-counter-returns : (t : ℕ)
+    → place-counter-lts.Need-returns (place-counter-claims t) (place-counter-at t) place-counter.Post place-counter-Inv-loop place-counter-μ-loop
+place-counter-returns t c =
+    let tried = c .before in
+    rw (begun t (begin t tried), trying t tried .before .loop .inv .1) (taken t tried (c .if1 .taken))
+
+pub place-counter-next-in-requires-2 : (t : ℕ)
+    → place-counter-lts.Need-next-in-requires-2 (place-counter-claims t) (place-counter-at t) place-counter.Post place-counter-Inv-loop place-counter-μ-loop
+place-counter-next-in-requires-2 t c κs =
+    let trying = trying t (c .before) in
+    omega (arith, below t trying, counters-few (start t (ready t trying) .args .device) .1)
+
+pub place-counter-loop-less : (t : ℕ)
+    → place-counter-lts.Need-loop-less (place-counter-claims t) (place-counter-at t) place-counter.Post place-counter-Inv-loop place-counter-μ-loop
+place-counter-loop-less t c = omega (arith, c .next-in2 .ensures .not-before)
+
+pub place-counter-loop-again : (t : ℕ)
+    → place-counter-lts.Need-loop-again (place-counter-claims t) (place-counter-at t) place-counter.Post place-counter-Inv-loop place-counter-μ-loop
+place-counter-loop-again t c =
+    let tried = c .before .before in
+    let next = c .next-in2 .ensures in (
+      next .there,
+      trying t tried .before .loop .inv .1 ∙ passed t tried (c .before .if1 .left) ∙ skipped t (begin t tried) (k t (trying t tried) + 1) (c .next-in2 .result) next,
+    )
+
+pub place-counter-returns-2 : (t : ℕ)
+    → place-counter-lts.Need-returns-2 (place-counter-claims t) (place-counter-at t) place-counter.Post place-counter-Inv-loop place-counter-μ-loop
+unfolding packed
+place-counter-returns-2 t c =
+    let loop = c .before in
+    let ready = loop .before in
+    let a = start t ready .args in
+    rw (
+      begun t ready,
+      loop .loop .inv .1,
+      counter-done (a .device) (a .rows .now) (a .next) (a .count) (choice t ready) (room t ready) (counterCount (a .device)) (loop .loop .k)
+          (omega (arith, counters-few (a .device) .1)),
+    )

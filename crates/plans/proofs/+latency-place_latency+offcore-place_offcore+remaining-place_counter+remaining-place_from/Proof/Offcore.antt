@@ -1,0 +1,244 @@
+-- An offcore request: what is known where each counter that is allowed and free is tried, with RSP0 and then with RSP1 (`tries-next`,
+-- `tries-carry`, then `places-skipped`). Assumes nothing.
+use mathlib.Core.Path.{_≡_, refl, ap, _∙_}
+use mathlib.Core.Bool.{true}
+use mathlib.Core.Logic.{inl, inr}
+use mathlib.Core.List.{List}
+use mathlib.Core.Option.{Option}
+use Prim.Native.Nat.{ℕ, _+_, _-_, _*_, _<_}
+use native.Mathlib.Omega.{arith}
+use lib.Dec.{lit<}
+use Rattle.requests.specs.declared.CounterSet.{CounterSet}
+use Rattle.requests.specs.declared.Request.{Request}
+use Rattle.requests.specs.declared.Request.the-variants.{Offcore}
+use Rattle.requests.specs.Devices.{has, counterCount}
+use Rattle.plans.specs.declared.Place.{Place}
+use Rattle.plans.specs.declared.Room.{Room}
+use Rattle.plans.specs.declared.left.Left.{Left}
+use Rattle.plans.specs.declared.Admission.{Admission}
+use Rattle.plans.specs.Counters.{available, NextIn}
+use Rattle.plans.specs.Left.{withoutCounter, withRsp0, withRsp1}
+use Rattle.plans.specs.Search.{placeOf, width}
+use Rattle.plans.specs.Filters.{roomOf}
+use Rattle.plans.specs.Remaining.{on, planFrom, planAfter}
+use Rattle.plans.specs.Packed.{packed}
+use Rattle.plans.proofs.CounterBits.{has-below, chosen-free, chosen-available}
+use Rattle.plans.proofs.Unpacking.{rest-code}
+use Rattle.plans.proofs.Admitting.{offcoreTaken, offcore-asked, offcore-chosen, offcore-missing}
+use Rattle.plans.proofs.Trying.{held-taken, held-not, triesTaking, triesFrom, tries-begin, tries-hit, tries-next, tries-carry, places-skipped}
+use Rattle.plans.proofs.+latency-place_latency+offcore-place_offcore+remaining-place_counter+remaining-place_from.Proof.Measures.{place-offcore-at, place-from-below}
+use Rattle.plans.proofs.offcore.place_offcore.Reads as place-offcore
+use Rattle.plans.proofs.remaining.place_from.Reads as place-from
+use Rattle.plans.proofs.+latency-place_latency+offcore-place_offcore+remaining-place_counter+remaining-place_from.Lts-offcore-place_offcore as place-offcore-lts
+use Rattle.plans.proofs.counters.available.Reads as available-reads
+use Rattle.plans.proofs.counters.next_in.Reads as next-in-reads
+use Rattle.plans.proofs.filters.holds_word.Reads as holds-word-reads
+use Rattle.plans.proofs.left.with_rsp0.Reads as with-rsp0-reads
+use Rattle.plans.proofs.left.with_rsp1.Reads as with-rsp1-reads
+use Rattle.plans.proofs.left.without_counter.Reads as without-counter-reads
+
+abbrev pub place-offcore-Inv-loop : place-offcore-lts.InvT-loop
+place-offcore-Inv-loop device rows count at word left held0 held1 next choice k₀ k =
+    let taken = offcoreTaken rows choice held0 held1 (withRsp0 left (at + 1)) (withRsp1 left (at + 1)) in
+    let places = triesFrom (counterCount device) 2 (triesTaking device rows at count (Offcore word choice) taken) in
+    (k < 64 → has choice k ≡ true) × (places 0 0 ≡ places k 0)
+
+abbrev pub place-offcore-μ-loop : place-offcore-lts.MeasureT-loop
+place-offcore-μ-loop device rows count at word left held0 held1 next choice k₀ k = 64 - k
+
+abbrev pub place-offcore-claims : ℕ → place-offcore-lts.Claims
+place-offcore-claims t = (
+  holds-word-reads.Asked,
+  holds-word-reads.Learnt,
+  available-reads.Asked,
+  available-reads.Learnt,
+  next-in-reads.Asked,
+  next-in-reads.Learnt,
+  with-rsp0-reads.Asked,
+  with-rsp0-reads.Learnt,
+  without-counter-reads.Asked,
+  without-counter-reads.Learnt,
+  place-from-below t,
+  place-from.Post,
+  with-rsp1-reads.Asked,
+  with-rsp1-reads.Learnt,
+)
+
+module _ (t : ℕ) where
+  abbrev Start : Type 0
+  Start = place-offcore-lts.Start (place-offcore-claims t) (place-offcore-at t) place-offcore.Post place-offcore-Inv-loop place-offcore-μ-loop
+
+  -- both registers are looked at
+  abbrev Looked : Type 0
+  Looked = place-offcore-lts.After-holds-word2 (place-offcore-claims t) (place-offcore-at t) place-offcore.Post place-offcore-Inv-loop place-offcore-μ-loop
+
+  -- the counters are to be tried
+  abbrev Ready : Type 0
+  Ready = place-offcore-lts.After-next-in (place-offcore-claims t) (place-offcore-at t) place-offcore.Post place-offcore-Inv-loop place-offcore-μ-loop
+
+  -- there is a counter to be tried
+  abbrev Trying : Type 0
+  Trying = place-offcore-lts.In-loop (place-offcore-claims t) (place-offcore-at t) place-offcore.Post place-offcore-Inv-loop place-offcore-μ-loop
+
+  -- it is tried with RSP0
+  abbrev Rsp0Tried : Type 0
+  Rsp0Tried = place-offcore-lts.Joined1 (place-offcore-claims t) (place-offcore-at t) place-offcore.Post place-offcore-Inv-loop place-offcore-μ-loop
+
+  -- it is tried with RSP1 too
+  abbrev Rsp1Tried : Type 0
+  Rsp1Tried = place-offcore-lts.Joined3 (place-offcore-claims t) (place-offcore-at t) place-offcore.Post place-offcore-Inv-loop place-offcore-μ-loop
+
+  module _ (c : Start) where
+    abbrev request : Request
+    request = Offcore (c .args .word) (c .args .allowed)
+
+    abbrev room : Room
+    room = roomOf (c .args .rows .now) (c .args .left)
+
+    abbrev planned : Option (List Place)
+    planned = planFrom (c .args .device) (c .args .rows .now) (c .args .at) (c .args .count) room
+
+  module _ (c : Ready) where
+    abbrev looked : Looked
+    looked = c .before .before .before
+
+    abbrev pub start : Start
+    start = looked .before .before
+
+    abbrev pub n : ℕ
+    n = counterCount (start .args .device)
+
+    -- what is left with RSP0 used, and with RSP1
+    abbrev left0 : Left
+    left0 = withRsp0 (start .args .left) (start .args .at + 1)
+
+    abbrev left1 : Left
+    left1 = withRsp1 (start .args .left) (start .args .at + 1)
+
+    abbrev choice : CounterSet
+    choice = c .before .available .result
+
+    chosen : (k : ℕ) → has choice k ≡ available (start .args .allowed) (start .args .left .free) k
+    chosen k = c .before .available .ensures k
+
+    -- what counter k takes with register j
+    abbrev taken : ℕ → ℕ → Admission
+    taken = offcoreTaken (start .args .rows .now) choice (looked .before .holds-word .result) (looked .holds-word2 .result) left0 left1
+
+    -- the plan of the rest
+    abbrev after : ℕ → ℕ → Option (List Place)
+    after k j = planAfter (start .args .device) (start .args .rows .now) (start .args .at + 1) (start .args .count) (taken k j)
+
+    -- the request, for the counters that are free
+    abbrev narrowed : Request
+    narrowed = Offcore (start .args .word) choice
+
+    -- the places from counter k with register j on
+    abbrev places : ℕ → ℕ → Option (List Place)
+    places = triesFrom n 2 (triesTaking (start .args .device) (start .args .rows .now) (start .args .at) (start .args .count) narrowed taken)
+
+    two : 2 ≡ width (on (start .args .device)) narrowed
+    unfolding width
+    two = refl
+
+    pub begun : planned start ≡ places 0 0
+    unfolding width placeOf
+    begun =
+        let a = start .args in
+        tries-begin (a .device) (a .rows .now) (a .at) (a .count) narrowed taken (request start) (room start) n 2
+        (start .pre .1 .0 .1) (start .pre .1 .1) refl refl two (λ k j. refl)
+        (λ k j. offcore-asked (a .rows .now) (a .at) (a .left) (a .word) (a .allowed) (looked .before .holds-word .result) (looked .holds-word2 .result)
+        (start .pre .1 .1) (looked .before .holds-word .ensures) (looked .holds-word2 .ensures) k j
+        ∙ offcore-chosen (a .rows .now) choice (a .allowed) (looked .before .holds-word .result) (looked .holds-word2 .result) left0 left1 k j (chosen k) (chosen k))
+
+    pub skipped : (k r : ℕ) → NextIn choice k r → places k 0 ≡ places r 0
+    skipped k r next =
+        let a = start .args in
+        places-skipped (a .device) (a .rows .now) (a .at) (a .count) narrowed taken n 2 k r two (omega arith) (next .not-before)
+        (λ i l m j. offcore-missing (a .rows .now) choice (looked .before .holds-word .result) (looked .holds-word2 .result) left0 left1 i j (next .none-between i l m))
+
+    module _ (k j x : ℕ) (e : x ≡ packed (after k j)) where
+      rest-small : x < 8796093022208
+      rest-small =
+          let a = start .args in
+          rest-code (a .device) (a .rows .now) (a .at + 1) (a .count) (taken k j) x (omega arith) e
+
+      module _ (l : j < 2) (below : k < n) where
+        pub place-taken : (x ≡ 0 → ⊥) → x * 64 + k * 8 + j ≡ packed (places k j)
+        place-taken =
+            let a = start .args in
+            tries-hit (a .device) (a .rows .now) (a .at) (a .count) narrowed taken 2 k j two l n below x e
+
+        place-next : x ≡ 0 → places k j ≡ places k (j + 1)
+        place-next =
+            let a = start .args in
+            tries-next (a .device) (a .rows .now) (a .at) (a .count) narrowed taken 2 k j two l n below x e
+
+        pub place-carry : x ≡ 0 → j + 1 ≡ 2 → places k j ≡ places (k + 1) 0
+        place-carry =
+            let a = start .args in
+            tries-carry (a .device) (a .rows .now) (a .at) (a .count) narrowed taken 2 k j two l n below x e
+
+  module _ (c : Trying) where
+    abbrev pub ready : Ready
+    ready = c .before .before
+
+    abbrev pub k : ℕ
+    k = c .before .loop .k
+
+    there : has (choice ready) k ≡ true
+    there = c .before .loop .inv .0 (c .loop-test .taken)
+
+    pub free : has (start ready .args .left .free) k ≡ true
+    free = chosen-free (start ready .args .allowed) (start ready .args .left .free) (choice ready) k (chosen ready k) there
+
+    can-take : available (choice ready) (start ready .args .left .free) k ≡ true
+    can-take = chosen-available (start ready .args .allowed) (start ready .args .left .free) (choice ready) k (chosen ready k) there
+
+    pub below : k < n ready
+    below = has-below (n ready) (start ready .args .left .free) k (start ready .pre .1 .0 .3) free
+
+  module _ (c : Rsp0Tried) where
+    abbrev pub trying0 : Trying
+    trying0 = c .before
+
+    pub rest0-planned : c .if1 .rest0 ≡ packed (after (ready trying0) (k trying0) 0)
+    rest0-planned =
+        let r = ready trying0 in
+        let a = start r .args in
+        elim (c .if1 .came) [
+          | inl p ↦
+              held-taken (a .device) (a .rows .now) (a .at + 1) (a .count) (choice r) (k trying0) (left0 r) _ _ _ _ (p .0 .taken) (can-take trying0)
+              (p .2 .ensures ∙ ap (λ (l : Left). withoutCounter l (k trying0)) (p .1 .ensures)) (p .3 .ensures) (p .4)
+          | inr p ↦ held-not (a .device) (a .rows .now) (a .at + 1) (a .count) (choice r) (k trying0) (left0 r) _ _ (p .0 .left) (p .1)
+        ]
+
+    pub rest0-small : c .if1 .rest0 < 8796093022208
+    rest0-small = rest-small (ready trying0) (k trying0) 0 (c .if1 .rest0) rest0-planned
+
+    -- RSP0 leads to no plan, so that the places go on from RSP1
+    pub with-rsp1 : c .if1 .rest0 ≡ 0 → places (ready trying0) 0 0 ≡ places (ready trying0) (k trying0) 1
+    with-rsp1 none =
+        trying0 .before .loop .inv .1
+        ∙ place-next (ready trying0) (k trying0) 0 (c .if1 .rest0) rest0-planned (lit< tt) (below trying0) none
+
+  module _ (c : Rsp1Tried) where
+    abbrev pub tried0 : Rsp0Tried
+    tried0 = c .before .before
+
+    abbrev pub trying1 : Trying
+    trying1 = tried0 .before
+
+    pub rest1-planned : c .if3 .rest1 ≡ packed (after (ready trying1) (k trying1) 1)
+    rest1-planned =
+        let r = ready trying1 in
+        let a = start r .args in
+        elim (c .if3 .came) [
+          | inl p ↦
+              held-taken (a .device) (a .rows .now) (a .at + 1) (a .count) (choice r) (k trying1) (left1 r) _ _ _ _ (p .0 .taken) (can-take trying1)
+              (p .2 .ensures ∙ ap (λ (l : Left). withoutCounter l (k trying1)) (p .1 .ensures)) (p .3 .ensures) (p .4)
+          | inr p ↦ held-not (a .device) (a .rows .now) (a .at + 1) (a .count) (choice r) (k trying1) (left1 r) _ _ (p .0 .left) (p .1)
+        ]
+
+    pub rest1-small : c .if3 .rest1 < 8796093022208
+    rest1-small = rest-small (ready trying1) (k trying1) 1 (c .if3 .rest1) rest1-planned
