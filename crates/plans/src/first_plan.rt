@@ -1,15 +1,29 @@
 // The first legal plan of a list of requests.
 ghost use mathlib.Core.Path.{_≡_};
 ghost use Prim.Native.Nat.{_≤_};
-ghost use lib.ListN.{take};
+ghost use lib.ListN.{length, take};
 ghost use Rattle.plans.specs.Search.{firstPlan};
+ghost use Rattle.plans.specs.Rows.{rowsFrom};
 ghost use Rattle.plans.specs.Found.{foundOf};
 use crate::Found;
 use crate::packed::places_of;
-use crate::rows::put_requests;
+use crate::rows::put_request;
 use crate::search::plan_rows;
 use requests::Request;
 use requests::Setup;
+
+// The rows become the first `count` requests.
+fn put_requests(rows: &mut [u64; 32], requests: [Request; 8], count: usize)
+    requires { ⌜ (count ≤ 8) × (length (now rows) ≡ 32) ⌝ }
+    ensures { λ _. ⌜ rowsFrom (now (rows .exit)) 0 count ≡ take count requests ⌝ }
+{
+    let mut i: usize = 0;
+    while i < count {
+        let request = requests[i];
+        put_request(rows, i, request);
+        i += 1;
+    }
+}
 
 // The first plan of at most 8 requests.
 fn plan_of(setup: Setup, requests: [Request; 8], count: usize) -> Found

@@ -1,8 +1,8 @@
 // Requests as rows of four numbers in one array: the form in which the search reads them.
 ghost use mathlib.Core.Path.{_≡_};
-ghost use Prim.Native.Nat.{_<_, _≤_};
-ghost use lib.ListN.{length, take};
-ghost use Rattle.plans.specs.Rows.{requestAt, rowsFrom, setRow, setRequest};
+ghost use Prim.Native.Nat.{_<_};
+ghost use lib.ListN.{length};
+ghost use Rattle.plans.specs.Rows.{requestAt, setRow, setRequest};
 use requests::CounterSet;
 use requests::Request;
 
@@ -85,18 +85,5 @@ pub fn put_request(rows: &mut [u64; 32], at: usize, request: Request)
             first,
             second,
         } => put_row(rows, at, LATENCY, types as u64, first.0, second.0),
-    }
-}
-
-// The rows become the first `count` requests.
-pub fn put_requests(rows: &mut [u64; 32], requests: [Request; 8], count: usize)
-    requires { ⌜ (count ≤ 8) × (length (now rows) ≡ 32) ⌝ }
-    ensures { λ _. ⌜ rowsFrom (now (rows .exit)) 0 count ≡ take count requests ⌝ }
-{
-    let mut i: usize = 0;
-    while i < count {
-        let request = requests[i];
-        put_request(rows, i, request);
-        i += 1;
     }
 }

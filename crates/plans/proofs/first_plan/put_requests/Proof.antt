@@ -7,8 +7,8 @@ use Rattle.requests.specs.declared.Request.the-variants.{Event}
 use Rattle.plans.specs.Rows.{setOf, rowsFrom}
 use Rattle.plans.proofs.RequestRows.{put-length, rows-take}
 use borrow.Author.Needs.{needs}
-use Rattle.plans.proofs.rows.put_requests.Statement.{statement}
-use Rattle.plans.proofs.rows.put_requests.Tie as tie
+use Rattle.plans.proofs.first_plan.put_requests.Statement.{statement}
+use Rattle.plans.proofs.first_plan.put_requests.Tie as tie
 
 abbrev Inv-loop : tie.InvT-loop
 Inv-loop rows₀ count requests i₀ rows i = (i ≤ count) × (length rows ≡ 32) × (rowsFrom rows 0 i ≡ take i requests)
