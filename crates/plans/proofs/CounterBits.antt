@@ -1,15 +1,21 @@
 -- A counter that is taken is free, one of the device's, and one of the 64 bits of a set. Assumes nothing.
 use mathlib.Core.Path.{_≡_, refl, sym, _∙_}
 use mathlib.Core.Bool.{Bool, true, false}
-use Prim.Native.Nat.{ℕ, _<_, _≤_, _^_}
+use Prim.Native.Nat.{ℕ, _*_, _%_, _^_, _<_, _≤_}
+use native.Mathlib.Nat.{one-mul}
 use native.Mathlib.Omega.{arith}
 use native.Mathlib.Decide.{decLt}
-use lib.Pow.{pow-mono}
+use lib.Dec.{lit<}
+use lib.Pow.{shl-exact, pow-mono}
 use Rattle.requests.specs.declared.CounterSet.{CounterSet}
 use Rattle.requests.specs.Choice.{both}
 use Rattle.requests.specs.Devices.{has}
 use Rattle.plans.specs.Counters.{available}
 use Rattle.plans.proofs.Sets.{has-le}
+
+-- a one at place k of a word
+pub shifted : (k : ℕ) → k < 64 → 1 * 2 ^ k % 2 ^ 64 ≡ 2 ^ k
+shifted k l = shl-exact 1 k 64 (lit< tt) (omega arith) ∙ one-mul (2 ^ k)
 
 -- a number below 2^n is a set of counters below n
 pub has-below : (n : ℕ) (s : CounterSet) (k : ℕ) → s .0 < 2 ^ n → has s k ≡ true → k < n

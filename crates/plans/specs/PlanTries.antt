@@ -1,8 +1,9 @@
--- Document 01, 'Bench tries': the first plans that tries A to G turn on, and those of packets on S.
+-- Document 01, 'Bench tries': the first plans that tries A to G turn on, and those of packets on S; and the sets of counters that the
+-- requests of some of them can leave.
 use mathlib.Core.Path.{_≡_}
 use mathlib.Core.List.{List, [], _∷_, map}
 use mathlib.Core.Option.{Option, none, some}
-use Prim.Native.Nat.{ℕ}
+use Prim.Native.Nat.{ℕ, _+_, _^_}
 use Rattle.requests.specs.declared.CounterSet.{CounterSet}
 use Rattle.requests.specs.declared.Device.{Device}
 use Rattle.requests.specs.declared.Device.the-variants.{G, S}
@@ -11,6 +12,7 @@ use Rattle.requests.specs.declared.Request.{Request}
 use Rattle.requests.specs.declared.Request.the-variants.{Event, Packet, Offcore, Latency}
 use Rattle.plans.specs.Places.{Counted, countedOf}
 use Rattle.plans.specs.Search.{firstPlan}
+use Rattle.plans.specs.Reach.{leftOf}
 use Rattle.plans.specs.declared.Place.{Place}
 
 -- what each request is given, as document 01 prints it: its counter or counters, each with its register or none
@@ -124,3 +126,47 @@ expected t = t .plan
 -- in each row the first plan gives what is expected
 abbrev pub PlanTries : Type 0
 PlanTries = map found planTries ≡ map expected planTries
+
+-- requests on a device with a usable set, and the sets of counters that they are to leave: bit f for the set f
+pub record LeftTry : Type 0 where
+  pub setup : Setup
+  pub requests : List Request
+  pub sets : ℕ
+
+-- a row: the device, its usable set, the requests, what is expected
+abbrev leaves : Device → ℕ → List Request → ℕ → LeftTry
+leaves d usable rs sets = record { setup = record { device = d; usable = set usable }; requests = rs; sets = sets }
+
+-- the table
+unfoldable pub leftTries : List LeftTry
+leftTries =
+    -- before the first request all usable counters are free
+    leaves G 15 [] (2 ^ 15)
+    -- A: the third request finds counter 0 taken
+    ∷ leaves G 15 (instructions 1 ∷ latency 0x0001 ∷ cycles 1 ∷ []) 0
+    -- B: the first goes to counter 1, 2 or 3, so that the second has counter 0; and going back over all requests
+    ∷ leaves G 15 (instructions 15 ∷ cycles 1 ∷ []) (2 ^ 12 + 2 ^ 10 + 2 ^ 6)
+    ∷ leaves G 15 (instructions 15 ∷ cycles 7 ∷ instructions 3 ∷ cycles 1 ∷ []) (2 ^ 0)
+    -- E: of three different words the third waits, since no register is left; counters are
+    ∷ leaves G 15 (offcore 0x10001 ∷ offcore 0x10002 ∷ offcore 0x10004 ∷ []) (2 ^ 8 + 2 ^ 4 + 2 ^ 2 + 2 ^ 1)
+    -- F: counter 0 is not usable
+    ∷ leaves G 14 (instructions 1 ∷ []) 0
+    -- G: latency 4 and 4 has no plan alone, 4 and 8 leaves counters 0 and 1
+    ∷ leaves G 15 (Latency 0x0001 (set 4) (set 4) ∷ []) 0
+    ∷ leaves G 15 (Latency 0x0001 (set 4) (set 8) ∷ []) (2 ^ 3)
+    -- packets, as many as there are counters, and one more
+    ∷ leaves S 15 (Packet 5 7 (set 1) ∷ bypass 3 ∷ Packet 5 7 (set 7) ∷ bypass 15 ∷ []) (2 ^ 0)
+    ∷ leaves S 15 (bypass 15 ∷ bypass 15 ∷ bypass 15 ∷ bypass 15 ∷ bypass 15 ∷ []) 0
+    ∷ []
+
+-- the sets that the requests leave
+abbrev pub foundSets : LeftTry → ℕ
+foundSets t = leftOf (t .setup) (t .requests)
+
+-- what is expected
+abbrev pub expectedSets : LeftTry → ℕ
+expectedSets t = t .sets
+
+-- in each row the requests leave what is expected
+abbrev pub LeftTries : Type 0
+LeftTries = map foundSets leftTries ≡ map expectedSets leftTries

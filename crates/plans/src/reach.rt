@@ -1,15 +1,15 @@
-// The sets of counters that requests leave free, as the bits of one number: bit f stands for the set f.
+// The sets of counters that requests can leave free, as the bits of one number: bit f stands for the set f, of at most six counters.
 ghost use mathlib.Core.Path.{_≡_};
 ghost use Prim.Native.Nat.{_<_, _≤_, _^_};
-ghost use Rattle.plans.specs.Reach.{holdersOf, drawn, drawnBelow, leftBy};
+ghost use Rattle.plans.specs.Reach.{setsWith, taking, takingOne, leftBy};
 use requests::CounterSet;
 use requests::Request;
 use requests::set::has;
 
-// The sets of at most six counters that have counter k.
-fn holders(k: u64) -> u64
+// The sets that have counter k.
+fn sets_with(k: u64) -> u64
     requires { ⌜ k < 6 ⌝ }
-    ensures { λ r. ⌜ r ≡ holdersOf k ⌝ }
+    ensures { λ r. ⌜ r ≡ setsWith k ⌝ }
 {
     match k {
         0 => 0xAAAA_AAAA_AAAA_AAAA,
@@ -21,25 +21,25 @@ fn holders(k: u64) -> u64
     }
 }
 
-// What is left of them without it.
-fn drawn(k: u64, sets: u64) -> u64
+// The sets that are left when counter k is taken from those that have it: the set f becomes f - 2^k.
+fn taking(k: u64, sets: u64) -> u64
     requires { ⌜ k < 6 ⌝ }
-    ensures { λ r. ⌜ r ≡ drawn k sets ⌝ }
+    ensures { λ r. ⌜ r ≡ taking k sets ⌝ }
 {
     let step: u64 = 1 << k;
-    (sets & holders(k)) >> step
+    (sets & sets_with(k)) >> step
 }
 
-// What is left when one of the allowed counters below n is taken.
-fn drawn_below(n: u64, allowed: CounterSet, sets: u64) -> u64
+// The sets that are left when one of the allowed counters below n is taken.
+fn taking_one(n: u64, allowed: CounterSet, sets: u64) -> u64
     requires { ⌜ n ≤ 6 ⌝ }
-    ensures { λ r. ⌜ r ≡ drawnBelow n allowed sets ⌝ }
+    ensures { λ r. ⌜ r ≡ takingOne n allowed sets ⌝ }
 {
     let mut left: u64 = 0;
     let mut k: u64 = 0;
     while k < n {
         let on = has(allowed, k);
-        let one = drawn(k, sets);
+        let one = taking(k, sets);
         k += 1;
         if on {
             left = left | one;
@@ -48,22 +48,22 @@ fn drawn_below(n: u64, allowed: CounterSet, sets: u64) -> u64
     left
 }
 
-// What a request leaves, on n counters.
+// The sets that a request leaves, on n counters.
 pub fn left_by(n: u64, request: Request, sets: u64) -> u64
     requires { ⌜ n ≤ 6 ⌝ }
     ensures { λ r. ⌜ r ≡ leftBy n request sets ⌝ }
 {
     match request {
-        Request::Event { allowed, .. } => drawn_below(n, allowed, sets),
-        Request::Packet { allowed, .. } => drawn_below(n, allowed, sets),
-        Request::Offcore { allowed, .. } => drawn_below(n, allowed, sets),
+        Request::Event { allowed, .. } => taking_one(n, allowed, sets),
+        Request::Packet { allowed, .. } => taking_one(n, allowed, sets),
+        Request::Offcore { allowed, .. } => taking_one(n, allowed, sets),
         Request::Latency { first, second, .. } => {
-            drawn_below(n, second, drawn_below(n, first, sets))
+            taking_one(n, second, taking_one(n, first, sets))
         }
     }
 }
 
-// What is left before the first request, of at most six usable counters.
+// The set that is left before the first request: the usable counters, where they are at most the first six.
 pub fn left_at_first(usable: CounterSet) -> u64
     ensures { λ r. ⌜ (usable .0 < 64 → r ≡ 2 ^ usable .0) ⌝ }
 {

@@ -1,7 +1,6 @@
 -- `reach::left_at_first` has the bit of the usable set.
-use native.Mathlib.Omega.{arith}
 use borrow.Author.Needs.{needs}
-use Rattle.plans.proofs.ReachHolds.{shifted}
+use Rattle.plans.proofs.CounterBits.{shifted}
 use Rattle.plans.proofs.reach.left_at_first.Statement.{statement}
 use Rattle.plans.proofs.reach.left_at_first.Tie as tie
 
