@@ -14,8 +14,12 @@ use Rattle.plans.specs.declared.Place.{Place}
 use Rattle.plans.specs.declared.Given.{Given}
 use Rattle.plans.specs.Places.{countersOf}
 use Rattle.plans.specs.Legal.{wordsOf, packetsOf, ofAll, counters}
+use Rattle.plans.specs.Rows.{requestAt, rowsFrom}
+use Rattle.plans.specs.Packed.{placeAt, placesFrom}
+use Rattle.plans.proofs.RequestRows.{rows-next}
 use Rattle.layouts.specs.Layout.{tabulate}
 use Rattle.layouts.specs.Settings.{usesOf, wordAt, setFrom, headOr, nonempty, settingsOf}
+use Rattle.layouts.specs.declared.Settings.{Settings}
 use Rattle.registers.specs.Adding.{withUses, withPackets, settingsWith}
 use Rattle.registers.proofs.UsedCounters.{setOf, used-more}
 use Rattle.layouts.proofs.Tabulated.{tabulate-set}
@@ -66,20 +70,41 @@ settings-none d = rw (set-none (counterCount d) 0 (inList []) (λ j. refl))
 -- ---- requests and places in their arrays, of which the first count are in use
 
 -- the places from number i on
-abbrev placesFrom : ℕ → ℕ → List Given → List Place
-placesFrom count i gs = map (λ (g : Given). g .place) (drop i (take count gs))
+abbrev placesAfter : ℕ → ℕ → List Given → List Place
+placesAfter count i gs = map (λ (g : Given). g .place) (drop i (take count gs))
 
 module _ (d : Device) (count : ℕ) (rs : List Request) (gs : List Given) where
   -- past the last request
-  pub settings-past : (i : ℕ) → min count (length rs) ≤ i → min count (length gs) ≤ i → settingsOf d [] [] ≡ settingsOf d (drop i (take count rs)) (placesFrom count i gs)
+  pub settings-past : (i : ℕ) → min count (length rs) ≤ i → min count (length gs) ≤ i → settingsOf d [] [] ≡ settingsOf d (drop i (take count rs)) (placesAfter count i gs)
   settings-past i requests places = rw (window-past rs count i requests, window-past gs count i places)
 
   -- the request before
   pub settings-before : (left : ℕ) (r : Request) (g : Given) → 0 < left → left ≤ count → left ≤ length rs → left ≤ length gs
-      → settingsWith d (getD rs (left - 1) r) (getD gs (left - 1) g .place) (settingsOf d (drop left (take count rs)) (placesFrom count left gs))
-      ≡ settingsOf d (drop (left - 1) (take count rs)) (placesFrom count (left - 1) gs)
+      → settingsWith d (getD rs (left - 1) r) (getD gs (left - 1) g .place) (settingsOf d (drop left (take count rs)) (placesAfter count left gs))
+      ≡ settingsOf d (drop (left - 1) (take count rs)) (placesAfter count (left - 1) gs)
   settings-before left r g some within ofRequests ofPlaces =
       let e : left - 1 + 1 ≡ left = omega arith in
       let requests = rw e at (window-step rs count (left - 1) r (omega arith) (omega arith)) in
       let places = rw e at (window-step gs count (left - 1) g (omega arith) (omega arith)) in
-      rw (requests, places) (settings-add d (getD rs (left - 1) r) (getD gs (left - 1) g .place) (drop left (take count rs)) (placesFrom count left gs))
+      rw (requests, places) (settings-add d (getD rs (left - 1) r) (getD gs (left - 1) g .place) (drop left (take count rs)) (placesAfter count left gs))
+
+-- ---- requests in rows, and places in a packed plan
+
+module _ (d : Device) (code : ℕ) (rows : List ℕ) (count : ℕ) where
+  -- the register values of the rows from number i on
+  abbrev pub settingsFrom : ℕ → Settings
+  settingsFrom i = settingsOf d (rowsFrom rows i (count - i)) (placesFrom code i (rowsFrom rows i (count - i)))
+
+  -- past the last row
+  pub rows-past : settingsOf d [] [] ≡ settingsFrom count
+  unfolding rowsFrom placesFrom
+  rows-past = let e : count - count ≡ 0 = omega arith in rw e
+
+  -- the row before
+  pub rows-before : (left : ℕ) → 0 < left → left ≤ count
+      → settingsWith d (requestAt rows (left - 1)) (placeAt code (left - 1) (requestAt rows (left - 1))) (settingsFrom left) ≡ settingsFrom (left - 1)
+  unfolding placesFrom
+  rows-before left some within =
+      let e : left - 1 + 1 ≡ left = omega arith in
+      let next = rw e at (rows-next rows (left - 1) count (omega arith)) in
+      rw (next, e) (settings-add d (requestAt rows (left - 1)) _ (rowsFrom rows left (count - left)) _)

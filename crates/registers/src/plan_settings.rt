@@ -5,6 +5,8 @@ use crate::tables::rsp_word;
 use layouts::Settings;
 use plans::Given;
 use plans::Place;
+use plans::packed::place_at;
+use plans::rows::request_at;
 use requests::CounterSet;
 use requests::Device;
 use requests::Request;
@@ -12,12 +14,14 @@ use requests::bits::latency_word;
 use requests::devices::counter_count;
 use requests::set::has;
 ghost use mathlib.Core.Path.{_≡_};
-ghost use mathlib.Core.List.{map};
+ghost use mathlib.Core.List.{[], map};
 ghost use Prim.Native.Nat.{_<_, min};
 ghost use lib.ListN.{take, set};
 ghost use Rattle.requests.specs.Devices.{capacity};
 ghost use Rattle.plans.specs.Places.{first, second, countersOf};
 ghost use Rattle.plans.specs.Legal.{wordsOf};
+ghost use Rattle.plans.specs.Packed.{placesFrom};
+ghost use Rattle.plans.specs.Rows.{rowsFrom};
 ghost use Rattle.layouts.specs.Settings.{usesOf, headOr, settingsOf};
 ghost use Rattle.registers.specs.Adding.{withCounter, withCounters, withUses, withPackets, settingsWith};
 
@@ -174,6 +178,21 @@ fn bounded(count: usize) -> usize
     if count < 8 { count } else { 8 }
 }
 
+// The register values of no request.
+fn no_settings() -> Settings
+    ensures { λ r. ⌜ ((d : Device) → r ≡ settingsOf d [] []) ⌝ }
+{
+    Settings {
+        used: CounterSet(0),
+        words: [0; 8],
+        rsp0: 0,
+        rsp1: 0,
+        packets: false,
+        match_word: 0,
+        mask_word: 0,
+    }
+}
+
 // The register values of the first requests of the array, each at the place with its number.
 pub fn settings_of(
     device: Device,
@@ -183,21 +202,28 @@ pub fn settings_of(
 ) -> Settings
     ensures { λ r. ⌜ r ≡ settingsOf device (take count requests) (map (λ (g : Given). g .place) (take count places)) ⌝ }
 {
-    let mut settings = Settings {
-        used: CounterSet(0),
-        words: [0; 8],
-        rsp0: 0,
-        rsp1: 0,
-        packets: false,
-        match_word: 0,
-        mask_word: 0,
-    };
+    let mut settings = no_settings();
     let mut left = bounded(count);
     while 0 < left {
         left -= 1;
         let request = requests[left];
         let given = places[left];
         let place = given.place;
+        settings = settings_with(device, request, place, settings);
+    }
+    settings
+}
+
+// The register values of the requests in the first rows, each at its place in a packed plan.
+pub fn settings_in(device: Device, code: u64, rows: &[u64; 32], count: usize) -> Settings
+    ensures { λ r. ⌜ r ≡ settingsOf device (rowsFrom (now (rows .entry)) 0 (min count capacity)) (placesFrom code 0 (rowsFrom (now (rows .entry)) 0 (min count capacity))) ⌝ }
+{
+    let mut settings = no_settings();
+    let mut left = bounded(count);
+    while 0 < left {
+        left -= 1;
+        let request = request_at(rows, left);
+        let place = place_at(code, left, request);
         settings = settings_with(device, request, place, settings);
     }
     settings

@@ -9,7 +9,7 @@ use Rattle.requests.specs.Devices.{capacity}
 use Rattle.plans.specs.declared.Given.{Given}
 use Rattle.layouts.specs.Settings.{settingsOf}
 use Rattle.registers.specs.Adding.{settingsWith}
-use Rattle.registers.proofs.PlanSteps.{settings-none, settings-past, settings-before}
+use Rattle.registers.proofs.PlanSteps.{settings-past, settings-before}
 use Rattle.registers.proofs.plan_settings.settings_of.Statement.{statement}
 use Rattle.registers.proofs.plan_settings.settings_of.Tie as tie
 
@@ -27,10 +27,10 @@ abbrev μ-loop : tie.MeasureT-loop
 loop-holds : tie.Need-loop-holds Inv-loop μ-loop
 unfolding capacity
 loop-holds c =
-    let a = c .before .args in
+    let a = c .before .before .args in
     let m : length (a .t2) ≡ 8 = search needs in
     let n : length (a .t3) ≡ 8 = search needs in
-    (m, n, omega arith, omega arith, settings-none (a .device) ∙ settings-past (a .device) (a .count) (a .t2) (a .t3) (c .bounded .result) (omega arith) (omega arith))
+    (m, n, omega arith, omega arith, c .before .no-settings .ensures (a .device) ∙ settings-past (a .device) (a .count) (a .t2) (a .t3) (c .bounded .result) (omega arith) (omega arith))
 
 sub-left : tie.Need-sub-left Inv-loop μ-loop
 sub-left c = omega arith
@@ -53,7 +53,7 @@ loop-less c = omega arith
 loop-again : tie.Need-loop-again Inv-loop μ-loop
 loop-again c =
     let l = c .before .before .before .before .loop in
-    let a = c .before .before .before .before .before .before .args in (
+    let a = c .before .before .before .before .before .before .before .args in (
       l .inv .0,
       l .inv .1,
       omega arith,
@@ -72,6 +72,7 @@ settings-of-spec =
     (tie.spec
     Inv-loop
     μ-loop
+    (λ c κs. search needs)
     (λ c κs. search needs)
     loop-holds
     sub-left

@@ -1,0 +1,10 @@
+-- `no_settings` is `settingsOf` of no request, on either device (`settings-none`).
+use Rattle.registers.proofs.PlanSteps.{settings-none}
+use Rattle.registers.proofs.plan_settings.no_settings.Statement.{statement}
+use Rattle.registers.proofs.plan_settings.no_settings.Tie as tie
+
+returns : tie.Need-returns
+returns c = λ d. settings-none d
+
+pub no-settings-spec : {M : Type 1} → statement M
+no-settings-spec = tie.close (tie.spec returns)
