@@ -1,45 +1,61 @@
--- Laws on the requests and the plan of the entries taken, one entry after another. Assumes nothing.
-use mathlib.Core.Path.{_≡_, refl, ap}
-use Prim.Native.Nat.{suc}
-use mathlib.Core.List.{List, [], _∷_, _++_, map, map-append}
+-- Laws on the entries taken, one after another: where they stand in the queue, their requests, and their plan. Assumes nothing.
+use mathlib.Core.Path.{_≡_, refl, ap, _∙_}
+use Prim.Native.Nat.{ℕ, suc, _+_, _≤_, _<_}
+use mathlib.Core.List.{List, [], _∷_, _++_, map-append}
+use native.Mathlib.Nat.{add-zero, zero-add}
+use native.Mathlib.Numerals.{add-one}
 use native.Mathlib.Omega.{arith}
-use lib.ListN.{length, length-map}
+use lib.ListN.{length, take, getD, set, length-map}
+use lib.Seq.{take-suc-set, length-take-le}
 use Rattle.requests.specs.declared.Entry.{Entry}
-use Rattle.plans.specs.declared.Place.{Place}
-use Rattle.plans.specs.declared.Given.{Given}
-use Rattle.plans.specs.Found.{give}
+use Rattle.plans.specs.Packed.{placeAt, placesFrom}
+use Rattle.sessions.specs.declared.Assigned.{Assigned}
 use Rattle.sessions.specs.Turns.{requestsOf, assign}
-use Rattle.planner.specs.Selections.{placesIn}
+use Rattle.sessions.specs.Sessions.{vacant}
+use Rattle.planner.specs.Selections.{entriesAt}
+use Rattle.requests.proofs.Windows.{take-next}
+
+-- ---- where the entries stand
+
+module _ (queue : List Entry) (n : ℕ) (places : List ℕ) where
+  pub entries-length : n ≤ length places → length (entriesAt queue n places) ≡ n
+  unfolding entriesAt
+  entries-length h = length-map (take n places) _ ∙ length-take-le n places h
+
+  -- one place more is gone through
+  pub entries-next : n < length places → entriesAt queue (n + 1) places ≡ entriesAt queue n places ++ (getD queue (getD places n 0) vacant ∷ [])
+  unfolding entriesAt
+  entries-next h = rw (take-next places n 0 h) (map-append _ (take n places) (getD places n 0 ∷ []))
+
+  -- one place more is noted
+  pub entries-noted : (i : ℕ) → n < length places → entriesAt queue (n + 1) (set places n i) ≡ entriesAt queue n places ++ (getD queue i vacant ∷ [])
+  unfolding entriesAt
+  entries-noted i h = rw (add-one n, take-suc-set places n i h) (map-append _ (take n places) (i ∷ []))
+
+-- ---- their requests and their plan
 
 pub requests-next : (es : List Entry) (e : Entry) → requestsOf (es ++ (e ∷ [])) ≡ requestsOf es ++ (e .request ∷ [])
 unfolding requestsOf
 requests-next es e = map-append _ es (e ∷ [])
 
-pub places-next : (gs : List Given) (g : Given) → placesIn (gs ++ (g ∷ [])) ≡ placesIn gs ++ (g .place ∷ [])
-unfolding placesIn
-places-next gs g = map-append _ gs (g ∷ [])
+-- the plan of entries that are numbered from i on, with the places that a packed plan gives them
+abbrev pub planned : ℕ → ℕ → List Entry → List Assigned
+planned code i es = assign es (placesFrom code i (requestsOf es))
 
-pub places-length : (gs : List Given) → length (placesIn gs) ≡ length gs
-unfolding placesIn
-places-length gs = length-map gs _
+planned-last : (code i : ℕ) (es : List Entry) (e : Entry)
+    → planned code i (es ++ (e ∷ [])) ≡ planned code i es ++ (record { id = e .id; place = placeAt code (i + length es) (e .request) } ∷ [])
+unfolding assign placesFrom requestsOf
+planned-last code i [] e = rw (add-zero i)
+planned-last code i (d ∷ es) e =
+    let s : i + 1 + length es ≡ i + suc (length es) = omega arith in
+    ap (λ (l : List Assigned). record { id = d .id; place = placeAt code i (d .request) } ∷ l) (rw (← s) (planned-last code (i + 1) es e))
 
--- what is given is given back
-pub places-given : (ps : List Place) → placesIn (map give ps) ≡ ps
-unfolding placesIn
-places-given [] = refl
-places-given (p ∷ ps) = ap (λ (l : List Place). p ∷ l) (places-given ps)
+-- one entry more
+pub planned-next : (code n : ℕ) (es : List Entry) (e : Entry) → length es ≡ n
+    → planned code 0 (es ++ (e ∷ [])) ≡ planned code 0 es ++ (record { id = e .id; place = placeAt code n (e .request) } ∷ [])
+planned-next code n es e h = planned-last code 0 es e ∙ rw (zero-add, h)
 
-pub assign-next : (es : List Entry) (ps : List Place) (e : Entry) (p : Place) → length es ≡ length ps
-    → assign (es ++ (e ∷ [])) (ps ++ (p ∷ [])) ≡ assign es ps ++ (record { id = e .id; place = p } ∷ [])
-unfolding assign
-assign-next [] [] e p h = refl
-assign-next [] (o ∷ ps) e p h = absurd (omega arith)
-assign-next (d ∷ es) [] e p h = absurd (omega arith)
-assign-next (d ∷ es) (o ∷ ps) e p h = rw (assign-next es ps e p (omega arith))
-
-pub assign-length : (es : List Entry) (ps : List Place) → length es ≡ length ps → length (assign es ps) ≡ length es
-unfolding assign
-assign-length [] [] h = refl
-assign-length [] (o ∷ ps) h = refl
-assign-length (d ∷ es) [] h = absurd (omega arith)
-assign-length (d ∷ es) (o ∷ ps) h = ap suc (assign-length es ps (omega arith))
+pub planned-length : (code i : ℕ) (es : List Entry) → length (planned code i es) ≡ length es
+unfolding assign placesFrom requestsOf
+planned-length code i [] = refl
+planned-length code i (e ∷ es) = ap suc (planned-length code (i + 1) es)

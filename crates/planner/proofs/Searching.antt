@@ -1,7 +1,7 @@
 -- What the search answers over the rows of a turn: with one request more behind those taken, and of one request alone; and the number of
 -- usable counters, past which nothing is searched. Assumes nothing.
 use mathlib.Core.Path.{_≡_, refl, ap, sym, _∙_}
-use Prim.Native.Nat.{ℕ, _+_, _≤_}
+use Prim.Native.Nat.{ℕ, _+_, _≤_, _<_}
 use mathlib.Core.Bool.{false, not, Bool·not-not}
 use mathlib.Core.List.{List, [], _∷_, _++_}
 use native.Mathlib.Numerals.{add-one}
@@ -19,6 +19,9 @@ use Rattle.plans.specs.Packed.{packed}
 use Rattle.plans.proofs.FirstFound.{first-plan}
 use Rattle.plans.proofs.RequestRows.{put-length, rows-length, rows-last, rows-put}
 use Rattle.plans.proofs.Unpacking.{some-packed, none-packed, plan-packed}
+use Rattle.plans.specs.Reach.{leftOf}
+use Rattle.plans.proofs.PlanTestHolds.{plan-test}
+use Rattle.plans.proofs.ReachHolds.{reach}
 use Rattle.plans.proofs.PlanLengthHolds.{plan-length}
 use Rattle.planner.specs.Selections.{Searched}
 use borrow.Author.Tests.{eqb-true}
@@ -33,17 +36,27 @@ module _ (s : Setup) (rs : List Request) where
   pub found-none : packed (firstPlan s rs) ≡ 0 → ¬ HasPlan s rs
   found-none h = first-plan .complete s rs (none-packed (firstPlan s rs) h)
 
--- the answer is 0 where as many requests are taken as counters are usable
-pub searched-none : (s : Setup) (rows : List ℕ) (count : ℕ) (r : Request) → usableCount s ≤ count → length rows ≡ 32 → Searched s rows count r rows 0
-searched-none s rows count r full size =
+-- the answer is 0 where there is no plan
+searched-no : (s : Setup) (rows : List ℕ) (count : ℕ) (r : Request) → hasPlan s (rowsFrom rows 0 count ++ (r ∷ [])) ≡ false → length rows ≡ 32 → Searched s rows count r rows 0
+searched-no s rows count r unplanned size =
     let rs = rowsFrom rows 0 count ++ (r ∷ []) in
-    let no : hasPlan s rs ≡ false = plan-length .full-tested s (rowsFrom rows 0 count) r (rw rows-length full) in
     record {
-      answer = sym (eqb-true (packed (firstPlan s rs)) 0 (plan-packed s rs ∙ ap not no));
+      answer = sym (eqb-true (packed (firstPlan s rs)) 0 (plan-packed s rs ∙ ap not unplanned));
       kept = refl;
       behind = λ exists. absurd (exists refl);
       size = size;
     }
+
+-- so where as many requests are taken as counters are usable
+pub searched-none : (s : Setup) (rows : List ℕ) (count : ℕ) (r : Request) → usableCount s ≤ count → length rows ≡ 32 → Searched s rows count r rows 0
+searched-none s rows count r full size =
+    searched-no s rows count r (plan-length .full-tested s (rowsFrom rows 0 count) r (rw rows-length full)) size
+
+-- and where the requests leave no set of counters
+pub searched-unreached : (s : Setup) (rows : List ℕ) (count : ℕ) (r : Request) → s .usable .0 < 64 → leftOf s (rowsFrom rows 0 count ++ (r ∷ [])) ≡ 0 → length rows ≡ 32 → Searched s rows count r rows 0
+searched-unreached s rows count r fits gone size =
+    let rs = rowsFrom rows 0 count ++ (r ∷ []) in
+    searched-no s rows count r (plan-test .unplanned s rs (reach .unplanned s rs fits gone)) size
 
 -- the rows in front stay
 rows-front : (old new : List ℕ) (i : ℕ) (r : Request) → new ≡ setRequest old i r → requestAt new i ≡ r → rowsFrom new 0 i ≡ rowsFrom old 0 i

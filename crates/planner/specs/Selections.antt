@@ -1,46 +1,38 @@
--- What a turn makes of the queue, in its arrays: the entries taken with what the plan gives them, and those passed over.
+-- What a turn makes of the queue: where the entries stand that it takes and that it passes over, and the plan of those taken.
 use mathlib.Core.Path.{_≡_}
 use mathlib.Core.List.{List, [], _∷_, _++_, map}
-use Prim.Native.Nat.{ℕ, _+_, _-_, _≤_}
-use lib.ListN.{length, take, replicate}
+use Prim.Native.Nat.{ℕ, _+_, _-_, _≤_, _<_}
+use lib.ListN.{length, take, getD, replicate}
 use Rattle.requests.specs.declared.Setup.{Setup}
 use Rattle.requests.specs.declared.Request.{Request}
 use Rattle.requests.specs.declared.Entry.{Entry}
-use Rattle.requests.specs.Devices.{capacity}
-use Rattle.plans.specs.declared.Place.{Place}
-use Rattle.plans.specs.declared.Given.{Given}
+use Rattle.requests.specs.declared.Answer.the-variants.{Accepted}
 use Rattle.plans.specs.Search.{firstPlan}
-use Rattle.plans.specs.Found.{given}
+use Rattle.plans.specs.Parts.{usableCount}
 use Rattle.plans.specs.Rows.{rowsFrom}
-use Rattle.plans.specs.Packed.{packed}
-use Rattle.sessions.specs.Turns.{taken, passed, placesOf}
-use Rattle.sessions.specs.Sessions.{vacant, padded}
-use Rattle.planner.specs.declared.Selection.{Selection}
+use Rattle.plans.specs.Packed.{packed, placesFrom}
+use Rattle.sessions.specs.declared.Session.{Session}
+use Rattle.sessions.specs.declared.TurnAnswered.{TurnAnswered}
+use Rattle.sessions.specs.Turns.{requestsOf, taken, passed, assign}
+use Rattle.sessions.specs.Sessions.{vacant, sessionOf, turnAnswer}
+use Rattle.planner.specs.declared.Chosen.{Chosen}
 
 -- a list in an array of n places: d stands in those past its end
 abbrev pub inArray : {A : Type 0} → ℕ → A → List A → List A
 inArray n d l = l ++ replicate (n - length l) d
 
--- the places that are given
-unfoldable pub placesIn : List Given → List Place
-placesIn gs = map (λ (g : Given). g .place) gs
+-- the entries that stand at the first n of these places of a queue
+unfoldable pub entriesAt : List Entry → ℕ → List ℕ → List Entry
+entriesAt queue n places = map (λ (i : ℕ). getD queue i vacant) (take n places)
 
--- the entries that a selection takes
-abbrev pub takenIn : Selection → List Entry
-takenIn x = take (x .count) (x .taken)
-
--- what the plan gives them
-abbrev pub placesTaken : Selection → List Place
-placesTaken x = placesIn (take (x .count) (x .places))
-
--- the entries that it passes over
-abbrev pub passedIn : Selection → List Entry
-passedIn x = take (x .rest) (x .passed)
-
--- a selection that its arrays and a queue have room for
-pub record WithinLimits (x : Selection) : Type 0 where
-  pub few : x .count ≤ 8
-  pub all : x .rest + x .count ≤ 16
+-- what a turn chooses has room in a plan and in a queue, and stands in the queue
+pub record WithinLimits (c : Chosen) (ts ps : List ℕ) : Type 0 where
+  pub taken-size : length ts ≡ 8
+  pub passed-size : length ps ≡ 16
+  pub few : c .count ≤ 8
+  pub all : c .rest + c .count ≤ 16
+  pub taken-inside : (j : ℕ) → j < c .count → getD ts j 0 < 16
+  pub passed-inside : (j : ℕ) → j < c .rest → getD ps j 0 < 16
 
 -- the search with one request more, behind those of the first rows: its answer, and the rows that it leaves, which have the request where
 -- there is a plan
@@ -50,13 +42,19 @@ pub record Searched (s : Setup) (rows : List ℕ) (count : ℕ) (request : Reque
   pub behind : (found ≡ 0 → ⊥) → rowsFrom next 0 (count + 1) ≡ rowsFrom rows 0 count ++ (request ∷ [])
   pub size : length next ≡ 32
 
--- what a turn takes and passes over
-unfoldable pub selectionOf : Setup → List Entry → Selection
-selectionOf s q =
-    record {
-      taken = inArray capacity vacant (taken s q);
-      count = length (taken s q);
-      places = given (placesOf s (taken s q));
-      passed = padded (passed s q);
-      rest = length (passed s q);
-    }
+-- what a turn has chosen of q: the rows are the requests taken, the code is the number of their plan, and ts and ps say where in the queue
+-- the entries stand that are taken and passed over
+pub record Selected (s : Setup) (queue q : List Entry) (rows ts ps : List ℕ) (c : Chosen) : Type 0 where
+  pub rows-taken : rowsFrom rows 0 (c .count) ≡ requestsOf (taken s q)
+  pub plan-found : c .code ≡ packed (firstPlan s (requestsOf (taken s q)))
+  pub plan-some : c .code ≡ 0 → ⊥
+  pub taken-entries : entriesAt queue (c .count) ts ≡ taken s q
+  pub taken-usable : c .count ≤ usableCount s
+  pub passed-entries : entriesAt queue (c .rest) ps ≡ passed s q
+  pub within : WithinLimits c ts ps
+
+-- the answer of a turn that makes this choice
+unfoldable pub turnChosen : Session → List ℕ → List ℕ → Chosen → ℕ → TurnAnswered
+turnChosen s ts ps c writes =
+    let es = entriesAt (s .queue) (c .count) ts in
+    turnAnswer Accepted (sessionOf (s .setup) (entriesAt (s .queue) (c .rest) ps ++ es)) (assign es (placesFrom (c .code) 0 (requestsOf es))) writes

@@ -1,7 +1,4 @@
 // The calls of a session.
-use plans::Given;
-use requests::Entry;
-
 pub mod add;
 pub mod drop;
 mod ids;
@@ -10,12 +7,9 @@ mod queue;
 mod select;
 pub mod turn;
 
-// What a turn makes of the queue: the entries taken, in the first `count` places, with what the plan gives them, and those passed over,
-// in the first `rest` places.
-struct Selection {
-    pub taken: [Entry; 8],
+// What a turn chooses: the number of the plan of the entries taken, how many they are, and how many entries are passed over.
+struct Chosen {
+    pub code: u64,
     pub count: usize,
-    pub places: [Given; 8],
-    pub passed: [Entry; 16],
     pub rest: usize,
 }

@@ -1,20 +1,25 @@
 // What a turn takes and passes over.
-use crate::Selection;
+use crate::Chosen;
 use crate::queue::bounded;
-use crate::queue::vacant;
-use plans::packed::places_of;
+use plans::reach::left_at_first;
+use plans::reach::left_by;
 use plans::rows::put_request;
 use plans::search::plan_rows;
-use requests::Entry;
+use requests::CounterSet;
 use requests::Request;
 use requests::Setup;
 use requests::devices::counter_count;
 use requests::set::size_of;
+use sessions::Session;
+ghost use mathlib.Core.Bool.{true};
 ghost use mathlib.Core.Path.{_≡_};
-ghost use Prim.Native.Nat.{_≤_};
-ghost use lib.ListN.{length, take};
+ghost use Prim.Native.Nat.{_<_, _≤_};
+ghost use lib.ListN.{length};
 ghost use Rattle.plans.specs.Parts.{usableCount};
-ghost use Rattle.planner.specs.Selections.{Searched, selectionOf};
+ghost use Rattle.plans.specs.Reach.{leftOf};
+ghost use Rattle.plans.specs.Rows.{rowsFrom};
+ghost use Rattle.sessions.specs.Sessions.{queued};
+ghost use Rattle.planner.specs.Selections.{Searched, Selected};
 
 // The number of the plan of no request.
 const EMPTY_PLAN: u64 = 1;
@@ -28,59 +33,83 @@ fn usable_count(setup: Setup) -> usize
     size_of(counter_count(device), usable)
 }
 
+// Whether no set of counters is left, of at most six usable ones.
+fn none_left(usable: CounterSet, left: u64) -> bool
+    ensures { λ r. ⌜ (r ≡ true → (left ≡ 0) × (usable .0 < 64)) ⌝ }
+{
+    if usable.0 < 64 {
+        return left == 0;
+    }
+    false
+}
+
 // The plan of the requests taken with one more behind them, packed; 0 where there is none. No plan has more requests than counters are
-// usable, so that nothing is searched once as many are taken.
+// usable, so that nothing is searched once as many are taken, nor where the requests leave no set of counters.
 fn plan_with(
     setup: Setup,
     usable: usize,
+    left: u64,
     rows: &mut [u64; 32],
     count: usize,
     request: Request,
 ) -> u64
     requires { ⌜ (usable ≡ usableCount setup) × (count ≤ usable) × (length (now rows) ≡ 32) ⌝ }
+    requires { ⌜ (setup .usable .0 < 64 → left ≡ leftOf setup (rowsFrom (now rows) 0 count)) ⌝ }
     ensures { λ r. ⌜ Searched setup (now (rows .entry)) count request (now (rows .exit)) r ⌝ }
 {
     if usable <= count {
+        return 0;
+    }
+    let counters = setup.usable;
+    let device = setup.device;
+    let wider = left_by(counter_count(device), request, left);
+    if none_left(counters, wider) {
         return 0;
     }
     put_request(rows, count, request);
     plan_rows(setup, rows, count + 1)
 }
 
-// Goes through the queue from the front: an entry is taken where it and those taken have a plan, and is passed over otherwise.
-pub fn selection_of(setup: Setup, queue: [Entry; 16], len: usize) -> Selection
-    ensures { λ r. ⌜ r ≡ selectionOf setup (take len queue) ⌝ }
+// Goes through the queue from the front: an entry is taken where it and those taken have a plan, and is passed over otherwise. The rows
+// become the requests taken; `taken` and `passed`, where in the queue the entries stand.
+pub fn select(
+    session: Session,
+    rows: &mut [u64; 32],
+    taken: &mut [usize; 8],
+    passed: &mut [usize; 16],
+) -> Chosen
+    requires { ⌜ (length (now rows) ≡ 32) × (length (now taken) ≡ 8) × (length (now passed) ≡ 16) ⌝ }
+    ensures { λ r. ⌜ Selected (session .setup) (session .queue) (queued session) (now (rows .exit)) (now (taken .exit)) (now (passed .exit)) r ⌝ }
 {
-    let n = bounded(len);
+    let setup = session.setup;
+    let n = bounded(session.len);
     let usable = usable_count(setup);
-    let empty = vacant();
-    let mut rows: [u64; 32] = [0; 32];
-    let mut plan = EMPTY_PLAN;
-    let mut taken = [empty; 8];
+    let device = setup.device;
+    let counters = counter_count(device);
+    let mut left = left_at_first(setup.usable);
+    let mut code = EMPTY_PLAN;
     let mut count: usize = 0;
-    let mut passed = [empty; 16];
     let mut rest: usize = 0;
     let mut i = 0;
     while i < n {
-        let entry = queue[i];
-        i += 1;
+        let at = i;
+        let entry = session.queue[at];
         let request = entry.request;
-        let found = plan_with(setup, usable, &mut rows, count, request);
+        let found = plan_with(setup, usable, left, rows, count, request);
+        i += 1;
         if found == 0 {
-            passed[rest] = entry;
+            passed[rest] = at;
             rest += 1;
         } else {
-            plan = found;
-            taken[count] = entry;
+            code = found;
+            left = left_by(counters, request, left);
+            taken[count] = at;
             count += 1;
         }
     }
-    let places = places_of(plan, &rows, count);
-    Selection {
-        taken: taken,
+    Chosen {
+        code: code,
         count: count,
-        places: places,
-        passed: passed,
         rest: rest,
     }
 }

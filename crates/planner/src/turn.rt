@@ -1,89 +1,25 @@
 // turn: the next plan, and its write list.
-use crate::Selection;
+use crate::Chosen;
 use crate::queue::vacant;
-use crate::select::selection_of;
-use layouts::Settings;
+use crate::select::select;
 use layouts::WriteAnswer;
 use plans::Place;
-use registers::plan_settings::settings_of;
+use plans::packed::place_at;
+use registers::plan_settings::settings_in;
 use registers::writer::write_list;
 use requests::Answer;
+use requests::Entry;
 use requests::Refusal;
-use requests::Request;
-use requests::Setup;
 use sessions::Assigned;
 use sessions::Session;
 use sessions::TurnAnswered;
 ghost use mathlib.Core.Path.{_≡_};
-ghost use mathlib.Core.List.{_++_, []};
-ghost use Prim.Native.Nat.{_≤_};
-ghost use lib.ListN.{length, take};
-ghost use Rattle.requests.specs.Devices.{capacity};
-ghost use Rattle.layouts.specs.Settings.{settingsOf};
-ghost use Rattle.sessions.specs.Turns.{requestsOf, assign};
-ghost use Rattle.sessions.specs.Sessions.{sessionOf, unassigned, turnAnswer, turnOf, turnSlice};
-ghost use Rattle.planner.specs.Selections.{inArray, takenIn, placesTaken, passedIn, WithinLimits};
-
-// The requests of the entries taken.
-fn requests_of(selection: Selection) -> [Request; 8]
-    requires { ⌜ selection .count ≤ 8 ⌝ }
-    ensures { λ r. ⌜ take (selection .count) r ≡ requestsOf (takenIn selection) ⌝ }
-{
-    let count = selection.count;
-    let empty = vacant();
-    let none = empty.request;
-    let mut requests = [none; 8];
-    let mut i = 0;
-    while i < count {
-        let entry = selection.taken[i];
-        let request = entry.request;
-        requests[i] = request;
-        i += 1;
-    }
-    requests
-}
-
-// The register values of the plan.
-fn settings_for(setup: Setup, selection: Selection) -> Settings
-    requires { ⌜ selection .count ≤ 8 ⌝ }
-    ensures { λ r. ⌜ r ≡ settingsOf (setup .device) (requestsOf (takenIn selection)) (placesTaken selection) ⌝ }
-{
-    let device = setup.device;
-    let requests = requests_of(selection);
-    let places = selection.places;
-    settings_of(device, requests, places, selection.count)
-}
-
-// The session after a turn: the entries passed over, then those taken.
-fn requeued(session: Session, selection: Selection) -> Session
-    requires { ⌜ WithinLimits selection ⌝ }
-    ensures { λ r. ⌜ r ≡ sessionOf (session .setup) (passedIn selection ++ takenIn selection) ⌝ }
-{
-    let front = selection.rest;
-    let back = selection.count;
-    let empty = vacant();
-    let mut queue = [empty; 16];
-    let mut i = 0;
-    while i < front {
-        let entry = selection.passed[i];
-        queue[i] = entry;
-        i += 1;
-    }
-    let mut j = 0;
-    while j < back {
-        let entry = selection.taken[j];
-        queue[front + j] = entry;
-        j += 1;
-    }
-    let setup = session.setup;
-    let len = front + back;
-    Session {
-        opened: true,
-        setup: setup,
-        queue: queue,
-        len: len,
-    }
-}
+ghost use mathlib.Core.List.{[]};
+ghost use Prim.Native.Nat.{ℕ, _<_, _≤_};
+ghost use lib.ListN.{length, getD};
+ghost use Rattle.plans.specs.Packed.{placeAt};
+ghost use Rattle.sessions.specs.Sessions.{padded, unassigned, turnAnswer, turnOf, turnSlice};
+ghost use Rattle.planner.specs.Selections.{entriesAt, WithinLimits, turnChosen};
 
 // What stands in a place of the plan that is not used.
 fn unassigned() -> Assigned
@@ -95,25 +31,16 @@ fn unassigned() -> Assigned
     }
 }
 
-// The plan: the id of each entry taken, with its place.
-fn assigned(selection: Selection) -> [Assigned; 8]
-    requires { ⌜ selection .count ≤ 8 ⌝ }
-    ensures { λ r. ⌜ r ≡ inArray capacity unassigned (assign (takenIn selection) (placesTaken selection)) ⌝ }
+// What the plan gives an entry, the one with number i among those taken.
+fn assigned(code: u64, i: usize, entry: Entry) -> Assigned
+    requires { ⌜ i < 8 ⌝ }
+    ensures { λ r. ⌜ r ≡ record { id = entry .id; place = placeAt code i (entry .request) } ⌝ }
 {
-    let count = selection.count;
-    let mut plan = [unassigned(); 8];
-    let mut i = 0;
-    while i < count {
-        let entry = selection.taken[i];
-        let given = selection.places[i];
-        let place = given.place;
-        plan[i] = Assigned {
-            id: entry.id,
-            place: place,
-        };
-        i += 1;
+    let request = entry.request;
+    Assigned {
+        id: entry.id,
+        place: place_at(code, i, request),
     }
-    plan
 }
 
 // The answer of a turn that is refused: the session stays as it is.
@@ -129,16 +56,56 @@ fn turn_refused(session: Session, refusal: Refusal) -> TurnAnswered
     }
 }
 
-// The answer of a turn that is accepted.
-fn turn_accepted(session: Session, selection: Selection, writes: usize) -> TurnAnswered
-    requires { ⌜ WithinLimits selection ⌝ }
-    ensures { λ r. ⌜ r ≡ turnAnswer Answer.Accepted (sessionOf (session .setup) (passedIn selection ++ takenIn selection)) (assign (takenIn selection) (placesTaken selection)) writes ⌝ }
+// The entries that are passed over, in their array.
+fn passed_over(session: Session, passed: &[usize; 16], rest: usize) -> [Entry; 16]
+    requires { ⌜ (rest ≤ 16) × (length (now passed) ≡ 16) × ((j : ℕ) → j < rest → getD (now passed) j 0 < 16) ⌝ }
+    ensures { λ r. ⌜ r ≡ padded (entriesAt (session .queue) rest (now (passed .entry))) ⌝ }
 {
+    let mut queue = [vacant(); 16];
+    let mut i = 0;
+    while i < rest {
+        let at = passed[i];
+        queue[i] = session.queue[at];
+        i += 1;
+    }
+    queue
+}
+
+// The answer of a turn that is accepted: in the queue the entries passed over come first, then those taken.
+fn turn_accepted(
+    session: Session,
+    taken: &[usize; 8],
+    passed: &[usize; 16],
+    chosen: Chosen,
+    writes: usize,
+) -> TurnAnswered
+    requires { ⌜ WithinLimits chosen (now taken) (now passed) ⌝ }
+    ensures { λ r. ⌜ r ≡ turnChosen session (now (taken .entry)) (now (passed .entry)) chosen writes ⌝ }
+{
+    let count = chosen.count;
+    let rest = chosen.rest;
+    let mut queue = passed_over(session, passed, rest);
+    let mut plan = [unassigned(); 8];
+    let mut i = 0;
+    while i < count {
+        let at = taken[i];
+        queue[rest + i] = session.queue[at];
+        plan[i] = assigned(chosen.code, i, session.queue[at]);
+        i += 1;
+    }
+    let setup = session.setup;
+    let len = rest + count;
+    let next = Session {
+        opened: true,
+        setup: setup,
+        queue: queue,
+        len: len,
+    };
     TurnAnswered {
         answer: Answer::Accepted,
-        session: requeued(session, selection),
-        plan: assigned(selection),
-        taken: selection.count,
+        session: next,
+        plan: plan,
+        taken: count,
         writes: writes,
     }
 }
@@ -153,11 +120,14 @@ pub fn turn(session: Session, out: &mut [u64]) -> TurnAnswered
         return turn_refused(session, Refusal::CallOrder);
     }
     let setup = session.setup;
-    let queue = session.queue;
-    let selection = selection_of(setup, queue, session.len);
-    let settings = settings_for(setup, selection);
+    let mut rows: [u64; 32] = [0; 32];
+    let mut taken: [usize; 8] = [0; 8];
+    let mut passed: [usize; 16] = [0; 16];
+    let chosen = select(session, &mut rows, &mut taken, &mut passed);
+    let device = setup.device;
+    let settings = settings_in(device, chosen.code, &rows, chosen.count);
     match write_list(out, setup, settings) {
         WriteAnswer::TooShort => turn_refused(session, Refusal::SliceTooShort),
-        WriteAnswer::Written(writes) => turn_accepted(session, selection, writes),
+        WriteAnswer::Written(writes) => { turn_accepted(session, &taken, &passed, chosen, writes) }
     }
 }

@@ -1,0 +1,156 @@
+-- `planner::select::select` chooses what `Selected` says. The loop's invariant: so it has of the first i entries, and `left` has the sets
+-- of counters that those taken leave.
+use mathlib.Core.Path.{_≡_, ap, sym, _∙_}
+use Prim.Native.Nat.{ℕ, _+_, _-_, _≤_, _<_}
+use borrow.Author.Needs.{needs}
+use native.Mathlib.Omega.{arith}
+use lib.ListN.{length, take, getD}
+use Rattle.plans.specs.Reach.{leftBy, leftOf}
+use Rattle.plans.proofs.ReachHolds.{reach}
+use Rattle.sessions.specs.Turns.{requestsOf, taken as takenBy}
+use Rattle.sessions.specs.Sessions.{vacant, queued}
+use Rattle.planner.specs.Selections.{Selected}
+use Rattle.requests.proofs.Windows.{length-mapped, take-next, take-min}
+use Rattle.planner.proofs.Selecting.{selected-none, selected-takes, selected-passes, taken-room, left-none, left-takes, left-passes}
+use Rattle.planner.proofs.select.select.Statement.{statement}
+use Rattle.planner.proofs.select.select.Tie as tie
+
+abbrev Inv-loop : tie.InvT-loop
+Inv-loop rows₀ taken₀ passed₀ session setup n usable counters left₀ code₀ count₀ rest₀ i₀ rows taken passed left code count rest i =
+    (length (session .queue) ≡ 16) × (length rows ≡ 32) × (i ≤ n) × (count + rest ≡ i)
+    × Selected (session .setup) (session .queue) (take i (session .queue)) rows taken passed (record { code = code; count = count; rest = rest })
+    × (session .setup .usable .0 < 64 → left ≡ leftOf (session .setup) (requestsOf (takenBy (session .setup) (take i (session .queue)))))
+
+abbrev μ-loop : tie.MeasureT-loop
+μ-loop rows₀ taken₀ passed₀ session setup n usable counters left₀ code₀ count₀ rest₀ i₀ rows taken passed left code count rest i = n - i
+
+length-16 : (c : tie.Start Inv-loop μ-loop) → length (c .args .t1 .queue) ≡ 16
+length-16 c = search (length-mapped, needs)
+
+loop-holds : tie.Need-loop-holds Inv-loop μ-loop
+loop-holds c =
+    let b = c .before .before .before .before .before in
+    let s = b .args .t1 in
+    (length-16 b, b .pre .0, omega arith, omega arith, selected-none (s .setup) (s .queue) _ _ _ (b .pre .1) (b .pre .2), λ fits. left-none (s .setup) _ (c .left-at-first .ensures fits))
+
+mul-entry : tie.Need-mul-entry Inv-loop μ-loop
+mul-entry c = omega arith
+
+element-copy-out-entry : tie.Need-element-copy-out-entry Inv-loop μ-loop
+element-copy-out-entry c = omega arith
+
+plan-with-requires : tie.Need-plan-with-requires Inv-loop μ-loop
+plan-with-requires c κs =
+    let l = c .before .before .before in
+    let s = c .before .before .before .before .before .before .before .before .before .args .t1 .setup in
+    let so-far = l .loop .inv .4 in
+    let u = c .before .before .before .before .before .before .usable-count .ensures in
+    ((u, rw u (so-far .taken-usable), l .loop .inv .1), λ fits. l .loop .inv .5 fits ∙ ap (leftOf s) (sym (so-far .rows-taken)))
+
+add-i : tie.Need-add-i Inv-loop μ-loop
+add-i c = omega arith
+
+mul-passed : tie.Need-mul-passed Inv-loop μ-loop
+mul-passed c = omega arith
+
+element-write-passed : tie.Need-element-write-passed Inv-loop μ-loop
+element-write-passed c = omega arith
+
+add-rest : tie.Need-add-rest Inv-loop μ-loop
+add-rest c = omega arith
+
+loop-less : tie.Need-loop-less Inv-loop μ-loop
+loop-less c = omega arith
+
+loop-again : tie.Need-loop-again Inv-loop μ-loop
+unfolding vacant
+loop-again c =
+    let l = c .before .before .before .before .before in
+    let v = l .loop .inv in
+    let q = c .before .before .before .before .before .before .before .before .before .before .before .args .t1 .queue in
+    let i = l .loop .i in
+    let search = c .before .plan-with .ensures in
+    let next = take-next q i vacant (omega arith) in (
+      v .0,
+      search .size,
+      omega arith,
+      omega arith,
+      rw next (selected-passes (v .4) i search (c .if1 .taken) (omega arith) (omega arith)),
+      rw next (left-passes (v .4) i search (v .5) (c .if1 .taken)),
+    )
+
+left-by-requires : tie.Need-left-by-requires Inv-loop μ-loop
+left-by-requires c κs = rw (c .before .before .before .before .before .before .before .counter-count .ensures) (reach .few _)
+
+-- there is room for one more
+room : (c : tie.After-left-by Inv-loop μ-loop) → c .before .before .before .before .before .before .loop .count < 8
+unfolding vacant
+room c =
+    let v = c .before .before .before .before .before .before .loop .inv in
+    taken-room (v .4) (c .before .before .before .before .before .before .loop .i) (c .before .before .plan-with .ensures) (c .before .if1 .left) .1
+
+mul-taken : tie.Need-mul-taken Inv-loop μ-loop
+mul-taken c = let r = room c in omega arith
+
+element-write-taken : tie.Need-element-write-taken Inv-loop μ-loop
+element-write-taken c = let r = room c in omega arith
+
+add-count : tie.Need-add-count Inv-loop μ-loop
+add-count c = omega arith
+
+loop-less-2 : tie.Need-loop-less-2 Inv-loop μ-loop
+loop-less-2 c = omega arith
+
+loop-again-2 : tie.Need-loop-again-2 Inv-loop μ-loop
+unfolding vacant
+loop-again-2 c =
+    let l = c .before .before .before .before .before .before in
+    let v = l .loop .inv in
+    let q = c .before .before .before .before .before .before .before .before .before .before .before .before .args .t1 .queue in
+    let i = l .loop .i in
+    let search = c .before .before .plan-with .ensures in
+    let exists = c .before .if1 .left in
+    let next = take-next q i vacant (omega arith) in
+    let less = c .left-by .ensures ∙ ap (λ (n : ℕ). leftBy n (getD q i vacant .request) (l .loop .left)) (c .before .before .before .before .before .before .before .before .counter-count .ensures) in (
+      v .0,
+      search .size,
+      omega arith,
+      omega arith,
+      rw next (selected-takes (v .4) i search exists (omega arith) (omega arith)),
+      rw next (left-takes (v .4) i search (v .5) less exists),
+    )
+
+returns : tie.Need-returns Inv-loop μ-loop
+unfolding queued
+returns c =
+    let l = c .before in
+    let s = c .before .before .before .before .before .before .before .args .t1 in
+    rw (← take-min (s .queue) (s .len) (l .loop .i) (omega arith)) (l .loop .inv .4)
+
+pub select-spec : {M : Type 1} → statement M
+select-spec =
+    tie.close
+    (tie.spec
+    Inv-loop
+    μ-loop
+    (λ c κs. search needs)
+    (λ c κs. search needs)
+    (λ c κs. search needs)
+    (λ c κs. search needs)
+    loop-holds
+    mul-entry
+    element-copy-out-entry
+    plan-with-requires
+    add-i
+    mul-passed
+    element-write-passed
+    add-rest
+    loop-less
+    loop-again
+    left-by-requires
+    mul-taken
+    element-write-taken
+    add-count
+    loop-less-2
+    loop-again-2
+    returns)
