@@ -1,11 +1,12 @@
--- Laws on lists in their arrays, over any element type, number of places and filling: a value is stored in the first place past the list.
--- Assumes nothing.
-use mathlib.Core.Path.{_≡_}
-use Prim.Native.Nat.{ℕ, suc, _-_, _<_}
-use mathlib.Core.List.{List, [], _∷_, _++_}
+-- Laws on lists in their arrays, over any element type, number of places and filling: a value is stored in the first place past the list,
+-- and the places past it are filled one after another. Assumes nothing.
+use mathlib.Core.Path.{_≡_, refl, ap, _∙_}
+use Prim.Native.Nat.{ℕ, zero, suc, _+_, _-_, _<_, _≤_}
+use mathlib.Core.List.{List, [], _∷_, _++_, append-assoc}
+use native.Mathlib.Numerals.{add-one}
 use native.Mathlib.Omega.{arith}
-use lib.ListN.{length, take, set, length-append}
-use lib.Seq.{set-append-seam, append-snoc, take-at}
+use lib.ListN.{length, take, set, replicate, length-append}
+use lib.Seq.{set-append-seam, append-snoc, take-at, take-suc-set}
 use Rattle.planner.specs.Selections.{inArray}
 
 module _ {A : Type 0} (n : ℕ) (d : A) (l : List A) (k : ℕ) where
@@ -16,3 +17,14 @@ module _ {A : Type 0} (n : ℕ) (d : A) (l : List A) (k : ℕ) where
 
   pub array-take : k ≡ length l → take k (inArray n d l) ≡ l
   array-take p = take-at l _ k (rw p)
+
+module _ {A : Type 0} (d : A) where
+  replicate-next : (n : ℕ) → replicate n d ++ (d ∷ []) ≡ replicate (suc n) d
+  replicate-next zero = refl
+  replicate-next (suc n) = ap (λ (l : List A). d ∷ l) (replicate-next n)
+
+  -- one place more is filled, behind k elements that stay
+  pub filled-next : (front l : List A) (k i : ℕ) → k ≤ i → i < length l → take i l ≡ front ++ replicate (i - k) d → take (i + 1) (set l i d) ≡ front ++ replicate (i + 1 - k) d
+  filled-next front l k i past room so-far =
+      let m : i + 1 - k ≡ suc (i - k) = omega arith in
+      rw (m, add-one i, take-suc-set l i d room, so-far, append-assoc) (ap (λ (x : List A). front ++ x) (replicate-next (i - k)))

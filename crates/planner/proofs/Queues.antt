@@ -1,17 +1,21 @@
 -- Laws of the queue in its array, by the steps that the code takes: whether an id waits, an entry pushed at the back, an id removed.
 -- Assumes nothing.
 use mathlib.Core.Path.{_≡_, refl, ap, _∙_}
-use Prim.Native.Nat.{ℕ, _+_, _≤_, _<_, min}
+use Prim.Native.Nat.{ℕ, _+_, _-_, _≤_, _<_, min}
 use mathlib.Core.Bool.{Bool, true, false}
 use mathlib.Core.List.{List, [], _∷_, _++_, append-nil}
+use native.Mathlib.Omega.{arith}
 use borrow.Author.Tests.{eq-eqb, ne-eqb}
 use lib.Dec.{eqb}
 use lib.ListN.{length, take, drop, getD, set, replicate}
+use lib.Seq.{take-all}
 use Rattle.requests.specs.declared.Entry.{Entry}
+use Rattle.requests.specs.declared.Setup.{Setup}
 use Rattle.requests.specs.Choice.{either, pick}
 use Rattle.sessions.specs.Calls.{waits}
 use Rattle.sessions.specs.Plain.{removed}
-use Rattle.sessions.specs.Sessions.{queueLimit, vacant, padded}
+use Rattle.sessions.specs.Sessions.{queueLimit, vacant, padded, sessionOf}
+use Rattle.sessions.specs.declared.Session.{Session}
 use Rattle.planner.proofs.Arrays.{array-push}
 use Rattle.requests.proofs.Windows.{window-past, window-step}
 
@@ -40,6 +44,12 @@ padded-none = refl
 pub padded-push : (q : List Entry) (k : ℕ) (e : Entry) → k ≡ length q → k < 16 → set (padded q) k e ≡ padded (q ++ (e ∷ []))
 unfolding padded queueLimit
 padded-push q k e p h = array-push 16 vacant q k e p h
+
+-- a session whose array holds the queue, and nothing past it
+pub session-filled : (s : Session) (t : Setup) (q : List Entry) → s .opened ≡ true → s .setup ≡ t → s .len ≡ length q → length (s .queue) ≡ 16
+    → take 16 (s .queue) ≡ q ++ replicate (16 - length q) vacant → s ≡ sessionOf t q
+unfolding sessionOf padded queueLimit
+session-filled s t q o u n size e = rw (← e, take-all 16 (s .queue) (omega arith), ← n, ← u, ← o)
 
 -- ---- an id removed
 

@@ -6,10 +6,9 @@ use sessions::Session;
 ghost use mathlib.Core.Path.{_≡_};
 ghost use mathlib.Core.List.{_++_, _∷_, []};
 ghost use Prim.Native.Nat.{_<_, min};
-ghost use lib.ListN.{take};
 ghost use Rattle.sessions.specs.Calls.{waits};
 ghost use Rattle.sessions.specs.Plain.{removed};
-ghost use Rattle.sessions.specs.Sessions.{vacant, queued, padded, sessionOf};
+ghost use Rattle.sessions.specs.Sessions.{vacant, queued, sessionOf};
 
 // "The queue holds at most 16 requests"
 pub const QUEUE_LIMIT: usize = 16;
@@ -53,38 +52,23 @@ pub fn waits(session: Session, id: u64) -> bool
     false
 }
 
-// The queue in a new array, with nothing past its end.
-pub fn padded(queue: [Entry; 16], len: usize) -> [Entry; 16]
-    ensures { λ r. ⌜ r ≡ padded (take len queue) ⌝ }
-{
-    let n = bounded(len);
-    let empty = vacant();
-    let mut out = [empty; 16];
-    let mut i = 0;
-    while i < n {
-        out[i] = queue[i];
-        i += 1;
-    }
-    out
-}
-
 // The session with one entry more, at the back.
 pub fn with_entry(session: Session, entry: Entry) -> Session
     requires { ⌜ session .len < 16 ⌝ }
     ensures { λ r. ⌜ r ≡ sessionOf (session .setup) (queued session ++ entry ∷ []) ⌝ }
 {
-    let queue = session.queue;
     let n = session.len;
-    let mut next = padded(queue, n);
-    next[n] = entry;
-    let setup = session.setup;
-    let len = n + 1;
-    Session {
-        opened: true,
-        setup: setup,
-        queue: next,
-        len: len,
+    let mut next = session;
+    next.opened = true;
+    next.queue[n] = entry;
+    next.len = n + 1;
+    let empty = vacant();
+    let mut i = n + 1;
+    while i < QUEUE_LIMIT {
+        next.queue[i] = empty;
+        i += 1;
     }
+    next
 }
 
 // The session without the id. The others keep their order.
