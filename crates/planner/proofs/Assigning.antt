@@ -12,7 +12,7 @@ use Rattle.plans.specs.Packed.{placeAt, placesFrom}
 use Rattle.sessions.specs.declared.Assigned.{Assigned}
 use Rattle.sessions.specs.Turns.{requestsOf, assign}
 use Rattle.sessions.specs.Sessions.{vacant}
-use Rattle.planner.specs.Selections.{entriesAt}
+use Rattle.planner.specs.Selections.{entriesAt, planned}
 use Rattle.requests.proofs.Windows.{take-next}
 
 -- ---- where the entries stand
@@ -38,24 +38,25 @@ pub requests-next : (es : List Entry) (e : Entry) → requestsOf (es ++ (e ∷ [
 unfolding requestsOf
 requests-next es e = map-append _ es (e ∷ [])
 
--- the plan of entries that are numbered from i on, with the places that a packed plan gives them
-abbrev pub planned : ℕ → ℕ → List Entry → List Assigned
-planned code i es = assign es (placesFrom code i (requestsOf es))
-
-planned-last : (code i : ℕ) (es : List Entry) (e : Entry)
-    → planned code i (es ++ (e ∷ [])) ≡ planned code i es ++ (record { id = e .id; place = placeAt code (i + length es) (e .request) } ∷ [])
+plan-last : (code i : ℕ) (es : List Entry) (e : Entry) → assign (es ++ (e ∷ [])) (placesFrom code i (requestsOf (es ++ (e ∷ []))))
+    ≡ assign es (placesFrom code i (requestsOf es)) ++ (record { id = e .id; place = placeAt code (i + length es) (e .request) } ∷ [])
 unfolding assign placesFrom requestsOf
-planned-last code i [] e = rw (add-zero i)
-planned-last code i (d ∷ es) e =
+plan-last code i [] e = rw (add-zero i)
+plan-last code i (d ∷ es) e =
     let s : i + 1 + length es ≡ i + suc (length es) = omega arith in
-    ap (λ (l : List Assigned). record { id = d .id; place = placeAt code i (d .request) } ∷ l) (rw (← s) (planned-last code (i + 1) es e))
+    ap (λ (l : List Assigned). record { id = d .id; place = placeAt code i (d .request) } ∷ l) (rw (← s) (plan-last code (i + 1) es e))
+
+plan-size : (code i : ℕ) (es : List Entry) → length (assign es (placesFrom code i (requestsOf es))) ≡ length es
+unfolding assign placesFrom requestsOf
+plan-size code i [] = refl
+plan-size code i (e ∷ es) = ap suc (plan-size code (i + 1) es)
 
 -- one entry more
 pub planned-next : (code n : ℕ) (es : List Entry) (e : Entry) → length es ≡ n
-    → planned code 0 (es ++ (e ∷ [])) ≡ planned code 0 es ++ (record { id = e .id; place = placeAt code n (e .request) } ∷ [])
-planned-next code n es e h = planned-last code 0 es e ∙ rw (zero-add, h)
+    → planned code (es ++ (e ∷ [])) ≡ planned code es ++ (record { id = e .id; place = placeAt code n (e .request) } ∷ [])
+unfolding planned
+planned-next code n es e h = plan-last code 0 es e ∙ rw (zero-add, h)
 
-pub planned-length : (code i : ℕ) (es : List Entry) → length (planned code i es) ≡ length es
-unfolding assign placesFrom requestsOf
-planned-length code i [] = refl
-planned-length code i (e ∷ es) = ap suc (planned-length code (i + 1) es)
+pub planned-length : (code : ℕ) (es : List Entry) → length (planned code es) ≡ length es
+unfolding planned
+planned-length code es = plan-size code 0 es

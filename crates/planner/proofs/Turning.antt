@@ -1,5 +1,5 @@
 -- What a turn answers, from what it chooses and from what the writer answers. Assumes nothing.
---     chosen-..   the writes and the answer of what is chosen
+--     chosen-..   the writes, the queue and the plan of what is chosen
 --     turn-..     the answer and the slice of a turn, by the tests that the code makes
 use mathlib.Core.Path.{_≡_, refl, ap, _∙_}
 use Prim.Native.Nat.{ℕ}
@@ -26,7 +26,7 @@ use Rattle.sessions.specs.Turns.{taken, turned, placesOf, assign, writesOf}
 use Rattle.sessions.specs.Calls.{Turn}
 use Rattle.sessions.specs.Sessions.{queueLimit, queued, sessionOf, refusedBy, turnAnswer, turnOf, turnSlice}
 use Rattle.planner.specs.declared.Chosen.{Chosen}
-use Rattle.planner.specs.Selections.{Selected, turnChosen}
+use Rattle.planner.specs.Selections.{Selected, planned, planChosen, sessionChosen}
 use Rattle.planner.proofs.Selecting.{selected-places}
 use Rattle.sessions.proofs.TableAnswers.{plain-closed, plain-opened, turn-closed, turn-short, turn-accepted}
 
@@ -43,11 +43,14 @@ module _ (s : Session) {rows ts ps : List ℕ} {c : Chosen} (all : Selected (s .
   unfolding writesOf writes
   chosen-writes t n m e = ap (writesFor (s .setup)) (e ∙ rw (m, all .rows-taken, selected-places all))
 
-  -- and its answer is the one that has their plan
-  pub chosen-answer : (writes : ℕ)
-      → turnChosen s ts ps c writes ≡ turnAnswer Accepted (sessionOf (s .setup) (turned (s .setup) (queued s))) (assign (takenBy s) (placesOf (s .setup) (takenBy s))) writes
-  unfolding turnChosen turned
-  chosen-answer writes = rw (all .taken-entries, all .passed-entries, selected-places all)
+  -- the queue afterwards and the plan are theirs as well
+  pub chosen-session : sessionChosen s ts ps c ≡ sessionOf (s .setup) (turned (s .setup) (queued s))
+  unfolding sessionChosen turned
+  chosen-session = rw (all .taken-entries, all .passed-entries)
+
+  pub chosen-plan : planChosen s ts c ≡ assign (takenBy s) (placesOf (s .setup) (takenBy s))
+  unfolding planned
+  chosen-plan = rw (all .taken-entries, selected-places all)
 
 -- ---- the writer's answer
 

@@ -6,15 +6,14 @@ use lib.ListN.{length, take, getD, replicate}
 use Rattle.requests.specs.declared.Setup.{Setup}
 use Rattle.requests.specs.declared.Request.{Request}
 use Rattle.requests.specs.declared.Entry.{Entry}
-use Rattle.requests.specs.declared.Answer.the-variants.{Accepted}
 use Rattle.plans.specs.Search.{firstPlan}
 use Rattle.plans.specs.Parts.{usableCount}
 use Rattle.plans.specs.Rows.{rowsFrom}
 use Rattle.plans.specs.Packed.{packed, placesFrom}
+use Rattle.sessions.specs.declared.Assigned.{Assigned}
 use Rattle.sessions.specs.declared.Session.{Session}
-use Rattle.sessions.specs.declared.TurnAnswered.{TurnAnswered}
 use Rattle.sessions.specs.Turns.{requestsOf, taken, passed, assign}
-use Rattle.sessions.specs.Sessions.{vacant, sessionOf, turnAnswer}
+use Rattle.sessions.specs.Sessions.{vacant, sessionOf}
 use Rattle.planner.specs.declared.Chosen.{Chosen}
 
 -- a list in an array of n places: d stands in those past its end
@@ -53,8 +52,14 @@ pub record Selected (s : Setup) (queue q : List Entry) (rows ts ps : List ℕ) (
   pub passed-entries : entriesAt queue (c .rest) ps ≡ passed s q
   pub within : WithinLimits c ts ps
 
--- the answer of a turn that makes this choice
-unfoldable pub turnChosen : Session → List ℕ → List ℕ → Chosen → ℕ → TurnAnswered
-turnChosen s ts ps c writes =
-    let es = entriesAt (s .queue) (c .count) ts in
-    turnAnswer Accepted (sessionOf (s .setup) (entriesAt (s .queue) (c .rest) ps ++ es)) (assign es (placesFrom (c .code) 0 (requestsOf es))) writes
+-- the session after a turn that makes this choice: the entries passed over, then those taken
+unfoldable pub sessionChosen : Session → List ℕ → List ℕ → Chosen → Session
+sessionChosen s ts ps c = sessionOf (s .setup) (entriesAt (s .queue) (c .rest) ps ++ entriesAt (s .queue) (c .count) ts)
+
+-- the plan of entries, with the places that a packed plan gives them
+unfoldable pub planned : ℕ → List Entry → List Assigned
+planned code es = assign es (placesFrom code 0 (requestsOf es))
+
+-- the plan of this choice
+abbrev pub planChosen : Session → List ℕ → Chosen → List Assigned
+planChosen s ts c = planned (c .code) (entriesAt (s .queue) (c .count) ts)

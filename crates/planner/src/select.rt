@@ -62,8 +62,8 @@ fn plan_with(
     }
     let counters = setup.usable;
     let device = setup.device;
-    let wider = left_by(counter_count(device), request, left);
-    if none_left(counters, wider) {
+    let left_then = left_by(counter_count(device), request, left);
+    if none_left(counters, left_then) {
         return 0;
     }
     put_request(rows, count, request);

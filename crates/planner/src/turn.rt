@@ -8,18 +8,15 @@ use plans::packed::place_at;
 use registers::plan_settings::settings_in;
 use registers::writer::write_list;
 use requests::Answer;
-use requests::Entry;
 use requests::Refusal;
 use sessions::Assigned;
 use sessions::Session;
 use sessions::TurnAnswered;
 ghost use mathlib.Core.Path.{_≡_};
 ghost use mathlib.Core.List.{[]};
-ghost use Prim.Native.Nat.{ℕ, _<_, _≤_};
-ghost use lib.ListN.{length, getD};
-ghost use Rattle.plans.specs.Packed.{placeAt};
-ghost use Rattle.sessions.specs.Sessions.{padded, unassigned, turnAnswer, turnOf, turnSlice};
-ghost use Rattle.planner.specs.Selections.{entriesAt, WithinLimits, turnChosen};
+ghost use lib.ListN.{length};
+ghost use Rattle.sessions.specs.Sessions.{unassigned, turnAnswer, turnOf, turnSlice};
+ghost use Rattle.planner.specs.Selections.{WithinLimits, sessionChosen, planChosen};
 
 // What stands in a place of the plan that is not used.
 fn unassigned() -> Assigned
@@ -28,18 +25,6 @@ fn unassigned() -> Assigned
     Assigned {
         id: 0,
         place: Place::Counter(0),
-    }
-}
-
-// What the plan gives an entry, the one with number i among those taken.
-fn assigned(code: u64, i: usize, entry: Entry) -> Assigned
-    requires { ⌜ i < 8 ⌝ }
-    ensures { λ r. ⌜ r ≡ record { id = entry .id; place = placeAt code i (entry .request) } ⌝ }
-{
-    let request = entry.request;
-    Assigned {
-        id: entry.id,
-        place: place_at(code, i, request),
     }
 }
 
@@ -56,22 +41,37 @@ fn turn_refused(session: Session, refusal: Refusal) -> TurnAnswered
     }
 }
 
-// The entries that are passed over, in their array.
-fn passed_over(session: Session, passed: &[usize; 16], rest: usize) -> [Entry; 16]
-    requires { ⌜ (rest ≤ 16) × (length (now passed) ≡ 16) × ((j : ℕ) → j < rest → getD (now passed) j 0 < 16) ⌝ }
-    ensures { λ r. ⌜ r ≡ padded (entriesAt (session .queue) rest (now (passed .entry))) ⌝ }
+// The session after a turn: the entries passed over, then those taken.
+fn requeued(session: Session, taken: &[usize; 8], passed: &[usize; 16], chosen: Chosen) -> Session
+    requires { ⌜ WithinLimits chosen (now taken) (now passed) ⌝ }
+    ensures { λ r. ⌜ r ≡ sessionChosen session (now (taken .entry)) (now (passed .entry)) chosen ⌝ }
 {
+    let front = chosen.rest;
+    let back = chosen.count;
     let mut queue = [vacant(); 16];
     let mut i = 0;
-    while i < rest {
+    while i < front {
         let at = passed[i];
         queue[i] = session.queue[at];
         i += 1;
     }
-    queue
+    let mut j = 0;
+    while j < back {
+        let at = taken[j];
+        queue[front + j] = session.queue[at];
+        j += 1;
+    }
+    let setup = session.setup;
+    let len = front + back;
+    Session {
+        opened: true,
+        setup: setup,
+        queue: queue,
+        len: len,
+    }
 }
 
-// The answer of a turn that is accepted: in the queue the entries passed over come first, then those taken.
+// The answer of a turn that is accepted, with the plan: the id of each entry taken, with its place.
 fn turn_accepted(
     session: Session,
     taken: &[usize; 8],
@@ -80,30 +80,24 @@ fn turn_accepted(
     writes: usize,
 ) -> TurnAnswered
     requires { ⌜ WithinLimits chosen (now taken) (now passed) ⌝ }
-    ensures { λ r. ⌜ r ≡ turnChosen session (now (taken .entry)) (now (passed .entry)) chosen writes ⌝ }
+    ensures { λ r. ⌜ r ≡ turnAnswer Answer.Accepted (sessionChosen session (now (taken .entry)) (now (passed .entry)) chosen) (planChosen session (now (taken .entry)) chosen) writes ⌝ }
 {
     let count = chosen.count;
-    let rest = chosen.rest;
-    let mut queue = passed_over(session, passed, rest);
     let mut plan = [unassigned(); 8];
     let mut i = 0;
     while i < count {
         let at = taken[i];
-        queue[rest + i] = session.queue[at];
-        plan[i] = assigned(chosen.code, i, session.queue[at]);
+        let entry = session.queue[at];
+        let request = entry.request;
+        plan[i] = Assigned {
+            id: entry.id,
+            place: place_at(chosen.code, i, request),
+        };
         i += 1;
     }
-    let setup = session.setup;
-    let len = rest + count;
-    let next = Session {
-        opened: true,
-        setup: setup,
-        queue: queue,
-        len: len,
-    };
     TurnAnswered {
         answer: Answer::Accepted,
-        session: next,
+        session: requeued(session, taken, passed, chosen),
         plan: plan,
         taken: count,
         writes: writes,

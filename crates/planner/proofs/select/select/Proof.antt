@@ -80,7 +80,7 @@ loop-again c =
     )
 
 left-by-requires : tie.Need-left-by-requires Inv-loop μ-loop
-left-by-requires c κs = rw (c .before .before .before .before .before .before .before .counter-count .ensures) (reach .few _)
+left-by-requires c κs = let few = reach .few (c .before .before .before .before .before .before .before .before .before .before .before .args .t1 .setup .device) in omega (arith, c .before .before .before .before .before .before .before .counter-count .ensures)
 
 -- there is room for one more
 room : (c : tie.After-left-by Inv-loop μ-loop) → c .before .before .before .before .before .before .loop .count < 8

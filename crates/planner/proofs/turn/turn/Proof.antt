@@ -9,7 +9,7 @@ use Rattle.requests.specs.Devices.{capacity}
 use Rattle.layouts.specs.Slices.{Wrote}
 use Rattle.sessions.specs.Turns.{taken, writesOf}
 use Rattle.sessions.specs.Sessions.{queued}
-use Rattle.planner.proofs.Turning.{chosen-writes, chosen-answer, turn-order, turn-refused, turn-written}
+use Rattle.planner.proofs.Turning.{chosen-writes, chosen-session, chosen-plan, turn-order, turn-refused, turn-written}
 use Rattle.planner.proofs.turn.turn.Statement.{statement}
 use Rattle.planner.proofs.turn.turn.Tie as tie
 
@@ -43,10 +43,12 @@ returns-3 : tie.Need-returns-3
 returns-3 c =
     let w = c .before .before .before .before .before .before .before .before in
     let i = c .before .before .before .before .before .before .before .before .before .before .before .before .before .before .before .before .before in
+    let all = c .before .before .before .before .before .before .before .before .before .before .before .before .select .ensures in
     let a = c .before .before .before .before .before .before .before .before .before .before .before .before .before .before .before .before .before .before .before .args in
+    let s = a .session in
     let o = rw (c .before .before .before .before .writes .given .1) at (wrote w) in
-    let t = turn-written (a .session) (now (a .out)) (not-false _ (i .if1 .left)) (w .write-list .last .0) _ o in
-    (rw (c .turn-accepted .ensures, chosen-answer (a .session) (c .before .before .before .before .before .before .before .before .before .before .before .before .select .ensures)) (t .0), t .1)
+    let t = turn-written s (now (a .out)) (not-false _ (i .if1 .left)) (w .write-list .last .0) _ o in
+    (rw (c .turn-accepted .ensures, chosen-session s all, chosen-plan s all) (t .0), t .1)
 
 pub turn-spec : {M : Type 1} → statement M
 turn-spec =
