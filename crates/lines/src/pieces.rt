@@ -44,24 +44,14 @@ pub fn keep(feed: Feed, piece: &[u8]) -> Feed
     next
 }
 
-// What the kept bytes of a line that has ended are.
-fn parse_kept(kept: &[u8], used: usize, long: bool) -> Parsed
+// What the first bytes of a line that has ended are, at most `used` of them.
+fn parse_start(kept: &[u8], used: usize, long: bool) -> Parsed
     ensures { λ r. ⌜ r ≡ parseText (take used (now (kept .entry))) true long ⌝ }
 {
     if used < kept.len() {
         return parse_text(&kept[..used], true, long);
     }
     parse_text(kept, true, long)
-}
-
-// What a line is that lies in one piece.
-fn parse_whole(line: &[u8]) -> Parsed
-    ensures { λ r. ⌜ r ≡ parseText (take longest (now (line .entry))) true (ltb longest (length (now (line .entry)))) ⌝ }
-{
-    if LONGEST < line.len() {
-        return parse_text(&line[..LONGEST], true, true);
-    }
-    parse_text(line, true, false)
 }
 
 // What a line is that ends with a piece.
@@ -72,7 +62,7 @@ pub fn parse_ended(feed: Feed, piece: &[u8]) -> Parsed
     if begun(feed.used, feed.long) {
         let ended = keep(feed, piece);
         let kept = ended.kept;
-        return parse_kept(&kept, ended.used, ended.long);
+        return parse_start(&kept, ended.used, ended.long);
     }
-    parse_whole(piece)
+    parse_start(piece, LONGEST, LONGEST < piece.len())
 }

@@ -15,18 +15,18 @@ begun-requires c κs = search needs
 keep-requires : tie.Need-keep-requires
 keep-requires c κs = search needs
 
-slice-aggregate-parse-kept : tie.Need-slice-aggregate-parse-kept
-slice-aggregate-parse-kept c = search needs
+slice-aggregate-parse-start : tie.Need-slice-aggregate-parse-start
+slice-aggregate-parse-start c = search needs
 
-parse-kept-requires : tie.Need-parse-kept-requires
-parse-kept-requires c κs = search needs
+parse-start-requires : tie.Need-parse-start-requires
+parse-start-requires c κs = search needs
 
 returns : tie.Need-returns
 unfolding keptLine
-returns c = rw (← c .before .before .before .keep .ensures) (c .parse-kept .ensures)
+returns c = rw (← c .before .before .before .keep .ensures) (c .parse-start .ensures)
 
-parse-whole-requires : tie.Need-parse-whole-requires
-parse-whole-requires c κs = search needs
+parse-start-requires-2 : tie.Need-parse-start-requires-2
+parse-start-requires-2 c κs = search needs
 
 -- the array of a state has room for the longest line
 room : (c : tie.Start) → length (c .args .feed .kept) ≡ longest
@@ -34,10 +34,11 @@ unfolding longest
 room c = search needs
 
 returns-2 : tie.Need-returns-2
+unfolding longest
 returns-2 c =
     let a = c .before .before .before .before .args in
     let none = sym (c .before .before .begun .ensures) ∙ c .before .if1 .left in
-    c .parse-whole .ensures ∙ sym (whole-line (a .feed) (now (a .piece)) (room (c .before .before .before .before)) none (c .before .before .before .before .pre))
+    c .parse-start2 .ensures ∙ sym (whole-line (a .feed) (now (a .piece)) (room (c .before .before .before .before)) none (c .before .before .before .before .pre))
 
 pub parse-ended-spec : {M : Type 1} → statement M
 parse-ended-spec =
@@ -45,8 +46,8 @@ parse-ended-spec =
     (tie.spec
     begun-requires
     keep-requires
-    slice-aggregate-parse-kept
-    parse-kept-requires
+    slice-aggregate-parse-start
+    parse-start-requires
     returns
-    parse-whole-requires
+    parse-start-requires-2
     returns-2)
