@@ -1,21 +1,74 @@
--- The reply to the end of the input: `no` and 1 where a line has begun, otherwise nothing.
+-- The reply to the end of the input: a line that has begun is answered as one that is too long, and otherwise there is nothing.
 use mathlib.Core.Bool.{true, false}
-use mathlib.Core.List.{_∷_}
-use mathlib.Core.Path.{_≡_}
-use lib.ListN.{replicate}
+use mathlib.Core.List.{List, [], _∷_}
+use mathlib.Core.Path.{_≡_, refl, _∙_}
+use Prim.Native.Nat.{ℕ}
+use native.Mathlib.Omega.{arith}
+use lib.ListN.{length, take, replicate, length-replicate}
 use Rattle.requests.specs.Refusals.{numberOf}
+use Rattle.requests.specs.declared.Refusal.the-variants.{NotInGrammar}
+use Rattle.requests.specs.declared.Answer.the-variants.{Refused}
+use Rattle.sessions.specs.declared.Session.{Session}
+use Rattle.records.specs.Fields.{fields}
+use Rattle.records.specs.Parse.{tooLong, parseText}
 use Rattle.records.specs.Text.{bytes, tab, newline, decimalDigits, decimalText, lineOf}
-use Rattle.answers.specs.Replies.{answerText}
-use Rattle.answers.specs.Written.{replyRoom, inArray}
-use Rattle.lines.specs.Stream.{unfinished, endText, endReply}
+use Rattle.records.specs.Verbs.{recordOf}
+use Rattle.records.specs.declared.Parsed.{Parsed}
+use Rattle.records.specs.declared.Parsed.the-variants.{Line, Fault}
+use Rattle.answers.specs.Replies.{Reply, answerText, parsedReply}
+use Rattle.answers.specs.Written.{replyRoom, inArray, atStart}
+use Rattle.lines.specs.Blocks.{takenOf, takenFrom, fedOf, fedOut}
+use Rattle.lines.specs.Stream.{lineStart, lineReply, unfinished, endText, endReply}
 use Rattle.lines.specs.declared.Feed.{Feed}
+use Rattle.lines.specs.declared.Fed.{Fed}
+use Rattle.lines.proofs.LineByLine.{newline-state, newline-text}
+use Rattle.lines.proofs.Taking.{taken-newline}
+
+-- the state where the line is longer than what is kept of it
+abbrev pub longer : Feed → Feed
+longer f = record { session = f .session; kept = f .kept; used = f .used; long = true }
+
+-- a line that is too long is not in the grammar
+long-fault : (s : Session) (t : List ℕ) → _≡_ {A = Reply} (parsedReply s (parseText t true true)) (record { text = answerText (Refused NotInGrammar); session = s })
+unfolding parseText parsedReply tooLong
+long-fault s t = go (recordOf t true)
+  where
+    go : (p : Parsed) → _≡_ {A = Reply} (parsedReply s (tooLong p (length (fields t)))) (record { text = answerText (Refused NotInGrammar); session = s })
+    go (Line r) = refl
+    go (Fault k) = refl
+
+-- the array that the reply goes into
+abbrev zeros : List ℕ
+zeros = replicate replyRoom 0
+
+-- with that room a newline is taken
+newline-taken : (f : Feed) → takenOf (length zeros) f (newline ∷ []) ≡ 1
+unfolding takenOf
+newline-taken f = taken-newline (length zeros) f [] (omega (arith, length-replicate {A = ℕ} replyRoom 0))
 
 module _ (f : Feed) where
-  pub ended-begun : unfinished f ≡ true
-      → inArray (endReply f) ≡ record { text = 110 ∷ 111 ∷ tab ∷ 49 ∷ newline ∷ replicate 2043 0; length = 5; session = f .session }
-  unfolding inArray endReply endText answerText lineOf bytes decimalText decimalDigits numberOf tab newline replyRoom
-  ended-begun e = rw (e, endText)
+  -- the line as one that is too long: its reply ..
+  longer-reply : _≡_ {A = Reply} (lineReply (longer f)) (record { text = answerText (Refused NotInGrammar); session = f .session })
+  unfolding lineReply
+  longer-reply = long-fault (f .session) (take (f .used) (f .kept))
 
-  pub ended-none : unfinished f ≡ false → inArray (endReply f) ≡ record { text = replicate 2048 0; length = 0; session = f .session }
+  -- .. and what a newline leaves of it
+  longer-fed : fedOf (longer f) (newline ∷ []) (length zeros)
+      ≡ record { feed = lineStart (f .session); taken = 1; written = length (answerText (Refused NotInGrammar)) }
+  unfolding fedOf takenFrom
+  longer-fed = rw (newline-taken (longer f), newline-state (longer f), newline-text (longer f), longer-reply)
+
+  longer-out : fedOut (longer f) (newline ∷ []) zeros ≡ atStart (answerText (Refused NotInGrammar)) zeros
+  unfolding fedOut takenFrom
+  longer-out = rw (newline-taken (longer f), newline-text (longer f), longer-reply)
+
+  -- the reply to the end where a line has begun, and where none has
+  pub ended-begun : unfinished f ≡ true → {fed : Fed} {text : List ℕ}
+      → fed ≡ fedOf (longer f) (newline ∷ []) (length zeros) → text ≡ fedOut (longer f) (newline ∷ []) zeros
+      → record { text = text; length = fed .written; session = fed .feed .session } ≡ inArray (endReply f)
+  unfolding inArray atStart endReply endText lineStart answerText lineOf bytes decimalText decimalDigits numberOf tab newline replyRoom
+  ended-begun e a b = rw (a ∙ longer-fed, b ∙ longer-out, e, endText)
+
+  pub ended-none : unfinished f ≡ false → inArray (endReply f) ≡ record { text = zeros; length = 0; session = f .session }
   unfolding inArray endReply endText replyRoom
   ended-none e = rw (e, endText)

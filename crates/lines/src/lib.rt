@@ -5,10 +5,13 @@ mod newlines;
 mod pieces;
 pub mod stream;
 
+// The most bytes of a line that are kept.
+pub const LONGEST: usize = 80;
+
 // The state between two bytes: the session, the first 80 bytes of the unfinished line, and whether it is longer.
 pub struct Feed {
     pub session: Session,
-    pub kept: [u8; 80],
+    pub kept: [u8; LONGEST],
     pub used: usize,
     pub long: bool,
 }

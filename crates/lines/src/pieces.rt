@@ -1,5 +1,6 @@
 // Pieces of a line: kept until the line ends, and parsed then.
 use crate::Feed;
+use crate::LONGEST;
 use records::Parsed;
 use records::parse::parse_text;
 ghost use mathlib.Core.Bool.{true};
@@ -10,9 +11,6 @@ ghost use Rattle.requests.specs.Choice.{either};
 ghost use Rattle.records.specs.Parse.{longest, parseText};
 ghost use Rattle.lines.specs.Stream.{feedState};
 ghost use Rattle.lines.specs.Pieces.{NewlineFree, keptLine};
-
-// The most bytes of a line that are kept.
-const LONGEST: usize = 80;
 
 // Whether a line has begun.
 pub fn begun(used: usize, long: bool) -> bool

@@ -1,6 +1,7 @@
 // The line program over blocks of input.
 use crate::Fed;
 use crate::Feed;
+use crate::LONGEST;
 use crate::newlines::newline_in;
 use crate::pieces::begun;
 use crate::pieces::keep;
@@ -22,7 +23,7 @@ fn line_start(session: Session) -> Feed
 {
     Feed {
         session,
-        kept: [0u8; 80],
+        kept: [0u8; LONGEST],
         used: 0,
         long: false,
     }
@@ -74,24 +75,25 @@ pub fn feed(feed: Feed, block: &[u8], out: &mut [u8]) -> Fed
     }
 }
 
-// The reply to the end of the input.
-pub fn end(feed: Feed) -> LineReply
-    ensures { λ r. ⌜ r ≡ inArray (endReply feed) ⌝ }
+// The reply to the end of the input: a line without its newline is answered as one that is too long.
+// It goes through `feed`, so that `reply` has one caller and is compiled into its loop.
+pub fn end(state: Feed) -> LineReply
+    ensures { λ r. ⌜ r ≡ inArray (endReply state) ⌝ }
 {
-    let session = feed.session;
-    let mut text = [0u8; 2048];
-    if begun(feed.used, feed.long) {
-        text[0] = b'n';
-        text[1] = b'o';
-        text[2] = b'\t';
-        text[3] = b'1';
-        text[4] = b'\n';
+    let mut text = [0u8; REPLY_ROOM];
+    if begun(state.used, state.long) {
+        let mut longer = state;
+        longer.long = true;
+        let fed = feed(longer, b"\n", &mut text);
+        let next = fed.feed;
+        let session = next.session;
         return LineReply {
             text,
-            length: 5,
+            length: fed.written,
             session,
         };
     }
+    let session = state.session;
     LineReply {
         text,
         length: 0,

@@ -1,47 +1,43 @@
--- The five bytes of the answer are stored at the start of the array where a line has begun. By the laws of the end.
+-- Where a line has begun, what `feed` leaves of it and a newline is the reply. By the laws of the end.
 use mathlib.Core.Path.{sym, _∙_}
-use Rattle.records.specs.Text.{tab, newline}
+use borrow.Author.Needs.{needs}
+use Rattle.records.specs.Text.{newline}
+use Rattle.answers.specs.Written.{replyRoom}
 use Rattle.lines.specs.Stream.{unfinished}
 use Rattle.lines.proofs.Ending.{ended-begun, ended-none}
-use borrow.Author.Needs.{needs}
 use Rattle.lines.proofs.stream.end.Statement.{statement}
 use Rattle.lines.proofs.stream.end.Tie as tie
 
 begun-requires : tie.Need-begun-requires
 begun-requires c κs = search needs
 
-array-write-text : tie.Need-array-write-text
-array-write-text c = search needs
+slice-aggregate-feed : tie.Need-slice-aggregate-feed
+slice-aggregate-feed c = search needs
 
-array-write-text-2 : tie.Need-array-write-text-2
-array-write-text-2 c = search needs
+slice-aggregate-feed-2 : tie.Need-slice-aggregate-feed-2
+slice-aggregate-feed-2 c = search needs
 
-array-write-text-3 : tie.Need-array-write-text-3
-array-write-text-3 c = search needs
-
-array-write-text-4 : tie.Need-array-write-text-4
-array-write-text-4 c = search needs
-
-array-write-text-5 : tie.Need-array-write-text-5
-array-write-text-5 c = search needs
+feed-requires : tie.Need-feed-requires
+feed-requires c κs = search needs
 
 returns : tie.Need-returns
-unfolding tab newline unfinished
-returns c = sym (ended-begun (c .before .before .before .args .feed) (sym (c .before .begun .ensures) ∙ c .if1 .taken))
+unfolding newline replyRoom unfinished
+returns c =
+    let fed = c .before .before .before .feed in
+    let tested = c .before .before .before .before .before .before in
+    ended-begun (tested .before .before .args .state) (sym (tested .before .begun .ensures) ∙ tested .if1 .taken) (fed .ensures .0) (fed .ensures .1)
 
 returns-2 : tie.Need-returns-2
-unfolding unfinished
-returns-2 c = sym (ended-none (c .before .before .before .args .feed) (sym (c .before .begun .ensures) ∙ c .if1 .left))
+unfolding replyRoom unfinished
+returns-2 c = sym (ended-none (c .before .before .before .args .state) (sym (c .before .before .begun .ensures) ∙ c .before .if1 .left))
 
 pub end-spec : {M : Type 1} → statement M
 end-spec =
     tie.close
     (tie.spec
     begun-requires
-    array-write-text
-    array-write-text-2
-    array-write-text-3
-    array-write-text-4
-    array-write-text-5
+    slice-aggregate-feed
+    slice-aggregate-feed-2
+    feed-requires
     returns
     returns-2)
