@@ -13,7 +13,6 @@ use native.Mathlib.Omega.{arith}
 use borrow.Author.Tests.{eqb-true, eq-eqb, ne-eqb}
 use lib.Dec.{eqb}
 use Rattle.requests.specs.Choice.{both, pick}
-use Rattle.requests.specs.declared.CounterSet.{CounterSet}
 use Rattle.requests.specs.declared.Device.the-variants.{G, S}
 use Rattle.requests.specs.declared.Setup.{Setup}
 use Rattle.requests.specs.declared.Request.the-variants.{Event, Packet, Offcore, Latency}
@@ -117,7 +116,7 @@ word-cases : (s : Setup) (w : ℕ) → controlFits s w ≡ true → (w ≡ 0 →
 unfolding controlFits
 word-cases s w h n = ⊎-elim (λ z. absurd (n (eqb-true w 0 z))) (λ z. either-cases _ _ z) (either-cases _ _ h)
 
-module _ (u : CounterSet) where
+module _ (u : Setup) where
   -- an RSP register is unused, or holds an offcore word
   abbrev Plain : (ℕ → ℕ) → ℕ → ℕ → Type 0
   Plain f i a = (count (counterCount G) f (rspWord G i) ≡ 0) ⊎ Described (on G u) (Offcore a noCounter)
@@ -162,9 +161,9 @@ rsp-apart : rspWord G 0 ≡ rspWord G 1 → ⊥
 unfolding rspWord eventWord enabled offcoreCode rspMask
 rsp-apart e = omega arith
 
-module _ (u : CounterSet) (within : Within (on G u)) (t : ℕ) (types : Described (on G u) (Latency t noCounter noCounter)) (q : ℕ × ℕ) where
+module _ (u : Setup) (within : Within (on G u)) (t : ℕ) (types : Described (on G u) (Latency t noCounter noCounter)) (q : ℕ × ℕ) where
   -- types alone are those of a request that allows every usable counter
-  latency-types : Described (on G u) (Latency t noCounter noCounter) → Described (on G u) (Latency t u u)
+  latency-types : Described (on G u) (Latency t noCounter noCounter) → Described (on G u) (Latency t (u .usable) (u .usable))
   latency-types (latency g h o c d) = latency g h o within within
 
   second-offcore : Described (on G u) (Latency t noCounter noCounter) → Described (on G u) (Offcore (latencyWord 1 t) noCounter)
@@ -181,7 +180,7 @@ module _ (u : CounterSet) (within : Within (on G u)) (t : ℕ) (types : Describe
       let gk : without j f k ≡ rspWord G 1 = without-other j k f apart ∙ ek in
       subst (λ (g : ℕ → ℕ). Built (on G u) (latencyWord 0 t) (latencyWord 1 t) q g)
       (ap (λ (g : ℕ → ℕ). put ((j, rspWord G 0) ∷ []) g) (restore k (rspWord G 1) (without j f) gk) ∙ restore j (rspWord G 0) f ej)
-      (extend (on G u) (latencyWord 0 t) (latencyWord 1 t) q (without k (without j f)) (Latency t u u) (Pair j k) built
+      (extend (on G u) (latencyWord 0 t) (latencyWord 1 t) q (without k (without j f)) (Latency t (u .usable) (u .usable)) (Pair j k) built
       (latency-types types) (plans.latency (usable-j .1) (usable-k .1))
       (cons usable-j (cons usable-k nil))
       (add (cons apart nil) (add nil empty))

@@ -146,7 +146,7 @@ module _ (s : Setup) (v : RegisterValues) (a b : ℕ) (q : ℕ × ℕ) (built : 
       looked-at k true = kept (getD (v .control) k 0)
       looked-at k false = refl
 
-module _ (u : CounterSet) (v : RegisterValues) where
+module _ (u : Setup) (v : RegisterValues) where
   -- the global value that the test asks for
   abbrev Counted : Device → Type 0
   Counted d = v .global ≡ unusable (on d u) + setFrom (counterCount d) 0 (λ k. not (eqb (ours (on d u) v k) 0))
@@ -210,7 +210,7 @@ ours-words s v within t = record { fits = λ k. fit k (has (s .usable) k) refl; 
     placed k true h = inr (usable-counter s k within h, h)
     placed k false h = inl refl
 
-module _ (u : CounterSet) (v : RegisterValues) where
+module _ (u : Setup) (v : RegisterValues) where
   found-G : Within (on G u) → Words (on G u) (ours (on G u) v) → filtersFit (on G u) (ours (on G u) v) (v .filters) ≡ true → Counted u v G → LeavesValues (on G u) v
   unfolding filtersFit rsp0Fits rsp1Fits latencyFits
   found-G within w t e =
@@ -257,5 +257,5 @@ unfolding accepts
 accepted-left s v within h =
     let words = both-parts _ _ h in
     let rest = both-parts _ _ (words .1) in
-    found (s .usable) v (s .device) within (ours-words s v within (words .0)) (rest .1)
+    found s v (s .device) within (ours-words s v within (words .0)) (rest .1)
     (eqb-true (v .global) (unusable s + setFrom (counterCount (s .device)) 0 (λ k. not (eqb (ours s v k) 0))) (rest .0))

@@ -10,7 +10,6 @@ use borrow.Author.Tests.{eqb-true, eq-eqb}
 use lib.Dec.{eqb}
 use lib.ListN.{getD}
 use Rattle.requests.specs.Choice.{either, pick}
-use Rattle.requests.specs.declared.CounterSet.{CounterSet}
 use Rattle.requests.specs.declared.Device.{Device}
 use Rattle.requests.specs.declared.Device.the-variants.{G, S}
 use Rattle.requests.specs.declared.Setup.{Setup}
@@ -64,7 +63,7 @@ mask-after true x y z = refl
 mask-after false x y z = refl
 
 -- the filter registers after the writes of a plan
-module _ (u : CounterSet) (rs : List Request) (ps : List Place) (registers : ℕ → ℕ) where
+module _ (u : Setup) (rs : List Request) (ps : List Place) (registers : ℕ → ℕ) where
   abbrev left : Device → ℕ → ℕ
   left d = apply (writes (on d u) rs ps) registers
 
@@ -104,7 +103,7 @@ packets-held : (asked : List (ℕ × ℕ)) (x y a b : ℕ) → OneValue asked �
 packets-held [] x y a b o e q = nil
 packets-held (p ∷ ps) x y a b o e q = all-imp (λ r h. h ∙ pair-path p x y e q) (one-value (0, 0) (p ∷ ps) o)
 
-filters-left : (d : Device) (u : CounterSet) (rs : List Request) (ps : List Place) (registers : ℕ → ℕ) (v : FilterValues)
+filters-left : (d : Device) (u : Setup) (rs : List Request) (ps : List Place) (registers : ℕ → ℕ) (v : FilterValues)
     → Legal (on d u) rs ps → FiltersShow d v (apply (writes (on d u) rs ps) registers) → LeftFilters d rs ps v × Holds d rs ps v
 filters-left G u rs ps registers v legal shown =
     let first = shown .0 ∙ rsp0-left u rs ps registers in
@@ -189,7 +188,7 @@ module _ (s : Setup) (v : RegisterValues) (within : Within s) (plan : LeavesValu
       go k false h = sym (unused-word s (plan .requests) (plan .places) (plan .legal) k h)
 
   filters : LeftFilters d (plan .requests) (plan .places) (v .filters) × Holds d (plan .requests) (plan .places) (v .filters)
-  filters = filters-left d (s .usable) (plan .requests) (plan .places) (plan .before) (v .filters) (plan .legal) (plan .shown .filters)
+  filters = filters-left d s (plan .requests) (plan .places) (plan .before) (v .filters) (plan .legal) (plan .shown .filters)
 
   global : v .global ≡ unusable s + setFrom (counterCount d) 0 (λ k. not (eqb (wordAt us k) 0))
   global =
@@ -204,7 +203,7 @@ module _ (s : Setup) (v : RegisterValues) (within : Within s) (plan : LeavesValu
       (true-both _ _ (every-true (counterCount d) (λ k. controlFits s (wordAt us k))
       (λ k l. word-at (λ w. controlFits s w ≡ true) us k (zero-fits s) (all-imp (λ u w. control-fits s (u .1) w) words)))
       (true-both _ _ (eq-eqb _ _ global)
-      (filters-fit d (s .usable) (plan .requests) (plan .places) (v .filters) plan-described (plan .legal) (filters .0))))
+      (filters-fit d s (plan .requests) (plan .places) (v .filters) plan-described (plan .legal) (filters .0))))
 
   pub left-told : toldBy (readingOf s v) ≡ toldPlan s (plan .requests) (plan .places)
   unfolding toldBy readingOf toldPlan told
@@ -216,5 +215,5 @@ module _ (s : Setup) (v : RegisterValues) (within : Within s) (plan : LeavesValu
       go : (k : ℕ) (b : Bool) → told (pick b (tell d (v .filters) (ours s v k)) NotOurs) ≡ pick b (toldAt (ofAll toldOf (plan .requests) (plan .places)) k) notOurs
       go k true =
           ap (λ (f : ℕ → ℕ). told (tell d (v .filters) (f k))) ours-left
-          ∙ tell-plan d (s .usable) (plan .requests) (plan .places) (v .filters) k plan-described (plan .legal .allowed) (filters .1)
+          ∙ tell-plan d s (plan .requests) (plan .places) (v .filters) k plan-described (plan .legal .allowed) (filters .1)
       go k false = refl

@@ -9,7 +9,6 @@ use native.Mathlib.Omega.{arith}
 use lib.ListN.{getD}
 use lib.Pow.{pow-mono}
 use Rattle.requests.specs.Choice.{both, either, every}
-use Rattle.requests.specs.declared.CounterSet.{CounterSet}
 use Rattle.requests.specs.declared.Device.{Device}
 use Rattle.requests.specs.declared.Device.the-variants.{G, S}
 use Rattle.requests.specs.declared.Setup.{Setup}
@@ -129,7 +128,7 @@ enable-clean : onlyBits (mmEnable ∷ []) (2 ^ mmEnable) ≡ true
 unfolding mmEnable onlyBits both every either bit inList
 enable-clean = refl
 
-packets-clean : (u : CounterSet) (b : Bool) (x y : ℕ) → All (Clean (on S u)) (packetWrites b x y)
+packets-clean : (u : Setup) (b : Bool) (x y : ℕ) → All (Clean (on S u)) (packetWrites b x y)
 unfolding packetWrites filterRegisters filtersAt mmCfgAt matchAt maskAt
 packets-clean u true x y =
     cons (zero-clean (on S u) mmCfgAt)
@@ -138,7 +137,7 @@ packets-clean u true x y =
     (cons (filter-clean (on S u) mmCfgAt (2 ^ mmEnable) (List·Memᴰ·head refl) (cons (λ e. enable-clean) nil)) nil)))
 packets-clean u false x y = cons (zero-clean (on S u) mmCfgAt) nil
 
-filters-clean : (d : Device) (u : CounterSet) (rs : List Request) (ps : List Place) → All (Described (on d u)) rs → Each Allowed rs ps
+filters-clean : (d : Device) (u : Setup) (rs : List Request) (ps : List Place) → All (Described (on d u)) rs → Each Allowed rs ps
     → All (Clean (on d u)) (filterWrites d (settingsOf d rs ps))
 unfolding filterWrites offcoreWrites settingsOf filterRegisters filtersAt rsp0At rsp1At
 filters-clean G u rs ps f h =
@@ -161,7 +160,7 @@ module _ (s : Setup) (rs : List Request) (ps : List Place) (described : All (Des
       writes-all s (settingsOf d rs ps) (Clean s)
       (global-clean s (unusable s) (rw (unusable-set s) (set-clean d (λ k. not (has (s .usable) k)))))
       (λ k l h. zero-clean s (controlAt d k))
-      (filters-clean d (s .usable) rs ps described (legal .allowed))
+      (filters-clean d s rs ps described (legal .allowed))
       (λ k l h. zero-clean s (counterAt d k))
       (λ k l h. control-clean s k (getD (tabulate capacity (wordAt us)) k 0) l
       (rw (getD-tabulate capacity (wordAt us) k 0 (in-room d k l))
@@ -174,7 +173,7 @@ first-latency : (s : Setup) (rs : List Request) (w : ℕ) → FirstWord s rs w �
 first-latency s rs w (offcore-word (offcore g h t o c)) held = absurd (true≢false (sym held ∙ no-outstanding w h))
 first-latency s rs w (latency-word t a b m h e) held = (t, a, b, m, e)
 
-latency-writes : (d : Device) (u : CounterSet) (rs : List Request) (ps : List Place) → d ≡ G → All (Described (on d u)) rs → Each Allowed rs ps
+latency-writes : (d : Device) (u : Setup) (rs : List Request) (ps : List Place) → d ≡ G → All (Described (on d u)) rs → Each Allowed rs ps
     → All (λ (w : Write). w .0 ≡ rsp0At → bit outstanding (w .1) ≡ true → AsksOutstanding rs (w .1)) (filterWrites d (settingsOf d rs ps))
 unfolding filterWrites offcoreWrites settingsOf rsp0At rsp1At
 latency-writes G u rs ps g f h =
@@ -198,7 +197,7 @@ latency-only s rs ps w g described legal m held =
     (writes-all s (settingsOf d rs ps) (λ x. x .0 ≡ rsp0At → bit outstanding (x .1) ≡ true → AsksOutstanding rs (x .1))
     (λ e. absurd (all-member (apart d .filter-global) filter (sym e)))
     (λ k l h e. absurd (all-member (apart d .filter-control k (in-room d k l)) filter (sym e)))
-    (latency-writes d (s .usable) rs ps g described (legal .allowed))
+    (latency-writes d s rs ps g described (legal .allowed))
     (λ k l h e. absurd (all-member (apart d .filter-counter k (in-room d k l)) filter (sym e)))
     (λ k l h e. absurd (all-member (apart d .filter-control k (in-room d k l)) filter (sym e)))
     (λ e. absurd (all-member (apart d .filter-global) filter (sym e))))

@@ -11,7 +11,6 @@ use borrow.Author.Tests.{eqb-true, ne-eqb}
 use lib.Dec.{eqb}
 use lib.ListN.{getD}
 use Rattle.requests.specs.Choice.{both, every, pick}
-use Rattle.requests.specs.declared.CounterSet.{CounterSet}
 use Rattle.requests.specs.declared.Device.{Device}
 use Rattle.requests.specs.declared.Device.the-variants.{G, S}
 use Rattle.requests.specs.declared.Opening.{Opening}
@@ -34,13 +33,13 @@ use Rattle.layouts.proofs.Counts.{count-zero}
 use Rattle.layouts.proofs.UsableSets.{on, usable-within, usable-counter}
 use Rattle.layouts.proofs.ReaderAnswers.{read-accepted, read-not-left}
 
-filters-fit : (d : Device) (u : CounterSet) (f : ℕ → ℕ) (v w : FilterValues) → SameFilters d v w → filtersFit (on d u) f v ≡ filtersFit (on d u) f w
+filters-fit : (d : Device) (u : Setup) (f : ℕ → ℕ) (v w : FilterValues) → SameFilters d v w → filtersFit (on d u) f v ≡ filtersFit (on d u) f w
 unfolding filtersFit
 filters-fit G u f v w h = rw (h .0, h .1)
 filters-fit S u f v w h = rw (h .0)
 
 -- where MM_CFG is 0 and fits, no counter counts packets
-no-packets : (u : CounterSet) (f : ℕ → ℕ) (v : FilterValues) → filtersFit (on S u) f v ≡ true → v .«mm_cfg» ≡ 0 → count (counterCount S) f (packetWord S) ≡ 0
+no-packets : (u : Setup) (f : ℕ → ℕ) (v : FilterValues) → filtersFit (on S u) f v ≡ true → v .«mm_cfg» ≡ 0 → count (counterCount S) f (packetWord S) ≡ 0
 unfolding filtersFit mmEnable
 no-packets u f v h e =
     elim (ℕ-discrete (count (counterCount S) f (packetWord S)) 0) [
@@ -50,7 +49,7 @@ no-packets u f v h e =
           absurd (omega arith)
     ]
 
-tell-same : (d : Device) (u : CounterSet) (f : ℕ → ℕ) (v w : FilterValues) (k : ℕ) → filtersFit (on d u) f v ≡ true → SameFilters d v w → k < counterCount d
+tell-same : (d : Device) (u : Setup) (f : ℕ → ℕ) (v w : FilterValues) (k : ℕ) → filtersFit (on d u) f v ≡ true → SameFilters d v w → k < counterCount d
     → tell d v (f k) ≡ tell d w (f k)
 unfolding tell filterOf
 tell-same G u f v w k a h l = rw (h .0, h .1)
@@ -86,7 +85,7 @@ module _ (o : Opening) (s : Setup) (v w : RegisterValues) (opened : setupOf o �
       ∙ ap (λ (g : ℕ). test s (ours s w) g (v .filters)) (same .global)
       ∙ ap (λ (b : Bool). both (every (counterCount (s .device)) (λ k. controlFits s (ours s w k)))
       (both (eqb (w .global) (unusable s + setFrom (counterCount (s .device)) 0 (λ k. not (eqb (ours s w k) 0)))) b))
-      (filters-fit (s .device) (s .usable) (ours s w) (v .filters) (w .filters) (same .filters))
+      (filters-fit (s .device) s (ours s w) (v .filters) (w .filters) (same .filters))
 
   reading-same : accepts s v ≡ true → readingOf s v ≡ readingOf s w
   unfolding accepts readingOf
@@ -100,7 +99,7 @@ module _ (o : Opening) (s : Setup) (v w : RegisterValues) (opened : setupOf o �
     where
       go : (k : ℕ) → filtersFit s (ours s v) (v .filters) ≡ true → (b : Bool) → has (s .usable) k ≡ b
           → cell (pick b (tell (s .device) (v .filters) (ours s v k)) NotOurs) ≡ cell (pick b (tell (s .device) (w .filters) (ours s v k)) NotOurs)
-      go k fit true h = ap cell (tell-same (s .device) (s .usable) (ours s v) (v .filters) (w .filters) k fit (same .filters) (usable-counter s k (usable-within o s opened) h))
+      go k fit true h = ap cell (tell-same (s .device) s (ours s v) (v .filters) (w .filters) k fit (same .filters) (usable-counter s k (usable-within o s opened) h))
       go k fit false h = refl
 
 pub not-looked-at : NotLookedAt

@@ -88,7 +88,7 @@ latency-hits zero l = refl
 latency-hits (suc zero) l = refl
 latency-hits (suc (suc i)) l = absurd (omega arith)
 
-module _ (u : CounterSet) where
+module _ (u : Setup) where
   pub rsp-hits : (i : ℕ) → i < 2 → {rs : List Request} {ps : List Place} → All (Described (on G u)) rs → Each Allowed rs ps
       → hits (rspWord G i) (ofAll (usesOf G) rs ps) ≡ length (ofAll (wordsOf i) rs ps)
   unfolding hits ofAll usesOf wordsOf second
@@ -190,7 +190,7 @@ pub packets-fit : (ps : List (ℕ × ℕ)) → pick (nonempty ps) (2 ^ mmEnable)
 packets-fit [] = refl
 packets-fit (p ∷ ps) = rw (ne-eqb (suc (length ps)) 0 (λ e. omega arith))
 
-pub filters-fit : (d : Device) (u : CounterSet) (rs : List Request) (ps : List Place) (v : FilterValues)
+pub filters-fit : (d : Device) (u : Setup) (rs : List Request) (ps : List Place) (v : FilterValues)
     → All (Described (on d u)) rs → Legal (on d u) rs ps → LeftFilters d rs ps v → filtersFit (on d u) (wordAt (ofAll (usesOf d) rs ps)) v ≡ true
 unfolding filtersFit
 filters-fit G u rs ps v f legal left =

@@ -9,7 +9,7 @@ use native.Mathlib.Omega.{arith}
 use borrow.Author.Tests.{ne-eqb}
 use lib.Dec.{eqb}
 use Rattle.requests.specs.Choice.{pick}
-use Rattle.requests.specs.declared.CounterSet.{CounterSet}
+use Rattle.requests.specs.declared.Setup.{Setup}
 use Rattle.requests.specs.declared.Device.{Device}
 use Rattle.requests.specs.declared.Device.the-variants.{G, S}
 use Rattle.requests.specs.declared.Request.{Request}
@@ -79,7 +79,7 @@ abbrev pub Holds : Device → List Request → List Place → FilterValues → T
 Holds G rs ps v = All (λ (w : ℕ). w ≡ v .rsp0) (ofAll (wordsOf 0) rs ps) × All (λ (w : ℕ). w ≡ v .rsp1) (ofAll (wordsOf 1) rs ps)
 Holds S rs ps v = All (λ (p : ℕ × ℕ). p ≡ (v .«match_word», v .«mask_word»)) (flatMap packetsOf rs)
 
-module _ (u : CounterSet) (v : FilterValues) (k : ℕ) where
+module _ (u : Setup) (v : FilterValues) (k : ℕ) where
   tell-G : {rs : List Request} {ps : List Place} → All (Described (on G u)) rs → Each Allowed rs ps
       → All (λ (w : ℕ). w ≡ v .rsp0) (ofAll (wordsOf 0) rs ps) → All (λ (w : ℕ). w ≡ v .rsp1) (ofAll (wordsOf 1) rs ps)
       → told (tell G v (wordAt (ofAll (usesOf G) rs ps) k)) ≡ toldAt (ofAll toldOf rs ps) k
@@ -115,7 +115,7 @@ module _ (u : CounterSet) (v : FilterValues) (k : ℕ) where
   tell-S (cons (offcore g h t o c) fs) (and (plans.offcore b l) es) xs = absurd (devices-differ (sym g))
   tell-S (cons (latency g h o c d) fs) (and (plans.latency x y) es) xs = absurd (devices-differ (sym g))
 
-pub tell-plan : (d : Device) (u : CounterSet) (rs : List Request) (ps : List Place) (v : FilterValues) (k : ℕ) → All (Described (on d u)) rs → Each Allowed rs ps → Holds d rs ps v
+pub tell-plan : (d : Device) (u : Setup) (rs : List Request) (ps : List Place) (v : FilterValues) (k : ℕ) → All (Described (on d u)) rs → Each Allowed rs ps → Holds d rs ps v
     → told (tell d v (wordAt (ofAll (usesOf d) rs ps) k)) ≡ toldAt (ofAll toldOf rs ps) k
 tell-plan G u rs ps v k f es h = tell-G u v k f es (h .0) (h .1)
 tell-plan S u rs ps v k f es h = tell-S u v k f es h

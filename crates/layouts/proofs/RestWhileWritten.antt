@@ -9,7 +9,6 @@ use native.Mathlib.Decide.{ℕ-discrete}
 use native.Mathlib.Omega.{arith}
 use lib.ListN.{getD}
 use Rattle.requests.specs.Choice.{either}
-use Rattle.requests.specs.declared.CounterSet.{CounterSet}
 use Rattle.requests.specs.declared.Device.{Device}
 use Rattle.requests.specs.declared.Device.the-variants.{G, S}
 use Rattle.requests.specs.declared.Setup.{Setup}
@@ -66,7 +65,7 @@ filter-along : (s : Setup) (rs : List Request) (b : List Write) → AllQuiet s b
     → Along (AtRest s rs) b ((a, v) ∷ []) × AllQuiet s (b ++ (a, v) ∷ [])
 filter-along s rs b q a v m match-off match-set = ((filter-rests s rs b (q .0) (q .1) a v m match-off match-set, tt), quiet-filter s (a, v) b m q)
 
-packets-rest : (u : CounterSet) (rs : List Request) (asked : Bool) (x y : ℕ) → (asked ≡ true → List·Memᴰ (x, y) (flatMap packetsOf rs))
+packets-rest : (u : Setup) (rs : List Request) (asked : Bool) (x y : ℕ) → (asked ≡ true → List·Memᴰ (x, y) (flatMap packetsOf rs))
     → (b : List Write) → AllQuiet (on S u) b → Along (AtRest (on S u) rs) b (packetWrites asked x y) × AllQuiet (on S u) (b ++ packetWrites asked x y)
 unfolding packetWrites filtersAt mmCfgAt matchAt maskAt
 packets-rest u rs true x y is b q =
@@ -92,7 +91,7 @@ packets-rest u rs true x y is b q =
     (λ c i. filter-along s rs c (i .0) mmCfgAt (2 ^ mmEnable) cfg (λ g m. absurd (no-match m)) (λ g e some. (x, y, is refl, i .1, i .2)))
 packets-rest u rs false x y is b q = filter-along (on S u) rs b q mmCfgAt 0 (List·Memᴰ·head refl) (λ g m. absurd (no-match m)) (λ g e some. absurd (some refl))
 
-filters-rest : (d : Device) (u : CounterSet) (rs : List Request) (ps : List Place) (b : List Write) → AllQuiet (on d u) b
+filters-rest : (d : Device) (u : Setup) (rs : List Request) (ps : List Place) (b : List Write) → AllQuiet (on d u) b
     → Along (AtRest (on d u) rs) b (filterWrites d (settingsOf d rs ps)) × AllQuiet (on d u) (b ++ filterWrites d (settingsOf d rs ps))
 unfolding filterWrites offcoreWrites filtersAt settingsOf
 filters-rest G u rs ps b q =
@@ -241,7 +240,7 @@ module _ (s : Setup) (rs : List Request) (ps : List Place) (legal : Legal s rs p
         (unusable s, last-here [] g (unusable s), unusable-none s),
       ) in
       let two = along-then P (Disabled s) (AllQuiet s) [] first clear one clear-rests in
-      let three = along-then P (AllQuiet s) (AllQuiet s) [] (first ++ clear) filters two (filters-rest d (s .usable) rs ps) in
+      let three = along-then P (AllQuiet s) (AllQuiet s) [] (first ++ clear) filters two (filters-rest d s rs ps) in
       let four = along-then P (AllQuiet s) (SelectedTo 0) [] (first ++ clear ++ filters) counts three counts-rest in
       let five = along-then P (SelectedTo 0) (SelectedTo n) [] (first ++ clear ++ filters ++ counts) words four words-rest in
       along-then P (SelectedTo n) (λ b. Unit {0}) [] (first ++ clear ++ filters ++ counts ++ words) ((g, v) ∷ []) five

@@ -6,7 +6,6 @@ use Prim.Native.Nat.{ℕ, _^_, _≤_, _<_}
 use native.Mathlib.Decide.{decLt}
 use native.Mathlib.Omega.{arith}
 use lib.Pow.{pow-pos, pow-mono}
-use Rattle.requests.specs.declared.CounterSet.{CounterSet}
 use Rattle.requests.specs.declared.Device.{Device}
 use Rattle.requests.specs.declared.Opening.{Opening}
 use Rattle.requests.specs.declared.Setup.{Setup}
@@ -14,9 +13,9 @@ use Rattle.requests.specs.Devices.{has, counterCount, allCounters, setupOf}
 use Rattle.requests.proofs.OpeningsTaken.{usable-bounds}
 use Rattle.layouts.proofs.WordBits.{bit-above}
 
--- the setup of a device
-abbrev pub on : Device → CounterSet → Setup
-on d u = record { device = d; usable = u }
+-- the setup with another device; with its own it is the same
+abbrev pub on : Device → Setup → Setup
+on d s = record { device = d; usable = s .usable }
 
 -- the counters of the usable set are the device's
 abbrev pub Within : Setup → Type 0

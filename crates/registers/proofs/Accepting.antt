@@ -31,6 +31,7 @@ use Rattle.layouts.specs.Read.{ours, count, latencyFits}
 use Rattle.layouts.specs.declared.RegisterValues.{RegisterValues}
 use Rattle.layouts.proofs.Tabulated.{length-tabulate, getD-tabulate}
 use Rattle.layouts.proofs.CounterSets.{set-below}
+use Rattle.layouts.proofs.UsableSets.{on}
 
 -- ---- well-formed
 
@@ -54,7 +55,7 @@ both-left : (b : Bool) → both false b ≡ false
 unfolding both
 both-left b = refl
 
-wide-refused : (d : Device) (u : CounterSet) (t : ℕ) (a b : CounterSet) → onlyBits typeBits t ≡ false → formed (record { device = d; usable = u }) (Latency t a b) ≡ false
+wide-refused : (d : Device) (u : Setup) (t : ℕ) (a b : CounterSet) → onlyBits typeBits t ≡ false → formed (on d u) (Latency t a b) ≡ false
 unfolding formed requestRefusal requestRows firstHolding kindNotOn notListed outOfRange either
 wide-refused G u t a b e = rw (e, firstHolding)
 wide-refused S u t a b e = refl
@@ -63,7 +64,7 @@ wide-refused S u t a b e = refl
 pub latency-wide : (s : Setup) (n0 n1 w0 w1 : ℕ) → 0xFFBF < w0 % 2 ^ outstanding → false ≡ latencyFits s n0 n1 w0 w1
 unfolding latencyFits outstanding
 latency-wide s n0 n1 w0 w1 wide =
-    rw (wide-refused (s .device) (s .usable) (w0 % 2 ^ outstanding) _ _ (wide-types (w0 % 2 ^ outstanding) (omega arith) wide))
+    rw (wide-refused (s .device) s (w0 % 2 ^ outstanding) _ _ (wide-types (w0 % 2 ^ outstanding) (omega arith) wide))
     (sym (ap (both _) (both-left _) ∙ both-false _))
 
 -- ---- one counter after another

@@ -8,7 +8,6 @@ use native.Mathlib.Omega.{arith}
 use lib.Dec.{eqb}
 use lib.ListN.{getD}
 use borrow.Author.Tests.{eq-eqb, ne-eqb}
-use Rattle.requests.specs.declared.CounterSet.{CounterSet}
 use Rattle.requests.specs.declared.Device.{Device}
 use Rattle.requests.specs.declared.Device.the-variants.{G, S}
 use Rattle.requests.specs.declared.Setup.{Setup}
@@ -26,13 +25,13 @@ use Rattle.layouts.proofs.UsableSets.{on}
 -- ---- the filter registers
 
 module _ (f : ℕ → ℕ) (v : FilterValues) where
-  pub filters-G : (d : Device) (u : CounterSet) (n0 n1 : ℕ) → d ≡ G → n0 ≡ count (counterCount d) f (rspWord G 0) → n1 ≡ count (counterCount d) f (rspWord G 1)
+  pub filters-G : (d : Device) (u : Setup) (n0 n1 : ℕ) → d ≡ G → n0 ≡ count (counterCount d) f (rspWord G 0) → n1 ≡ count (counterCount d) f (rspWord G 1)
       → both (rsp1Fits (on d u) n1 (v .rsp1)) (rsp0Fits (on d u) n0 n1 (v .rsp0) (v .rsp1)) ≡ filtersFit (on d u) f v
   unfolding filtersFit
   filters-G G u n0 n1 e e0 e1 = rw (e0, e1)
   filters-G S u n0 n1 e e0 e1 = let z : _≡_ {A = ℕ} 0 1 = cc in absurd (omega arith)
 
-  pub filters-S : (d : Device) (u : CounterSet) (n : ℕ) → d ≡ S → n ≡ count (counterCount d) f (packetWord S)
+  pub filters-S : (d : Device) (u : Setup) (n : ℕ) → d ≡ S → n ≡ count (counterCount d) f (packetWord S)
       → eqb (v .«mm_cfg») (pick (eqb n 0) 0 (2 ^ mmEnable)) ≡ filtersFit (on d u) f v
   unfolding filtersFit
   filters-S S u n e en = rw en

@@ -20,7 +20,7 @@ returns c =
     let a = c .before .before .before .before .before .before .before .before .before .before .args in
     let n0 = rw (c .before .before .before .before .before .before .rsp-word .ensures, c .before .before .before .before .before .before .before .before .before .counter-count .ensures) at (c .before .before .before .before .before .count-of .ensures) in
     let n1 = rw (c .before .before .before .before .rsp-word2 .ensures, c .before .before .before .before .before .before .before .before .before .counter-count .ensures) at (c .before .before .before .count-of2 .ensures) in
-    rw (← filters-G (λ k. getD (a .words) k 0) (a .filters) (a .setup .device) (a .setup .usable) _ _ (c .before .before .before .before .before .before .before .enum-told .given .1) n0 n1, sym (c .before .before .rsp1-fits .ensures) ∙ c .before .if1 .taken)
+    rw (← filters-G (λ k. getD (a .words) k 0) (a .filters) (a .setup .device) (a .setup) _ _ (c .before .before .before .before .before .before .before .enum-told .given .1) n0 n1, sym (c .before .before .rsp1-fits .ensures) ∙ c .before .if1 .taken)
     (c .rsp0-fits .ensures)
 
 count-of-requires-3 : tie.Need-count-of-requires-3
@@ -32,13 +32,13 @@ returns-2 c =
     let a = c .before .before .before .before .before .before .before .before .before .args in
     let n0 = rw (c .before .before .before .before .before .rsp-word .ensures, c .before .before .before .before .before .before .before .before .counter-count .ensures) at (c .before .before .before .before .count-of .ensures) in
     let n1 = rw (c .before .before .before .rsp-word2 .ensures, c .before .before .before .before .before .before .before .before .counter-count .ensures) at (c .before .before .count-of2 .ensures) in
-    rw (← filters-G (λ k. getD (a .words) k 0) (a .filters) (a .setup .device) (a .setup .usable) _ _ (c .before .before .before .before .before .before .enum-told .given .1) n0 n1, sym (c .before .rsp1-fits .ensures) ∙ c .if1 .left)
+    rw (← filters-G (λ k. getD (a .words) k 0) (a .filters) (a .setup .device) (a .setup) _ _ (c .before .before .before .before .before .before .enum-told .given .1) n0 n1, sym (c .before .rsp1-fits .ensures) ∙ c .if1 .left)
 
 returns-3 : tie.Need-returns-3
 returns-3 c =
     let a = c .before .before .before .before .before .before .before .args in
     let n = rw (c .before .before .before .packet-word .ensures, c .before .before .before .before .before .before .counter-count .ensures) at (c .before .before .count-of3 .ensures) in
-    rw (c .before .mm-cfg-of .ensures) (filters-S (λ k. getD (a .words) k 0) (a .filters) (a .setup .device) (a .setup .usable) _ (c .before .before .before .before .enum-told2 .given .1) n)
+    rw (c .before .mm-cfg-of .ensures) (filters-S (λ k. getD (a .words) k 0) (a .filters) (a .setup .device) (a .setup) _ (c .before .before .before .before .enum-told2 .given .1) n)
 
 pub filters-fit-spec : {M : Type 1} → statement M
 filters-fit-spec =
