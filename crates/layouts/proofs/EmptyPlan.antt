@@ -2,8 +2,8 @@
 use mathlib.Core.Path.{_≡_, refl, ap, _∙_}
 use mathlib.Core.Bool.{Bool, false, not}
 use mathlib.Core.List.{[], flatMap}
-use Prim.Native.Nat.{ℕ, zero, suc, _+_, _^_, _≤_}
-use native.Mathlib.Nat.{zero-add, add-zero}
+use Prim.Native.Nat.{ℕ, zero, suc, _^_, _≤_}
+use native.Mathlib.Nat.{zero-add}
 use native.Mathlib.Decide.{decLt}
 use native.Mathlib.Omega.{arith}
 use borrow.Author.Tests.{lt-ltb, le-ltb}
@@ -17,12 +17,12 @@ use Rattle.plans.specs.Lists.{nil, empty, none}
 use Rattle.plans.specs.Legal.{Usable, Legal, ofAll, counters}
 use Rattle.layouts.specs.Layout.{layoutOf, controlAt}
 use Rattle.layouts.specs.Settings.{setFrom}
-use Rattle.layouts.specs.Writes.{unusable}
+use Rattle.layouts.specs.Writes.{lastGlobal}
 use Rattle.layouts.specs.Told.{toldAt, toldPlan}
 use Rattle.layouts.specs.EmptyPlan.{allOff, turnedOff, EmptyPlan}
 use Rattle.layouts.proofs.WordBits.{bit-above}
 use Rattle.layouts.proofs.CounterSets.{bit-set, set-below}
-use Rattle.layouts.proofs.GlobalValues.{unusable-set}
+use Rattle.layouts.proofs.GlobalValues.{first-set, last-unused}
 use Rattle.layouts.proofs.PlanWords.{control-left, global-left}
 use Rattle.layouts.proofs.RoundTrip.{round-trip}
 
@@ -44,9 +44,9 @@ global-value : (s : Setup) (registers : ℕ → ℕ) → turnedOff s registers (
 unfolding counters flatMap inList
 global-value s registers =
     global-left s [] [] registers
-    ∙ ap (λ (x : ℕ). unusable s + x) (none-used (counterCount (s .device)) 0)
-    ∙ add-zero (unusable s)
-    ∙ unusable-set s
+    ∙ ap (lastGlobal s) (none-used (counterCount (s .device)) 0)
+    ∙ last-unused s
+    ∙ first-set s
 
 global : (s : Setup) (registers : ℕ → ℕ) (k : ℕ)
     → bit k (turnedOff s registers (layoutOf (s .device) .global)) ≡ both (ltb k (counterCount (s .device))) (not (has (s .usable) k))

@@ -28,7 +28,7 @@ use Rattle.plans.specs.Legal.{Usable, Legal, wordsOf, packetsOf, ofAll, counter
 use Rattle.plans.proofs.Sets.{all-imp}
 use Rattle.layouts.specs.Layout.{layoutOf, controlAt, filtersAt, matchAt, maskAt, mmEnable, rspWord, packetWord}
 use Rattle.layouts.specs.Settings.{wordAt, setFrom, headOr, nonempty}
-use Rattle.layouts.specs.Writes.{rows, unusable, writes, apply}
+use Rattle.layouts.specs.Writes.{rows, lastGlobal, writes, apply}
 use Rattle.layouts.specs.Read.{ours, noCounter, count, controlFits, rsp0Fits, rsp1Fits, latencyFits, filtersFit, accepts}
 use Rattle.layouts.specs.ExactReader.{FiltersShow, LeavesValues}
 use Rattle.layouts.specs.declared.RegisterValues.{RegisterValues}
@@ -123,7 +123,7 @@ module _ (s : Setup) (v : RegisterValues) (a b : ℕ) (q : ℕ × ℕ) (built : 
   built-count w n = ap (λ (f : ℕ → ℕ). count (counterCount (s .device)) f w) (sym built-words) ∙ count-uses s (built .requests) (built .places) built-legal w n
 
   built-leaves : FiltersShow (s .device) (v .filters) (apply (writes s (built .requests) (built .places)) (before (s .device) v))
-      → v .global ≡ unusable s + setFrom (counterCount (s .device)) 0 (λ k. not (eqb (ours s v k) 0)) → LeavesValues s v
+      → v .global ≡ lastGlobal s (setFrom (counterCount (s .device)) 0 (λ k. not (eqb (ours s v k) 0))) → LeavesValues s v
   unfolding ours
   built-leaves shown e =
       record {
@@ -137,7 +137,7 @@ module _ (s : Setup) (v : RegisterValues) (a b : ℕ) (q : ℕ × ℕ) (built : 
               ∙ rw (built-used k, built .words k, before-control (s .device) v k l) (looked-at k (has (s .usable) k)));
           filters = shown;
           global = e
-              ∙ ap (λ (x : ℕ). unusable s + x) (set-same (counterCount (s .device)) 0 (λ k. not (eqb (ours s v k) 0)) (inList (counters (built .places))) (λ k l. sym (built-used (0 + k))))
+              ∙ ap (lastGlobal s) (set-same (counterCount (s .device)) 0 (λ k. not (eqb (ours s v k) 0)) (inList (counters (built .places))) (λ k l. sym (built-used (0 + k))))
               ∙ sym (global-left s (built .requests) (built .places) (before (s .device) v));
         };
       }
@@ -149,7 +149,7 @@ module _ (s : Setup) (v : RegisterValues) (a b : ℕ) (q : ℕ × ℕ) (built : 
 module _ (u : Setup) (v : RegisterValues) where
   -- the global value that the test asks for
   abbrev Counted : Device → Type 0
-  Counted d = v .global ≡ unusable (on d u) + setFrom (counterCount d) 0 (λ k. not (eqb (ours (on d u) v k) 0))
+  Counted d = v .global ≡ lastGlobal (on d u) (setFrom (counterCount d) 0 (λ k. not (eqb (ours (on d u) v k) 0)))
 
   -- an RSP register without a counter is 0
   abbrev ZeroUnused : ℕ → ℕ → Type 0
@@ -258,4 +258,4 @@ accepted-left s v within h =
     let words = both-parts _ _ h in
     let rest = both-parts _ _ (words .1) in
     found s v (s .device) within (ours-words s v within (words .0)) (rest .1)
-    (eqb-true (v .global) (unusable s + setFrom (counterCount (s .device)) 0 (λ k. not (eqb (ours s v k) 0))) (rest .0))
+    (eqb-true (v .global) (lastGlobal s (setFrom (counterCount (s .device)) 0 (λ k. not (eqb (ours s v k) 0)))) (rest .0))

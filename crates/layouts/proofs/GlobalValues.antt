@@ -1,27 +1,35 @@
--- The used counters of a plan and the values of the global register. Assumes nothing.
---     used-has, used-usable   the used set has the plan's counters, and each is usable
---     unusable-set            the first value: the bits of the counters that are not usable
---     global-set              the last value: those and the used ones
+-- The used counters of a plan and the values of the global register, which no other proof unfolds. Assumes nothing.
+--     used-has, used-usable    the used set has the plan's counters, and each is usable
+--     first-set, first-bit     the first value: the bits of the counters that are not usable
+--     last-bit, last-unused    the last value: those and the used ones; where none is used, the first value
+--     first-bits, last-bits    both have permitted bits only
 use mathlib.Core.Path.{_≡_, refl, sym, ap, ap₂, subst, _∙_}
 use mathlib.Core.Bool.{Bool, true, false, not, true≢false, false≢true}
-use mathlib.Core.Logic.{⊎-elim}
+use mathlib.Core.Logic.{inl, inr, ⊎-elim}
 use mathlib.Core.List.{List}
-use Prim.Native.Nat.{ℕ, _+_, _%_, _^_, _<_}
-use native.Mathlib.Nat.{zero-add, mod-eq-of-lt}
+use Prim.Native.Nat.{ℕ, _+_, _^_, _≤_, _<_}
+use native.Mathlib.Nat.{zero-add, add-zero, mod-eq-of-lt}
+use native.Mathlib.Decide.{decLt}
+use native.Mathlib.Omega.{arith}
 use borrow.Author.Tests.{eqb-true, not-true}
 use lib.Dec.{eqb}
+use lib.Pow.{pow-pos, pow-mono}
 use Rattle.requests.specs.Choice.{either}
 use Rattle.requests.specs.declared.Device.{Device}
 use Rattle.requests.specs.declared.Setup.{Setup}
 use Rattle.requests.specs.declared.Request.{Request}
-use Rattle.requests.specs.Bits.{inList}
-use Rattle.requests.specs.Devices.{has, counterCount, allCounters}
+use Rattle.requests.specs.Bits.{bit, inList, onlyBits}
+use Rattle.requests.specs.Devices.{has, counterCount, capacity, allCounters}
 use Rattle.plans.specs.declared.Place.{Place}
 use Rattle.plans.specs.Lists.{All, nil, cons}
 use Rattle.plans.specs.Legal.{Usable, Legal, counters}
-use Rattle.requests.proofs.Tests.{either-cases}
+use Rattle.requests.proofs.Tests.{every-at, either-cases}
+use Rattle.plans.proofs.PlanLengthHolds.{plan-length}
+use Rattle.layouts.specs.Layout.{globalBits}
 use Rattle.layouts.specs.Settings.{setFrom, settingsOf}
-use Rattle.layouts.specs.Writes.{unusable}
+use Rattle.layouts.specs.Writes.{unusable, firstGlobal, lastGlobal}
+use Rattle.layouts.proofs.WordBits.{bit-above, bits-only}
+use Rattle.layouts.proofs.RegisterAddresses.{enable-bits}
 use Rattle.layouts.proofs.CounterSets.{bit-set, set-below, set-sum, set-left}
 
 -- what holds of all elements holds of a number in the list
@@ -39,22 +47,55 @@ module _ (s : Setup) (rs : List Request) (ps : List Place) (legal : Legal s rs p
   pub used-usable : (k : ℕ) → k < counterCount (s .device) → has (settingsOf (s .device) rs ps .used) k ≡ true → Usable s k
   used-usable k l h = all-listed k (legal .usable-only) (sym (used-has (s .device) rs ps k l) ∙ h)
 
-pub unusable-set : (s : Setup) → unusable s ≡ setFrom (counterCount (s .device)) 0 (λ k. not (has (s .usable) k))
-unfolding unusable allCounters has
-unusable-set s = set-left (counterCount (s .device)) (s .usable .0)
+-- a set of the device's counters has only enable bits
+set-clean : (d : Device) (on : ℕ → Bool) → onlyBits (globalBits d) (setFrom (counterCount d) 0 on) ≡ true
+unfolding capacity
+set-clean d on =
+    let small : 2 ^ counterCount d ≤ 2 ^ 8 = pow-mono (plan-length .device-at-most d) in
+    let l = set-below (counterCount d) 0 on in
+    bits-only (globalBits d) (setFrom (counterCount d) 0 on) (omega arith) (λ k b. elim (decLt k (counterCount d)) [
+      | yes y ↦ inr (every-at (counterCount d) (inList (globalBits d)) (enable-bits d) k y)
+      | no o ↦ let more : 2 ^ counterCount d ≤ 2 ^ k = pow-mono (let y = o in omega arith) in
+          inl (bit-above k (setFrom (counterCount d) 0 on) (omega arith))
+    ])
 
--- the used counters are the device's
-pub used-small : (d : Device) (rs : List Request) (ps : List Place) → settingsOf d rs ps .used .0 % 2 ^ counterCount d ≡ setFrom (counterCount d) 0 (inList (counters ps))
-unfolding settingsOf
-used-small d rs ps = mod-eq-of-lt (set-below (counterCount d) 0 (inList (counters ps)))
+-- ---- the first value
+
+pub first-set : (s : Setup) → firstGlobal s ≡ setFrom (counterCount (s .device)) 0 (λ k. not (has (s .usable) k))
+unfolding firstGlobal unusable allCounters has
+first-set s = set-left (counterCount (s .device)) (s .usable .0)
+
+pub first-bit : (s : Setup) (k : ℕ) → k < counterCount (s .device) → bit k (firstGlobal s) ≡ not (has (s .usable) k)
+first-bit s k l =
+    let others : ℕ → Bool = λ j. not (has (s .usable) j) in
+    ap (bit k) (first-set s) ∙ bit-set (counterCount (s .device)) 0 k others l ∙ ap others (zero-add k)
+
+pub first-bits : (s : Setup) → onlyBits (globalBits (s .device)) (firstGlobal s) ≡ true
+first-bits s = rw (first-set s) (set-clean (s .device) (λ k. not (has (s .usable) k)))
+
+-- ---- the last value
+
+pub last-unused : (s : Setup) → lastGlobal s 0 ≡ firstGlobal s
+unfolding lastGlobal
+last-unused s = ap (λ (k : ℕ). firstGlobal s + k) (mod-eq-of-lt (pow-pos (counterCount (s .device)))) ∙ add-zero (firstGlobal s)
 
 module _ (s : Setup) (rs : List Request) (ps : List Place) (legal : Legal s rs ps) where
-  pub global-set : unusable s + settingsOf (s .device) rs ps .used .0 % 2 ^ counterCount (s .device)
+  last-set : lastGlobal s (settingsOf (s .device) rs ps .used .0)
       ≡ setFrom (counterCount (s .device)) 0 (λ k. either (not (has (s .usable) k)) (inList (counters ps) k))
-  global-set =
-      ap₂ _+_ (unusable-set s) (used-small (s .device) rs ps)
+  unfolding lastGlobal settingsOf
+  last-set =
+      ap₂ _+_ (first-set s) (mod-eq-of-lt (set-below (counterCount (s .device)) 0 (inList (counters ps))))
       ∙ set-sum (counterCount (s .device)) 0 (λ k. not (has (s .usable) k)) (inList (counters ps)) (λ k l h. apart (0 + k) h (inList (counters ps) (0 + k)) refl)
     where
       apart : (k : ℕ) → not (has (s .usable) k) ≡ true → (b : Bool) → inList (counters ps) k ≡ b → b ≡ false
       apart k h true e = absurd (true≢false (sym (all-listed {P = Usable s} k (legal .usable-only) e .1) ∙ not-true (has (s .usable) k) h))
       apart k h false e = refl
+
+  pub last-bit : (k : ℕ) → k < counterCount (s .device)
+      → bit k (lastGlobal s (settingsOf (s .device) rs ps .used .0)) ≡ either (not (has (s .usable) k)) (inList (counters ps) k)
+  last-bit k l =
+      let enabled : ℕ → Bool = λ j. either (not (has (s .usable) j)) (inList (counters ps) j) in
+      ap (bit k) last-set ∙ bit-set (counterCount (s .device)) 0 k enabled l ∙ ap enabled (zero-add k)
+
+  pub last-bits : onlyBits (globalBits (s .device)) (lastGlobal s (settingsOf (s .device) rs ps .used .0)) ≡ true
+  last-bits = rw last-set (set-clean (s .device) (λ k. either (not (has (s .usable) k)) (inList (counters ps) k)))

@@ -25,7 +25,7 @@ use Rattle.plans.specs.Legal.{Legal, wordsOf, packetsOf, ofAll, counters}
 use Rattle.plans.proofs.Sets.{all-imp}
 use Rattle.layouts.specs.Layout.{filtersAt, rsp0At, rsp1At, mmCfgAt, matchAt, maskAt, mmEnable, enabled, eventWord, offcoreCode, rspMask, rspWord, packetWord}
 use Rattle.layouts.specs.Settings.{wordAt, setFrom, headOr, nonempty, settingsOf}
-use Rattle.layouts.specs.Writes.{unusable, offcoreWrites, packetWrites, filterWrites, writes, apply}
+use Rattle.layouts.specs.Writes.{lastGlobal, offcoreWrites, packetWrites, filterWrites, writes, apply}
 use Rattle.layouts.specs.Read.{ours, noCounter, filterWord, controlFits, accepts, tell, cell, readingOf}
 use Rattle.layouts.specs.Told.{notOurs, told, toldBy, toldOf, toldAt, toldPlan}
 use Rattle.layouts.specs.ExactReader.{FiltersShow, LeavesValues}
@@ -190,11 +190,11 @@ module _ (s : Setup) (v : RegisterValues) (within : Within s) (plan : LeavesValu
   filters : LeftFilters d (plan .requests) (plan .places) (v .filters) × Holds d (plan .requests) (plan .places) (v .filters)
   filters = filters-left d s (plan .requests) (plan .places) (plan .before) (v .filters) (plan .legal) (plan .shown .filters)
 
-  global : v .global ≡ unusable s + setFrom (counterCount d) 0 (λ k. not (eqb (wordAt us k) 0))
+  global : v .global ≡ lastGlobal s (setFrom (counterCount d) 0 (λ k. not (eqb (wordAt us k) 0)))
   global =
       plan .shown .global
       ∙ global-left s (plan .requests) (plan .places) (plan .before)
-      ∙ ap (λ (x : ℕ). unusable s + x) (set-same (counterCount d) 0 (inList (counters (plan .places))) (λ k. not (eqb (wordAt us k) 0)) (λ k l. used (0 + k)))
+      ∙ ap (lastGlobal s) (set-same (counterCount d) 0 (inList (counters (plan .places))) (λ k. not (eqb (wordAt us k) 0)) (λ k l. used (0 + k)))
 
   pub left-accepted : accepts s v ≡ true
   unfolding accepts

@@ -1,13 +1,11 @@
 -- No reserved bit of the published layouts is set: `NoReservedBit`, write by write (`writes-all`), register by register.
 use mathlib.Core.Path.{_≡_, refl, sym, subst, _∙_}
-use mathlib.Core.Logic.{inl, inr, ⊎-elim}
-use mathlib.Core.Bool.{Bool, true, false, not, true≢false}
+use mathlib.Core.Logic.{⊎-elim}
+use mathlib.Core.Bool.{Bool, true, false, true≢false}
 use mathlib.Core.List.{List, [], _∷_, List·Memᴰ, List·Memᴰ·head, List·Memᴰ·tail, List·Memᴰ·cases-cons, flatMap}
-use Prim.Native.Nat.{ℕ, _+_, _%_, _^_, _≤_, _<_}
-use native.Mathlib.Decide.{decLt}
+use Prim.Native.Nat.{ℕ, _^_, _<_}
 use native.Mathlib.Omega.{arith}
 use lib.ListN.{getD}
-use lib.Pow.{pow-mono}
 use Rattle.requests.specs.Choice.{both, either, every}
 use Rattle.requests.specs.declared.Device.{Device}
 use Rattle.requests.specs.declared.Device.the-variants.{G, S}
@@ -15,28 +13,25 @@ use Rattle.requests.specs.declared.Setup.{Setup}
 use Rattle.requests.specs.declared.Request.{Request}
 use Rattle.requests.specs.declared.Request.the-variants.{Offcore}
 use Rattle.requests.specs.Bits.{bit, inList, onlyBits, outstanding, rsp0Bits, rsp1Bits}
-use Rattle.requests.specs.Devices.{has, counterCount, capacity}
+use Rattle.requests.specs.Devices.{counterCount, capacity}
 use Rattle.requests.specs.WellFormedRequests.{Described, offcore, latency}
-use Rattle.requests.proofs.Tests.{every-at}
 use Rattle.requests.proofs.WellFormed.{no-outstanding}
 use Rattle.plans.specs.declared.Place.{Place}
 use Rattle.plans.specs.Lists.{All, nil, cons, Each}
-use Rattle.plans.specs.Legal.{Allowed, Legal, wordsOf, packetsOf, ofAll, counters}
+use Rattle.plans.specs.Legal.{Allowed, Legal, wordsOf, packetsOf, ofAll}
 use Rattle.plans.proofs.Sets.{all-imp}
-use Rattle.plans.proofs.PlanLengthHolds.{plan-length}
 use Rattle.layouts.specs.Layout.{tabulate, Register, registersOf, layoutOf, controlAt, counterAt, filtersAt, rsp0At, rsp1At, mmCfgAt, matchAt, maskAt, mmEnable, globalBits, controlBits}
-use Rattle.layouts.specs.Settings.{usesOf, wordAt, setFrom, headOr, nonempty, settingsOf}
-use Rattle.layouts.specs.Writes.{Write, unusable, offcoreWrites, packetWrites, filterWrites, writes}
+use Rattle.layouts.specs.Settings.{usesOf, wordAt, headOr, nonempty, settingsOf}
+use Rattle.layouts.specs.Writes.{Write, firstGlobal, lastGlobal, offcoreWrites, packetWrites, filterWrites, writes}
 use Rattle.layouts.specs.Read.{noCounter}
 use Rattle.layouts.specs.NoReservedBit.{Clean, AsksOutstanding, NoReservedBit}
 use Rattle.layouts.proofs.UsableSets.{on}
 use Rattle.layouts.proofs.ListLaws.{all-member, all-head, tabulate-member}
 use Rattle.layouts.proofs.Tabulated.{getD-tabulate}
-use Rattle.layouts.proofs.WordBits.{bit-zero, bit-above, bits-only, zero-only}
-use Rattle.layouts.proofs.CounterSets.{set-below}
-use Rattle.layouts.proofs.RegisterAddresses.{in-room, enable-bits, apart}
+use Rattle.layouts.proofs.WordBits.{bit-zero, zero-only}
+use Rattle.layouts.proofs.RegisterAddresses.{in-room, apart}
 use Rattle.layouts.proofs.RegistersAfter.{writes-all}
-use Rattle.layouts.proofs.GlobalValues.{unusable-set, global-set}
+use Rattle.layouts.proofs.GlobalValues.{first-bits, last-bits}
 use Rattle.layouts.proofs.ControlWords.{word-clean, plan-words, word-at}
 use Rattle.layouts.proofs.OffcoreWords.{offcore-clean, first-clean}
 use Rattle.layouts.proofs.AskedWords.{FirstWord, offcore-word, latency-word, first-words, second-words}
@@ -77,18 +72,6 @@ registers-all d P global filters controls r m = go d global filters controls m
 
 zero-clean : (s : Setup) (a : ℕ) → Clean s (a, 0)
 zero-clean s a r m e = zero-only (r .1)
-
--- a set of the device's counters has only enable bits
-set-clean : (d : Device) (on : ℕ → Bool) → onlyBits (globalBits d) (setFrom (counterCount d) 0 on) ≡ true
-unfolding capacity
-set-clean d on =
-    let small : 2 ^ counterCount d ≤ 2 ^ 8 = pow-mono (plan-length .device-at-most d) in
-    let l = set-below (counterCount d) 0 on in
-    bits-only (globalBits d) (setFrom (counterCount d) 0 on) (omega arith) (λ k b. elim (decLt k (counterCount d)) [
-      | yes y ↦ inr (every-at (counterCount d) (inList (globalBits d)) (enable-bits d) k y)
-      | no o ↦ let more : 2 ^ counterCount d ≤ 2 ^ k = pow-mono (let y = o in omega arith) in
-          inl (bit-above k (setFrom (counterCount d) 0 on) (omega arith))
-    ])
 
 global-clean : (s : Setup) (v : ℕ) → onlyBits (globalBits (s .device)) v ≡ true → Clean s (layoutOf (s .device) .global, v)
 global-clean s v h =
@@ -158,15 +141,14 @@ module _ (s : Setup) (rs : List Request) (ps : List Place) (described : All (Des
       let d = s .device in
       let us = ofAll (usesOf (s .device)) rs ps in
       writes-all s (settingsOf d rs ps) (Clean s)
-      (global-clean s (unusable s) (rw (unusable-set s) (set-clean d (λ k. not (has (s .usable) k)))))
+      (global-clean s (firstGlobal s) (first-bits s))
       (λ k l h. zero-clean s (controlAt d k))
       (filters-clean d s rs ps described (legal .allowed))
       (λ k l h. zero-clean s (counterAt d k))
       (λ k l h. control-clean s k (getD (tabulate capacity (wordAt us)) k 0) l
       (rw (getD-tabulate capacity (wordAt us) k 0 (in-room d k l))
       (word-at (λ w. onlyBits (controlBits d) w ≡ true) us k (zero-only (controlBits d)) (all-imp (λ x w. word-clean s (x .1) w) (plan-words s described (legal .allowed))))))
-      (global-clean s (unusable s + settingsOf d rs ps .used .0 % 2 ^ counterCount d)
-      (rw (global-set s rs ps legal) (set-clean d (λ k. either (not (has (s .usable) k)) (inList (counters ps) k)))))
+      (global-clean s (lastGlobal s (settingsOf d rs ps .used .0)) (last-bits s rs ps legal))
 
 -- a word of RSP0 with bit 38 is a latency request's
 first-latency : (s : Setup) (rs : List Request) (w : ℕ) → FirstWord s rs w → bit outstanding w ≡ true → AsksOutstanding rs w

@@ -4,7 +4,7 @@ use mathlib.Core.Logic.{_⊎_, inl, inr}
 use mathlib.Core.Bool.{Bool, true, false, not}
 use mathlib.Core.Option.{some}
 use mathlib.Core.List.{List}
-use Prim.Native.Nat.{ℕ, _+_, _^_, _<_}
+use Prim.Native.Nat.{ℕ, _^_, _<_}
 use native.Mathlib.Decide.{ℕ-discrete}
 use native.Mathlib.Omega.{arith}
 use borrow.Author.Tests.{eqb-true, ne-eqb}
@@ -20,7 +20,7 @@ use Rattle.requests.specs.Devices.{has, counterCount, capacity, setupOf}
 use Rattle.requests.proofs.Tests.{both-parts}
 use Rattle.layouts.specs.Layout.{tabulate, mmEnable, packetWord}
 use Rattle.layouts.specs.Settings.{setFrom}
-use Rattle.layouts.specs.Writes.{unusable}
+use Rattle.layouts.specs.Writes.{lastGlobal}
 use Rattle.layouts.specs.Read.{ours, count, controlFits, filtersFit, accepts, filterOf, tell, cell, readingOf, readOf}
 use Rattle.layouts.specs.NotLookedAt.{SameFilters, SameLookedAt, NotLookedAt}
 use Rattle.layouts.specs.declared.CounterState.the-variants.{NotOurs}
@@ -63,7 +63,7 @@ tell-same S u f v w k a h l = go (h .1)
 abbrev test : Setup → (ℕ → ℕ) → ℕ → FilterValues → Bool
 test s f g v =
     let n = counterCount (s .device) in
-    both (every n (λ k. controlFits s (f k))) (both (eqb g (unusable s + setFrom n 0 (λ k. not (eqb (f k) 0)))) (filtersFit s f v))
+    both (every n (λ k. controlFits s (f k))) (both (eqb g (lastGlobal s (setFrom n 0 (λ k. not (eqb (f k) 0))))) (filtersFit s f v))
 
 -- the reading, given the control values that are looked at
 abbrev answer : Setup → (ℕ → ℕ) → FilterValues → Reading
@@ -84,7 +84,7 @@ module _ (o : Opening) (s : Setup) (v w : RegisterValues) (opened : setupOf o �
       ap (λ (f : ℕ → ℕ). test s f (v .global) (v .filters)) ours-same
       ∙ ap (λ (g : ℕ). test s (ours s w) g (v .filters)) (same .global)
       ∙ ap (λ (b : Bool). both (every (counterCount (s .device)) (λ k. controlFits s (ours s w k)))
-      (both (eqb (w .global) (unusable s + setFrom (counterCount (s .device)) 0 (λ k. not (eqb (ours s w k) 0)))) b))
+      (both (eqb (w .global) (lastGlobal s (setFrom (counterCount (s .device)) 0 (λ k. not (eqb (ours s w k) 0))))) b))
       (filters-fit (s .device) s (ours s w) (v .filters) (w .filters) (same .filters))
 
   reading-same : accepts s v ≡ true → readingOf s v ≡ readingOf s w

@@ -2,26 +2,23 @@
 use mathlib.Core.Path.{_≡_, refl, sym, ap, subst, _∙_}
 use mathlib.Core.Bool.{true, false, not}
 use mathlib.Core.List.{List, List·Memᴰ}
-use Prim.Native.Nat.{ℕ, _+_, _<_}
-use native.Mathlib.Nat.{zero-add}
-use Rattle.requests.specs.Choice.{either}
+use Prim.Native.Nat.{ℕ, _<_}
 use Rattle.requests.specs.declared.Setup.{Setup}
 use Rattle.requests.specs.declared.Request.{Request}
-use Rattle.requests.specs.Bits.{bit, inList}
+use Rattle.requests.specs.Bits.{bit}
 use Rattle.requests.specs.Devices.{has, counterCount}
 use Rattle.requests.proofs.Tests.{either-left}
 use Rattle.plans.specs.declared.Place.{Place}
-use Rattle.plans.specs.Legal.{Legal, counters}
+use Rattle.plans.specs.Legal.{Legal}
 use Rattle.plans.proofs.Sets.{all-imp}
 use Rattle.layouts.specs.Layout.{layoutOf}
 use Rattle.layouts.specs.Settings.{settingsOf}
 use Rattle.layouts.specs.Writes.{writes, apply}
 use Rattle.layouts.specs.OthersUntouched.{Ours, global, filter, control, counter, OthersUntouched}
 use Rattle.layouts.proofs.ListLaws.{all-member}
-use Rattle.layouts.proofs.CounterSets.{bit-set}
 use Rattle.layouts.proofs.RegisterAddresses.{in-room, apart}
 use Rattle.layouts.proofs.RegistersAfter.{apply-after, after-other, filter-addresses, writes-all}
-use Rattle.layouts.proofs.GlobalValues.{used-usable, unusable-set, global-set}
+use Rattle.layouts.proofs.GlobalValues.{used-usable, first-bit, last-bit}
 
 kept : (s : Setup) (rs : List Request) (ps : List Place) → Legal s rs ps
     → (registers : ℕ → ℕ) (a : ℕ) → ¬ Ours s a → apply (writes s rs ps) registers a ≡ registers a
@@ -43,17 +40,15 @@ enabled : (s : Setup) (rs : List Request) (ps : List Place) → Legal s rs ps
 unfolding writes
 enabled s rs ps legal v k m l h =
     let d = s .device in
-    let n = counterCount (s .device) in
-    let off : not (has (s .usable) (0 + k)) ≡ true = rw (zero-add k) (ap not h) in
+    let off : not (has (s .usable) k) ≡ true = ap not h in
     all-member
     (writes-all s (settingsOf d rs ps) (λ w. w .0 ≡ layoutOf d .global → bit k (w .1) ≡ true)
-    (λ e. rw (unusable-set s) (bit-set n 0 k (λ j. not (has (s .usable) j)) l ∙ off))
+    (λ e. first-bit s k l ∙ off)
     (λ j b g e. absurd (apart d .global-control j (in-room d j b) (sym e)))
     (all-imp (λ w a e. absurd (all-member (apart d .filter-global) a e)) (filter-addresses d (settingsOf d rs ps)))
     (λ j b g e. absurd (apart d .global-counter j (in-room d j b) (sym e)))
     (λ j b g e. absurd (apart d .global-control j (in-room d j b) (sym e)))
-    (λ e. rw (global-set s rs ps legal)
-    (bit-set n 0 k (λ j. either (not (has (s .usable) j)) (inList (counters ps) j)) l ∙ either-left _ _ off)))
+    (λ e. last-bit s rs ps legal k l ∙ either-left _ _ off))
     m refl
 
 pub others-untouched : OthersUntouched

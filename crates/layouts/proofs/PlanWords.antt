@@ -24,13 +24,13 @@ use Rattle.plans.specs.Legal.{Allowed, event, packet, offcore, latency, Legal, 
 use Rattle.plans.proofs.Sets.{all-imp}
 use Rattle.layouts.specs.Layout.{layoutOf, controlAt, filtersAt}
 use Rattle.layouts.specs.Settings.{usesOf, wordAt, setFrom, settingsOf}
-use Rattle.layouts.specs.Writes.{unusable, filterWrites, writes, apply}
+use Rattle.layouts.specs.Writes.{lastGlobal, filterWrites, writes, apply}
 use Rattle.layouts.specs.Read.{count}
 use Rattle.layouts.proofs.Tabulated.{getD-tabulate}
 use Rattle.layouts.proofs.RegisterAddresses.{in-room}
 use Rattle.layouts.proofs.RegistersAfter.{after, apply-after, control-after, global-after, filter-after}
 use Rattle.layouts.proofs.Counts.{counterOf, absent, hits, count-hits}
-use Rattle.layouts.proofs.GlobalValues.{used-has, used-small}
+use Rattle.layouts.proofs.GlobalValues.{used-has}
 
 -- the uses of a plan
 abbrev pub usesIn : Setup → List Request → List Place → List (ℕ × ℕ)
@@ -86,12 +86,11 @@ module _ (s : Setup) (rs : List Request) (ps : List Place) (registers : ℕ → 
       ∙ control-after s (settingsOf d rs ps) k (registers (controlAt d k)) l
       ∙ rw (used-has d rs ps k l, getD-tabulate capacity (wordAt (usesIn s rs ps)) k 0 (in-room d k l))
 
-  pub global-left : apply (writes s rs ps) registers (layoutOf (s .device) .global) ≡ unusable s + setFrom (counterCount (s .device)) 0 (inList (counters ps))
-  unfolding writes
+  pub global-left : apply (writes s rs ps) registers (layoutOf (s .device) .global) ≡ lastGlobal s (setFrom (counterCount (s .device)) 0 (inList (counters ps)))
+  unfolding writes settingsOf
   global-left =
       apply-after (writes s rs ps) registers (layoutOf (s .device) .global)
       ∙ global-after s (settingsOf (s .device) rs ps) (registers (layoutOf (s .device) .global))
-      ∙ ap (λ (x : ℕ). unusable s + x) (used-small (s .device) rs ps)
 
   pub filter-left : (a : ℕ) → List·Memᴰ a (filtersAt (s .device)) → apply (writes s rs ps) registers a ≡ after (filterWrites (s .device) (settingsOf (s .device) rs ps)) a (registers a)
   unfolding writes

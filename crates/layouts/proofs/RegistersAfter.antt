@@ -5,7 +5,7 @@
 use mathlib.Core.Path.{_≡_, refl, sym, ap}
 use mathlib.Core.Bool.{Bool, true, false}
 use mathlib.Core.List.{List, [], _∷_, _++_, List·Memᴰ, List·Memᴰ·head, List·Memᴰ·tail}
-use Prim.Native.Nat.{ℕ, zero, suc, _+_, _*_, _%_, _^_, _<_}
+use Prim.Native.Nat.{ℕ, zero, suc, _+_, _*_, _<_}
 use native.Mathlib.Nat.{le-refl}
 use native.Mathlib.Decide.{ℕ-discrete}
 use native.Mathlib.Omega.{arith}
@@ -21,7 +21,7 @@ use Rattle.requests.specs.Devices.{has, counterCount, capacity}
 use Rattle.plans.specs.Lists.{All, nil, cons}
 use Rattle.plans.proofs.Sets.{all-append, all-imp}
 use Rattle.layouts.specs.Layout.{layoutOf, controlAt, counterAt, filtersAt}
-use Rattle.layouts.specs.Writes.{Write, row, rows, zeros, unusable, offcoreWrites, packetWrites, filterWrites, writesFor, store, apply}
+use Rattle.layouts.specs.Writes.{Write, row, rows, zeros, firstGlobal, lastGlobal, offcoreWrites, packetWrites, filterWrites, writesFor, store, apply}
 use Rattle.layouts.specs.declared.Settings.{Settings}
 use Rattle.layouts.proofs.ListLaws.{all-member, zero-at}
 use Rattle.layouts.proofs.RegisterAddresses.{in-room, apart}
@@ -111,12 +111,12 @@ module _ (s : Setup) (t : Settings) where
 
   -- what holds of every write of the list
   pub writes-all : (P : Write → Type 0)
-      → P (layoutOf d .global, unusable s)
+      → P (layoutOf d .global, firstGlobal s)
       → ((k : ℕ) → k < n → has (s .usable) k ≡ true → P (controlAt d k, 0))
       → All P (filterWrites d t)
       → ((k : ℕ) → k < n → has (t .used) k ≡ true → P (counterAt d k, 0))
       → ((k : ℕ) → k < n → has (t .used) k ≡ true → P (controlAt d k, getD (t .words) k 0))
-      → P (layoutOf d .global, unusable s + t .used .0 % 2 ^ n)
+      → P (layoutOf d .global, lastGlobal s (t .used .0))
       → All P (writesFor s t)
   unfolding writesFor controlAt counterAt zeros
   writes-all P first off filters counts words last =
@@ -150,7 +150,7 @@ module _ (s : Setup) (t : Settings) where
       let words = rows-at (t .used) (lay .control) (lay .step) (t .words) (apart-d .control-control) n k (pick (has (s .usable) k) 0 x) l in
       simp (after-append, globals, off, zero-at capacity k, filters, counts, words)
 
-  pub global-after : (x : ℕ) → after (writesFor s t) (layoutOf d .global) x ≡ unusable s + t .used .0 % 2 ^ n
+  pub global-after : (x : ℕ) → after (writesFor s t) (layoutOf d .global) x ≡ lastGlobal s (t .used .0)
   unfolding writesFor
   global-after x = simp (after-append, after-last)
 

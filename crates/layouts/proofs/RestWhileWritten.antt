@@ -3,8 +3,8 @@ use mathlib.Core.Path.{_≡_, refl, sym, ap, subst, _∙_}
 use mathlib.Core.Logic.{_≢_}
 use mathlib.Core.Bool.{Bool, true, false, not, true≢false, false≢true}
 use mathlib.Core.List.{List, [], _∷_, _++_, List·Memᴰ, List·Memᴰ·head, List·Memᴰ·tail, flatMap}
-use Prim.Native.Nat.{ℕ, suc, _+_, _%_, _^_, _≤_, _<_}
-use native.Mathlib.Nat.{zero-add, le-refl}
+use Prim.Native.Nat.{ℕ, suc, _+_, _^_, _≤_, _<_}
+use native.Mathlib.Nat.{le-refl}
 use native.Mathlib.Decide.{ℕ-discrete}
 use native.Mathlib.Omega.{arith}
 use lib.ListN.{getD}
@@ -21,17 +21,16 @@ use Rattle.plans.specs.Legal.{Usable, Legal, packetsOf, counters}
 use Rattle.plans.proofs.Sets.{all-append, all-imp}
 use Rattle.layouts.specs.Layout.{layoutOf, controlAt, counterAt, filtersAt, rsp0At, rsp1At, mmCfgAt, matchAt, maskAt, mmEnable}
 use Rattle.layouts.specs.Settings.{headOr, nonempty, settingsOf}
-use Rattle.layouts.specs.Writes.{Write, rows, zeros, unusable, offcoreWrites, packetWrites, filterWrites, writesFor, writes}
+use Rattle.layouts.specs.Writes.{Write, rows, zeros, firstGlobal, lastGlobal, offcoreWrites, packetWrites, filterWrites, writesFor, writes}
 use Rattle.layouts.specs.RestWhileWritten.{LastWritten, EnablesNone, Disabled, Cleared, Quiet, Matching, AtRest, StoppedFirst, EnabledLast, RestWhileWritten}
 use Rattle.layouts.specs.declared.Settings.{Settings}
 use Rattle.layouts.proofs.ListLaws.{all-member, zero-at}
 use Rattle.layouts.proofs.UsableSets.{on}
-use Rattle.layouts.proofs.CounterSets.{bit-set}
 use Rattle.layouts.proofs.RegisterAddresses.{in-room, apart}
 use Rattle.layouts.proofs.RegistersAfter.{rows-all, filter-addresses}
 use Rattle.layouts.proofs.WriteByWrite.{Along, last-here, last-other, last-member, member-other, along-then, along-at, rows-along}
 use Rattle.layouts.proofs.WritesAtRest.{global-rests, control-rests, count-rests, filter-rests}
-use Rattle.layouts.proofs.GlobalValues.{used-has, used-usable, unusable-set, global-set}
+use Rattle.layouts.proofs.GlobalValues.{used-has, used-usable, first-bit, last-bit}
 use Rattle.layouts.proofs.PlanFilters.{devices-differ}
 
 -- ---- the filter registers
@@ -105,21 +104,16 @@ filters-rest S u rs ps b q = let asked = flatMap packetsOf rs in packets-rest u 
 -- ---- the list
 
 -- the first value of the global register enables no usable counter
-unusable-none : (s : Setup) → EnablesNone s (unusable s)
-unusable-none s k u =
-    let off : not (has (s .usable) (0 + k)) ≡ false = rw (zero-add k) (ap not (u .1)) in
-    rw (unusable-set s) (bit-set (counterCount (s .device)) 0 k (λ j. not (has (s .usable) j)) (u .0) ∙ off)
+first-none : (s : Setup) → EnablesNone s (firstGlobal s)
+first-none s k u = first-bit s k (u .0) ∙ ap not (u .1)
 
 -- the last one only those that are used
 enabled-used : (s : Setup) (rs : List Request) (ps : List Place) → Legal s rs ps → (k : ℕ) → Usable s k
-    → bit k (unusable s + settingsOf (s .device) rs ps .used .0 % 2 ^ counterCount (s .device)) ≡ true → has (settingsOf (s .device) rs ps .used) k ≡ true
+    → bit k (lastGlobal s (settingsOf (s .device) rs ps .used .0)) ≡ true → has (settingsOf (s .device) rs ps .used) k ≡ true
 unfolding either
 enabled-used s rs ps legal k u h =
-    let d = s .device in
-    let n = counterCount (s .device) in
-    let bits = bit-set n 0 k (λ j. either (not (has (s .usable) j)) (inList (counters ps) j)) (u .0) in
-    let used : either (not (has (s .usable) k)) (inList (counters ps) k) ≡ true = rw (global-set s rs ps legal, bits, zero-add k) at h in
-    used-has d rs ps k (u .0) ∙ (rw (u .1) at used)
+    let used : either (not (has (s .usable) k)) (inList (counters ps) k) ≡ true = sym (last-bit s rs ps legal k (u .0)) ∙ h in
+    used-has (s .device) rs ps k (u .0) ∙ (rw (u .1) at used)
 
 -- a 0 that is written to a counter's register
 zero-here : (b : List Write) (a k : ℕ) → LastWritten (b ++ (a, getD zeros k 0) ∷ []) a 0
@@ -232,12 +226,12 @@ module _ (s : Setup) (rs : List Request) (ps : List Place) (legal : Legal s rs p
       let d = s .device in
       let g = layoutOf d .global in
       let P = AtRest s rs in
-      let first : List Write = (g, unusable s) ∷ [] in
+      let first : List Write = (g, firstGlobal s) ∷ [] in
       let filters = filterWrites d t in
-      let v = unusable s + t .used .0 % 2 ^ n in
+      let v = lastGlobal s (t .used .0) in
       let one : Along P [] first × Disabled s first = (
-        (global-rests s rs [] (unusable s) (λ k u h. absurd (true≢false (sym h ∙ unusable-none s k u))), tt),
-        (unusable s, last-here [] g (unusable s), unusable-none s),
+        (global-rests s rs [] (firstGlobal s) (λ k u h. absurd (true≢false (sym h ∙ first-none s k u))), tt),
+        (firstGlobal s, last-here [] g (firstGlobal s), first-none s),
       ) in
       let two = along-then P (Disabled s) (AllQuiet s) [] first clear one clear-rests in
       let three = along-then P (AllQuiet s) (AllQuiet s) [] (first ++ clear) filters two (filters-rest d s rs ps) in
@@ -249,7 +243,7 @@ module _ (s : Setup) (rs : List Request) (ps : List Place) (legal : Legal s rs p
 
 stopped-first : (s : Setup) (rs : List Request) (ps : List Place) → StoppedFirst s (writes s rs ps)
 unfolding writes writesFor
-stopped-first s rs ps = record { value = unusable s; later = _; list = refl; enables-none = unusable-none s }
+stopped-first s rs ps = record { value = firstGlobal s; later = _; list = refl; enables-none = first-none s }
 
 enabled-last : (s : Setup) (rs : List Request) (ps : List Place) → EnabledLast s (writes s rs ps)
 unfolding writes writesFor controlAt counterAt
@@ -261,13 +255,13 @@ enabled-last s rs ps =
     let P : Write → Type 0 = λ w. w .0 ≡ layoutOf (s .device) .global → EnablesNone s (w .1) in
     record {
       before = _;
-      value = unusable s + t .used .0 % 2 ^ n;
+      value = lastGlobal s (t .used .0);
       list = refl;
       not-before =
           all-append
           (all-append
           (all-append
-          (all-append (cons (λ e. unusable-none s) nil)
+          (all-append (cons (λ e. first-none s) nil)
           (rows-all P (s .usable) (l .control) (l .step) zeros n (λ k b h e. absurd (apart d .global-control k (in-room d k b) (sym e)))))
           (all-imp (λ w m e. absurd (all-member (apart d .filter-global) m e)) (filter-addresses d t)))
           (rows-all P (t .used) (l .counter) (l .step) zeros n (λ k b h e. absurd (apart d .global-counter k (in-room d k b) (sym e)))))

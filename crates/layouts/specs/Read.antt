@@ -19,7 +19,7 @@ use Rattle.requests.specs.Devices.{has, counterCount, capacity, setupOf}
 use Rattle.requests.specs.Checks.{formed}
 use Rattle.layouts.specs.Layout.{tabulate, mmEnable, eventWord, rspWord, packetWord, codeOf, maskOf}
 use Rattle.layouts.specs.Settings.{setFrom}
-use Rattle.layouts.specs.Writes.{unusable}
+use Rattle.layouts.specs.Writes.{lastGlobal}
 use Rattle.layouts.specs.declared.FilterValues.{FilterValues}
 use Rattle.layouts.specs.declared.RegisterValues.{RegisterValues}
 use Rattle.layouts.specs.declared.FilterRead.{FilterRead}
@@ -86,7 +86,7 @@ unfoldable pub accepts : Setup → RegisterValues → Bool
 accepts s v =
     let n = counterCount (s .device) in
     both (every n (λ k. controlFits s (ours s v k)))
-    (both (eqb (v .global) (unusable s + setFrom n 0 (λ k. not (eqb (ours s v k) 0))))
+    (both (eqb (v .global) (lastGlobal s (setFrom n 0 (λ k. not (eqb (ours s v k) 0)))))
     (filtersFit s (ours s v) (v .filters)))
 
 -- ---- what is told

@@ -38,6 +38,14 @@ zeros = replicate capacity 0
 unfoldable pub unusable : Setup → ℕ
 unusable s = allCounters (s .device) - s .usable .0 % 2 ^ counterCount (s .device)
 
+-- the first value of the global control register: "with the bits of unusable counters"
+unfoldable pub firstGlobal : Setup → ℕ
+firstGlobal s = unusable s
+
+-- the last one, for a set of used counters: "with unusable and used bits"
+unfoldable pub lastGlobal : Setup → ℕ → ℕ
+lastGlobal s used = firstGlobal s + used % 2 ^ counterCount (s .device)
+
 -- "01A6 then 01A7, 0 where unused"
 unfoldable pub offcoreWrites : ℕ → ℕ → List Write
 offcoreWrites w v = (rsp0At, w) ∷ (rsp1At, v) ∷ []
@@ -52,18 +60,18 @@ unfoldable pub filterWrites : Device → Settings → List Write
 filterWrites G t = offcoreWrites (t .rsp0) (t .rsp1)
 filterWrites S t = packetWrites (t .packets) (t .«match_word») (t .«mask_word»)
 
--- the list for register values: global control with the bits of unusable counters; control 0 for usable k; the filter registers;
--- count 0 for used k; control for used k; global control with unusable and used bits
+-- the list for register values: global control with its first value; control 0 for usable k; the filter registers;
+-- count 0 for used k; control for used k; global control with its last value
 unfoldable pub writesFor : Setup → Settings → List Write
 writesFor s t =
     let n = counterCount (s .device) in
     let l = layoutOf (s .device) in
-    ((l .global, unusable s) ∷ [])
+    ((l .global, firstGlobal s) ∷ [])
     ++ rows n (s .usable) (l .control) (l .step) zeros
     ++ filterWrites (s .device) t
     ++ rows n (t .used) (l .counter) (l .step) zeros
     ++ rows n (t .used) (l .control) (l .step) (t .words)
-    ++ ((l .global, unusable s + t .used .0 % 2 ^ n) ∷ [])
+    ++ ((l .global, lastGlobal s (t .used .0)) ∷ [])
 
 -- the write list of a plan
 unfoldable pub writes : Setup → List Request → List Place → List Write

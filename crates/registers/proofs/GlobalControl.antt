@@ -9,7 +9,7 @@ use Rattle.requests.specs.declared.Device.{Device}
 use Rattle.requests.specs.declared.Device.the-variants.{G, S}
 use Rattle.requests.specs.declared.Setup.{Setup}
 use Rattle.requests.specs.Devices.{counterCount, allCounters}
-use Rattle.layouts.specs.Writes.{unusable}
+use Rattle.layouts.specs.Writes.{unusable, firstGlobal, lastGlobal}
 
 -- one more than all counters is a power of two
 all-next : (d : Device) → allCounters d + 1 ≡ 2 ^ counterCount d
@@ -29,18 +29,19 @@ all-small S = omega arith
 pub all-number : (d : Device) (all : CounterSet) → all ≡ record { 0 = allCounters d } → all .0 ≡ allCounters d
 all-number d all e = ap (λ (x : CounterSet). x .0) e
 
-pub unusable-small : (s : Setup) → unusable s ≤ 255
-unfolding unusable
-unusable-small s = omega (arith, all-small (s .device))
+pub first-small : (s : Setup) → firstGlobal s ≤ 255
+unfolding firstGlobal unusable
+first-small s = omega (arith, all-small (s .device))
 
 -- all: the device's counters, as the code has them
 module _ (s : Setup) (all : ℕ) (is : all ≡ allCounters (s .device)) where
   next : all + 1 ≡ 2 ^ counterCount (s .device)
   next = ap (λ (k : ℕ). k + 1) is ∙ all-next (s .device)
 
-  pub unusable-is : all - s .usable .0 % (all + 1) ≡ unusable s
-  unfolding unusable
-  unusable-is = rw (next, is)
+  pub first-is : all - s .usable .0 % (all + 1) ≡ firstGlobal s
+  unfolding firstGlobal unusable
+  first-is = rw (next, is)
 
-  pub counting-is : (others used : ℕ) → others ≡ unusable s → others + used % (all + 1) ≡ unusable s + used % 2 ^ counterCount (s .device)
-  counting-is others used e = rw (next, e)
+  pub last-is : (others used : ℕ) → others ≡ firstGlobal s → others + used % (all + 1) ≡ lastGlobal s used
+  unfolding lastGlobal
+  last-is others used e = rw (next, e)

@@ -1,9 +1,8 @@
 -- The reader's answer from its tests: the filter registers of each device, and the whole of the values.
 use mathlib.Core.Path.{_≡_, sym, ap, _∙_}
-use mathlib.Core.Bool.{Bool, true, false, not}
+use mathlib.Core.Bool.{true, false, not}
 use mathlib.Core.List.{List}
-use Prim.Native.Nat.{ℕ, _+_, _%_, _^_}
-use native.Mathlib.Nat.{mod-eq-of-lt}
+use Prim.Native.Nat.{ℕ, _^_}
 use native.Mathlib.Omega.{arith}
 use lib.Dec.{eqb}
 use lib.ListN.{getD}
@@ -15,11 +14,10 @@ use Rattle.requests.specs.Choice.{both, every, pick}
 use Rattle.requests.specs.Devices.{counterCount}
 use Rattle.layouts.specs.Layout.{mmEnable, rspWord, packetWord}
 use Rattle.layouts.specs.Settings.{setFrom}
-use Rattle.layouts.specs.Writes.{unusable}
+use Rattle.layouts.specs.Writes.{lastGlobal}
 use Rattle.layouts.specs.Read.{ours, count, controlFits, rsp1Fits, rsp0Fits, filtersFit, accepts}
 use Rattle.layouts.specs.declared.FilterValues.{FilterValues}
 use Rattle.layouts.specs.declared.RegisterValues.{RegisterValues}
-use Rattle.layouts.proofs.CounterSets.{set-below}
 use Rattle.layouts.proofs.UsableSets.{on}
 
 -- ---- the filter registers
@@ -39,11 +37,6 @@ module _ (f : ℕ → ℕ) (v : FilterValues) where
 
 -- ---- the values
 
--- used: the counters whose control words are not 0
-pub counting-set : (s : Setup) (on : ℕ → Bool) (used value : ℕ) → used ≡ setFrom (counterCount (s .device)) 0 on
-    → value ≡ unusable s + used % 2 ^ counterCount (s .device) → value ≡ unusable s + setFrom (counterCount (s .device)) 0 on
-counting-set s on used value e g = rw (e, mod-eq-of-lt (set-below (counterCount (s .device)) 0 on)) at g
-
 -- words: the control values that are looked at
 module _ (s : Setup) (v : RegisterValues) (words : List ℕ) (same : (λ k. getD words k 0) ≡ ours s v) where
   abbrev limit : ℕ
@@ -55,22 +48,22 @@ module _ (s : Setup) (v : RegisterValues) (words : List ℕ) (same : (λ k. getD
   controls : every limit (λ k. controlFits s (getD words k 0)) ≡ every limit (λ k. controlFits s (ours s v k))
   controls = ap (λ (f : ℕ → ℕ). every limit (λ k. controlFits s (f k))) same
 
-  counting : unusable s + used ≡ unusable s + setFrom limit 0 (λ k. not (eqb (ours s v k) 0))
-  counting = ap (λ (f : ℕ → ℕ). unusable s + setFrom limit 0 (λ k. not (eqb (f k) 0))) same
+  counting : lastGlobal s used ≡ lastGlobal s (setFrom limit 0 (λ k. not (eqb (ours s v k) 0)))
+  counting = ap (λ (f : ℕ → ℕ). lastGlobal s (setFrom limit 0 (λ k. not (eqb (f k) 0)))) same
 
-  pub accepts-by-filters : every limit (λ k. controlFits s (getD words k 0)) ≡ true → v .global ≡ unusable s + used
+  pub accepts-by-filters : every limit (λ k. controlFits s (getD words k 0)) ≡ true → v .global ≡ lastGlobal s used
       → filtersFit s (λ k. getD words k 0) (v .filters) ≡ accepts s v
   unfolding accepts both
   accepts-by-filters fit global =
-      rw (sym controls ∙ fit, eq-eqb (v .global) (unusable s + setFrom limit 0 (λ k. not (eqb (ours s v k) 0))) (global ∙ counting))
+      rw (sym controls ∙ fit, eq-eqb (v .global) (lastGlobal s (setFrom limit 0 (λ k. not (eqb (ours s v k) 0)))) (global ∙ counting))
       (ap (λ (f : ℕ → ℕ). filtersFit s f (v .filters)) same)
 
-  pub global-refused : every limit (λ k. controlFits s (getD words k 0)) ≡ true → (v .global ≡ unusable s + used → ⊥) → false ≡ accepts s v
+  pub global-refused : every limit (λ k. controlFits s (getD words k 0)) ≡ true → (v .global ≡ lastGlobal s used → ⊥) → false ≡ accepts s v
   unfolding accepts both
   global-refused fit other =
       rw (
         sym controls ∙ fit,
-        ne-eqb (v .global) (unusable s + setFrom limit 0 (λ k. not (eqb (ours s v k) 0))) (λ e. other (e ∙ sym counting)),
+        ne-eqb (v .global) (lastGlobal s (setFrom limit 0 (λ k. not (eqb (ours s v k) 0)))) (λ e. other (e ∙ sym counting)),
       )
 
   pub controls-refused : every limit (λ k. controlFits s (getD words k 0)) ≡ false → false ≡ accepts s v

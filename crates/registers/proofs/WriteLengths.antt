@@ -2,7 +2,7 @@
 use mathlib.Core.Path.{_≡_, refl, ap, _∙_}
 use mathlib.Core.List.{List, [], _∷_, _++_}
 use mathlib.Core.Bool.{Bool, true, false}
-use Prim.Native.Nat.{ℕ, _+_, _*_, _%_, _^_, _≤_, _<_}
+use Prim.Native.Nat.{ℕ, _+_, _*_, _≤_, _<_}
 use native.Mathlib.Nat.{le-refl, zero-add}
 use native.Mathlib.Omega.{arith}
 use borrow.Author.Tests.{lt-ltb, le-ltb}
@@ -18,7 +18,7 @@ use Rattle.requests.specs.Devices.{size, counterCount, capacity}
 use Rattle.plans.proofs.Members.{size-at-most}
 use Rattle.plans.proofs.PlanLengthHolds.{plan-length}
 use Rattle.layouts.specs.Layout.{layoutOf}
-use Rattle.layouts.specs.Writes.{Write, row, rows, zeros, flat, filled, unusable, packetWrites, offcoreWrites, filterWrites, writesFor}
+use Rattle.layouts.specs.Writes.{Write, row, rows, zeros, flat, filled, firstGlobal, lastGlobal, packetWrites, offcoreWrites, filterWrites, writesFor}
 use Rattle.layouts.specs.Slices.{Appended, Wrote, tooShort, writeAnswer, writtenAnswer, writtenCount, writeSlice}
 use Rattle.layouts.specs.declared.Layout.{Layout}
 use Rattle.layouts.specs.declared.Settings.{Settings}
@@ -54,20 +54,20 @@ filters-small S t = packets-small (t .packets) (t .«match_word») (t .«mask_wo
 -- the parts of the list, with the number of counters and the layout as the code has them
 module _ (s : Setup) (t : Settings) (n : ℕ) (l : Layout) (count : n ≡ counterCount (s .device)) (layout : l ≡ layoutOf (s .device)) where
   writes-parts :
-      ((l .global, unusable s) ∷ [])
+      ((l .global, firstGlobal s) ∷ [])
       ++ rows n (s .usable) (l .control) (l .step) zeros
       ++ filterWrites (s .device) t
       ++ rows n (t .used) (l .counter) (l .step) zeros
       ++ rows n (t .used) (l .control) (l .step) (t .words)
-      ++ ((l .global, unusable s + t .used .0 % 2 ^ counterCount (s .device)) ∷ [])
+      ++ ((l .global, lastGlobal s (t .used .0)) ∷ [])
       ≡ writesFor s t
   unfolding writesFor
   writes-parts = rw (count, layout)
 
   -- the parts one after another in a slice
   pub list-appended : {start first second third fourth fifth end : List ℕ} {a b c d e f others value : ℕ}
-      → others ≡ unusable s
-      → value ≡ unusable s + t .used .0 % 2 ^ counterCount (s .device)
+      → others ≡ firstGlobal s
+      → value ≡ lastGlobal s (t .used .0)
       → Appended start 0 (row true (l .global) others) first a
       → Appended first a (rows n (s .usable) (l .control) (l .step) zeros) second b
       → Appended second b (filterWrites (s .device) t) third c

@@ -1,5 +1,5 @@
 // Which register values some plan leaves.
-use crate::global::counting_value;
+use crate::global::last_global;
 use crate::tables::MM_CFG_ENABLE;
 use crate::tables::code_of;
 use crate::tables::event_word;
@@ -257,7 +257,7 @@ pub fn accepts(setup: Setup, values: RegisterValues) -> bool
     let words = looked_at(setup, values);
     if controls_fit(setup, limit, words) {
         let used = used_by(limit, words);
-        if values.global == counting_value(setup, used) {
+        if values.global == last_global(setup, used) {
             return filters_fit(setup, words, filters);
         }
     }

@@ -1,15 +1,13 @@
-// The values of the global control register: others' bits stay set.
+// The two values of the global control register: others' bits stay set.
 use requests::CounterSet;
 use requests::Setup;
 use requests::devices::all_counters;
 ghost use mathlib.Core.Path.{_≡_};
-ghost use Prim.Native.Nat.{_+_, _%_, _^_};
-ghost use Rattle.requests.specs.Devices.{counterCount};
-ghost use Rattle.layouts.specs.Writes.{unusable};
+ghost use Rattle.layouts.specs.Writes.{firstGlobal, lastGlobal};
 
-// The bits of the unusable counters.
-pub fn unusable_counters(setup: Setup) -> u64
-    ensures { λ r. ⌜ r ≡ unusable setup ⌝ }
+// The first value: the bits of the unusable counters.
+pub fn first_global(setup: Setup) -> u64
+    ensures { λ r. ⌜ r ≡ firstGlobal setup ⌝ }
 {
     let device = setup.device;
     let counters = all_counters(device);
@@ -18,12 +16,12 @@ pub fn unusable_counters(setup: Setup) -> u64
     all - ours
 }
 
-// The bits of the unusable counters and of the used ones.
-pub fn counting_value(setup: Setup, used: CounterSet) -> u64
-    ensures { λ r. ⌜ r ≡ unusable setup + used .0 % 2 ^ counterCount (setup .device) ⌝ }
+// The last value: those and the bits of the used ones.
+pub fn last_global(setup: Setup, used: CounterSet) -> u64
+    ensures { λ r. ⌜ r ≡ lastGlobal setup (used .0) ⌝ }
 {
     let device = setup.device;
     let counters = all_counters(device);
     let all = counters.0;
-    unusable_counters(setup) + used.0 % (all + 1)
+    first_global(setup) + used.0 % (all + 1)
 }

@@ -1,6 +1,6 @@
 // The write list of register values, into a slice that the caller lends.
-use crate::global::counting_value;
-use crate::global::unusable_counters;
+use crate::global::first_global;
+use crate::global::last_global;
 use crate::tables::MASK;
 use crate::tables::MATCH;
 use crate::tables::MM_CFG;
@@ -142,18 +142,12 @@ fn put_list(out: &mut [u64], setup: Setup, settings: Settings) -> usize
     let counts = layout.counter;
     let step = layout.step;
     let zeros = [0; 8];
-    let stopped = put(out, 0, true, layout.global, unusable_counters(setup));
+    let stopped = put(out, 0, true, layout.global, first_global(setup));
     let cleared = put_rows(out, stopped, count, usable, controls, step, zeros);
     let filtered = put_filters(out, cleared, device, settings);
     let zeroed = put_rows(out, filtered, count, used, counts, step, zeros);
     let selected = put_rows(out, zeroed, count, used, controls, step, words);
-    put(
-        out,
-        selected,
-        true,
-        layout.global,
-        counting_value(setup, used),
-    )
+    put(out, selected, true, layout.global, last_global(setup, used))
 }
 
 // The write list of the register values at the start of the slice; where it has no room, nothing.

@@ -1,16 +1,15 @@
 -- `accepts` tests the parts of the definition in its order, over the control values that are looked at.
 use mathlib.Core.Path.{_≡_, sym, ap, _∙_}
-use mathlib.Core.Bool.{not}
 use mathlib.Core.List.{List}
 use Prim.Native.Nat.{ℕ}
-use lib.Dec.{eqb}
 use lib.ListN.{length, getD}
 use borrow.Author.Needs.{needs}
 use Rattle.requests.specs.Devices.{capacity}
+use Rattle.layouts.specs.Writes.{lastGlobal}
 use Rattle.layouts.specs.Read.{ours}
 use Rattle.plans.proofs.PlanLengthHolds.{plan-length}
 use Rattle.registers.proofs.Accepting.{looked}
-use Rattle.registers.proofs.ReaderSteps.{counting-set, accepts-by-filters, global-refused, controls-refused}
+use Rattle.registers.proofs.ReaderSteps.{accepts-by-filters, global-refused, controls-refused}
 use Rattle.registers.proofs.accept.accepts.Statement.{statement}
 use Rattle.registers.proofs.accept.accepts.Tie as tie
 
@@ -35,7 +34,7 @@ returns c =
     let words = c .before .before .before .before .before .before .before .looked-at .result in
     let fit = rw (c .before .before .before .before .before .before .before .before .counter-count .ensures) at (sym (c .before .before .before .before .before .before .controls-fit .ensures) ∙ c .before .before .before .before .before .if1 .taken) in
     let used = rw (c .before .before .before .before .before .before .before .before .counter-count .ensures) at (c .before .before .before .before .used-by .ensures) in
-    let value = counting-set (a .setup) (λ k. not (eqb (getD words k 0) 0)) _ _ used (c .before .before .before .counting-value .ensures) in
+    let value = c .before .before .before .last-global .ensures ∙ ap (lastGlobal (a .setup)) used in
     c .filters-fit .ensures
     ∙ accepts-by-filters (a .setup) (a .values) words (same (c .before .before .before .before .before .before .before)) fit (c .before .if2 .taken ∙ value)
 
@@ -45,7 +44,7 @@ returns-2 c =
     let words = c .before .before .before .before .before .before .looked-at .result in
     let fit = rw (c .before .before .before .before .before .before .before .counter-count .ensures) at (sym (c .before .before .before .before .before .controls-fit .ensures) ∙ c .before .before .before .before .if1 .taken) in
     let used = rw (c .before .before .before .before .before .before .before .counter-count .ensures) at (c .before .before .before .used-by .ensures) in
-    let value = counting-set (a .setup) (λ k. not (eqb (getD words k 0) 0)) _ _ used (c .before .before .counting-value .ensures) in
+    let value = c .before .before .last-global .ensures ∙ ap (lastGlobal (a .setup)) used in
     global-refused (a .setup) (a .values) words (same (c .before .before .before .before .before .before)) fit (λ e. c .if2 .left (e ∙ sym value))
 
 returns-3 : tie.Need-returns-3

@@ -166,8 +166,8 @@ returns c =
     _
     (laid .before .counter-count .ensures)
     (laid .layout-of .ensures)
-    (stopped .before .unusable-counters .ensures)
-    (started .before .counting-value .ensures)
+    (stopped .before .first-global .ensures)
+    (started .before .last-global .ensures)
     (stopped .put .ensures)
     (cleared .put-rows .ensures)
     (filtered .put-filters .ensures)
