@@ -4,82 +4,37 @@
 --     word-parts, word-some, word-clean   such a word gives its code and mask back, is not 0, and has no reserved bit
 --     plan-words     the words of a plan of well-formed requests are such words
 use mathlib.Core.Path.{_≡_, refl, sym, _∙_}
-use mathlib.Core.Logic.{inr, ⊎-elim}
-use mathlib.Core.Bool.{Bool, true, false, not, false≢true}
+use mathlib.Core.Logic.{inr}
+use mathlib.Core.Bool.{Bool, true, false}
 use mathlib.Core.List.{List, [], _∷_}
 use Prim.Native.Nat.{ℕ, _/_, _^_, _<_}
 use native.Mathlib.Decide.{decLt}
 use native.Mathlib.Omega.{arith}
-use borrow.Author.Tests.{eqb-true, leb-true, ltb-true, eqb-false, not-true}
-use lib.Dec.{eqb, ltb, leb}
-use Rattle.requests.specs.Choice.{both, either, every, pick}
+use lib.Dec.{eqb}
+use Rattle.requests.specs.Choice.{pick}
 use Rattle.requests.specs.declared.Device.{Device}
 use Rattle.requests.specs.declared.Device.the-variants.{G, S}
 use Rattle.requests.specs.declared.Setup.{Setup}
 use Rattle.requests.specs.declared.Request.{Request}
-use Rattle.requests.specs.Bits.{bit, inList, onlyBits}
-use Rattle.requests.specs.Catalogue.{MaskRule, alone, range, allows, ListedEvent, eventsOf, pairIn}
+use Rattle.requests.specs.Bits.{inList, onlyBits}
+use Rattle.requests.specs.Catalogue.{eventsOf, pairIn}
 use Rattle.requests.specs.WellFormedRequests.{Described, event, packet, offcore, latency}
-use Rattle.requests.proofs.Tests.{both-parts, every-at, either-cases}
+use Rattle.requests.proofs.Tests.{every-at}
 use Rattle.plans.specs.declared.Place.{Place}
 use Rattle.plans.specs.Lists.{All, nil, cons, Each, none, and}
 use Rattle.plans.specs.Places.{first, second}
 use Rattle.plans.specs.Legal.{Allowed, ofAll}
 use Rattle.plans.specs.Legal as plans
-use Rattle.layouts.specs.Layout.{tabulate, field, controlBits, enabled, eventWord, codeOf, maskOf, offcoreCode, rspMask, rspWord, packetWord}
+use Rattle.layouts.specs.Layout.{controlBits, enabled, eventWord, codeOf, maskOf, offcoreCode, rspMask, rspWord, packetWord}
 use Rattle.layouts.specs.Settings.{usesOf, wordAt}
+use Rattle.layouts.proofs.ListedEvents.{Listed, row-listed}
+use Rattle.layouts.proofs.DeviceFacts.{filterCode, facts}
 use Rattle.layouts.proofs.WordBits.{bit-high, bits-only, only-cases}
 
 -- ---- listed events
 
--- whether the masks of a rule are below 256
-belowMask : MaskRule → Bool
-belowMask (alone n) = ltb n 256
-belowMask (range low high) = ltb high 256
-
--- whether no row has the code x, and all codes and masks are below 256
-table : ℕ → List ListedEvent → Bool
-table x [] = true
-table x (e ∷ es) = both (both (ltb (e .code) 256) (both (belowMask (e .masks)) (not (eqb (e .code) x)))) (table x es)
-
--- what is known of a listed event where no row has the code x
-pub record Listed (x c m : ℕ) : Type 0 where
-  pub code : c < 256
-  pub mask : m < 256
-  pub other : c ≡ x → ⊥
-
-mask-below : (r : MaskRule) (m : ℕ) → belowMask r ≡ true → allows r m ≡ true → m < 256
-unfolding belowMask allows
-mask-below (alone n) m b h = omega (arith, eqb-true m n h, ltb-true n 256 b)
-mask-below (range low high) m b h = omega (arith, leb-true m high (both-parts (leb low m) (leb m high) h .1), ltb-true high 256 b)
-
-row-listed : (x c m : ℕ) (es : List ListedEvent) → table x es ≡ true → pairIn es c m ≡ true → Listed x c m
-unfolding table pairIn
-row-listed x c m [] t l = absurd (false≢true l)
-row-listed x c m (e ∷ es) t l =
-    let all = both-parts _ _ t in
-    let here = both-parts _ _ (all .0) in
-    let rest = both-parts _ _ (here .1) in
-    ⊎-elim
-    (λ h. let pair = both-parts _ _ h in
-    let same : c ≡ e .code = eqb-true c (e .code) (pair .0) in
-    record {
-      code = omega (arith, ltb-true (e .code) 256 (here .0));
-      mask = mask-below (e .masks) m (rest .0) (pair .1);
-      other = λ q. eqb-false (e .code) x (not-true _ (rest .1)) (sym same ∙ q);
-    })
-    (λ h. row-listed x c m es (all .1) h)
-    (either-cases _ _ l)
-
--- the code of the device's filter events
-unfoldable pub filterCode : Device → ℕ
-filterCode G = offcoreCode
-filterCode S = 0
-
 pub listed : (d : Device) (c m : ℕ) → pairIn (eventsOf d) c m ≡ true → Listed (filterCode d) c m
-unfolding table belowMask both eventsOf filterCode offcoreCode
-listed G c m h = row-listed 0xB7 c m (eventsOf G) refl h
-listed S c m h = row-listed 0 c m (eventsOf S) refl h
+listed d c m h = row-listed (filterCode d) c m (eventsOf d) (facts d .events) h
 
 -- ---- control words
 
@@ -98,9 +53,12 @@ pub record WordParts (d : Device) (c m : ℕ) : Type 0 where
   pub fits : eventWord d c m < 2 ^ 64
 
 pub word-parts : (d : Device) (c m : ℕ) → c < 256 → m < 256 → WordParts d c m
-unfolding eventWord codeOf maskOf enabled
-word-parts G c m l k = record { code = omega arith; mask = omega arith; above = omega arith; some-bit = λ e. omega arith; fits = omega arith }
-word-parts S c m l k = record { code = omega arith; mask = omega arith; above = omega arith; some-bit = λ e. omega arith; fits = omega arith }
+unfolding eventWord codeOf maskOf
+word-parts d c m l k =
+    let low = facts d .enabled-above in
+    let small = facts d .enabled-small in
+    let some = facts d .enabled-some in
+    record { code = omega arith; mask = omega arith; above = omega arith; some-bit = λ e. omega arith; fits = omega arith }
 
 -- a control word has a code and a mask of 8 bits each
 record CodeAndMask (d : Device) (w : ℕ) : Type 0 where
@@ -127,17 +85,7 @@ word-some s w h e =
     let v = word-code-mask s w h in
     word-parts (s .device) (v .code) (v .mask) (v .code-below) (v .mask-below) .some-bit (sym (v .word) ∙ e)
 
--- code and mask have all 16 bits below the enable bits, and those are permitted
-low-bits : (d : Device) → every 16 (inList (controlBits d)) ≡ true
-unfolding every inList controlBits field tabulate both either
-low-bits G = refl
-low-bits S = refl
-
-enabled-clean : (d : Device) → onlyBits (controlBits d) (enabled d) ≡ true
-unfolding onlyBits bit enabled every inList controlBits field tabulate both either
-enabled-clean G = refl
-enabled-clean S = refl
-
+-- code and mask are below the enable bits, and every bit of them is permitted
 pub word-clean : (s : Setup) (w : ℕ) → ControlWord s w → onlyBits (controlBits (s .device)) w ≡ true
 word-clean s w h =
     let d = s .device in
@@ -146,8 +94,8 @@ word-clean s w h =
     rw (v .word)
     (bits-only (controlBits d) (eventWord d (v .code) (v .mask)) (p .fits)
     (λ k l. elim (decLt k 16) [
-      | yes low ↦ inr (every-at 16 (inList (controlBits d)) (low-bits d) k low)
-      | no o ↦ rw (bit-high 16 k (eventWord d (v .code) (v .mask)) (enabled d) (let y = o in omega arith) (p .above)) (only-cases (controlBits d) k (enabled d) (enabled-clean d) l)
+      | yes low ↦ inr (every-at 16 (inList (controlBits d)) (facts d .low-permitted) k low)
+      | no o ↦ rw (bit-high 16 k (eventWord d (v .code) (v .mask)) (enabled d) (let y = o in omega arith) (p .above)) (only-cases (controlBits d) k (enabled d) (facts d .enabled-permitted) l)
     ]))
 
 -- ---- the words of a plan

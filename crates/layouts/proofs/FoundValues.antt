@@ -34,7 +34,7 @@ use Rattle.layouts.specs.ExactReader.{FiltersShow, LeavesValues}
 use Rattle.layouts.specs.declared.RegisterValues.{RegisterValues}
 use Rattle.layouts.proofs.ListLaws.{all-member}
 use Rattle.layouts.proofs.CounterSets.{bit-set, set-same}
-use Rattle.layouts.proofs.RegisterAddresses.{in-room, apart}
+use Rattle.layouts.proofs.DeviceFacts.{in-room, apart}
 use Rattle.layouts.proofs.RegistersAfter.{apply-after, after-other, rows-all, rows-at}
 use Rattle.layouts.proofs.Counts.{hits}
 use Rattle.layouts.proofs.UsableSets.{on, Within, usable-counter}

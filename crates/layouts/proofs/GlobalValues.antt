@@ -29,7 +29,7 @@ use Rattle.layouts.specs.Layout.{globalBits}
 use Rattle.layouts.specs.Settings.{setFrom, settingsOf}
 use Rattle.layouts.specs.Writes.{unusable, firstGlobal, lastGlobal}
 use Rattle.layouts.proofs.WordBits.{bit-above, bits-only}
-use Rattle.layouts.proofs.RegisterAddresses.{enable-bits}
+use Rattle.layouts.proofs.DeviceFacts.{facts}
 use Rattle.layouts.proofs.CounterSets.{bit-set, set-below, set-sum, set-left}
 
 -- what holds of all elements holds of a number in the list
@@ -54,7 +54,7 @@ set-clean d on =
     let small : 2 ^ counterCount d ≤ 2 ^ 8 = pow-mono (plan-length .device-at-most d) in
     let l = set-below (counterCount d) 0 on in
     bits-only (globalBits d) (setFrom (counterCount d) 0 on) (omega arith) (λ k b. elim (decLt k (counterCount d)) [
-      | yes y ↦ inr (every-at (counterCount d) (inList (globalBits d)) (enable-bits d) k y)
+      | yes y ↦ inr (every-at (counterCount d) (inList (globalBits d)) (facts d .enables) k y)
       | no o ↦ let more : 2 ^ counterCount d ≤ 2 ^ k = pow-mono (let y = o in omega arith) in
           inl (bit-above k (setFrom (counterCount d) 0 on) (omega arith))
     ])

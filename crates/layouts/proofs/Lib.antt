@@ -2,7 +2,8 @@ pub mod AcceptanceTests
 pub mod ListLaws
 pub mod WordBits
 pub mod CounterSets
-pub mod RegisterAddresses
+pub mod ListedEvents
+pub mod DeviceFacts
 pub mod RegistersAfter
 pub mod WriteByWrite
 pub mod GlobalValues

@@ -29,7 +29,7 @@ use Rattle.layouts.proofs.UsableSets.{on}
 use Rattle.layouts.proofs.ListLaws.{all-member, all-head, tabulate-member}
 use Rattle.layouts.proofs.Tabulated.{getD-tabulate}
 use Rattle.layouts.proofs.WordBits.{bit-zero, zero-only}
-use Rattle.layouts.proofs.RegisterAddresses.{in-room, apart}
+use Rattle.layouts.proofs.DeviceFacts.{in-room, apart}
 use Rattle.layouts.proofs.RegistersAfter.{writes-all}
 use Rattle.layouts.proofs.GlobalValues.{first-bits, last-bits}
 use Rattle.layouts.proofs.ControlWords.{word-clean, plan-words, word-at}

@@ -16,7 +16,7 @@ use Rattle.layouts.specs.Settings.{settingsOf}
 use Rattle.layouts.specs.Writes.{writes, apply}
 use Rattle.layouts.specs.OthersUntouched.{Ours, global, filter, control, counter, OthersUntouched}
 use Rattle.layouts.proofs.ListLaws.{all-member}
-use Rattle.layouts.proofs.RegisterAddresses.{in-room, apart}
+use Rattle.layouts.proofs.DeviceFacts.{in-room, apart}
 use Rattle.layouts.proofs.RegistersAfter.{apply-after, after-other, filter-addresses, writes-all}
 use Rattle.layouts.proofs.GlobalValues.{used-usable, first-bit, last-bit}
 

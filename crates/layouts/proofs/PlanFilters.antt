@@ -35,7 +35,8 @@ use Rattle.layouts.specs.declared.FilterValues.{FilterValues}
 use Rattle.layouts.proofs.UsableSets.{on}
 use Rattle.layouts.proofs.ListLaws.{one-value}
 use Rattle.layouts.proofs.Counts.{hits}
-use Rattle.layouts.proofs.ControlWords.{filterCode, listed, word-parts}
+use Rattle.layouts.proofs.DeviceFacts.{filterCode}
+use Rattle.layouts.proofs.ControlWords.{listed, word-parts}
 use Rattle.layouts.proofs.OffcoreWords.{types-below, first-outstanding}
 use Rattle.layouts.proofs.AskedWords.{FirstWord, offcore-word, latency-word, first-words, second-words, none-within}
 use Rattle.layouts.proofs.FormedRequests.{described-passes}

@@ -27,7 +27,7 @@ use Rattle.layouts.specs.Settings.{usesOf, wordAt, setFrom, settingsOf}
 use Rattle.layouts.specs.Writes.{lastGlobal, filterWrites, writes, apply}
 use Rattle.layouts.specs.Read.{count}
 use Rattle.layouts.proofs.Tabulated.{getD-tabulate}
-use Rattle.layouts.proofs.RegisterAddresses.{in-room}
+use Rattle.layouts.proofs.DeviceFacts.{in-room}
 use Rattle.layouts.proofs.RegistersAfter.{after, apply-after, control-after, global-after, filter-after}
 use Rattle.layouts.proofs.Counts.{counterOf, absent, hits, count-hits}
 use Rattle.layouts.proofs.GlobalValues.{used-has}

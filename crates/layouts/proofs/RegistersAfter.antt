@@ -24,7 +24,7 @@ use Rattle.layouts.specs.Layout.{layoutOf, controlAt, counterAt, filters
 use Rattle.layouts.specs.Writes.{Write, row, rows, zeros, firstGlobal, lastGlobal, offcoreWrites, packetWrites, filterWrites, writesFor, store, apply}
 use Rattle.layouts.specs.declared.Settings.{Settings}
 use Rattle.layouts.proofs.ListLaws.{all-member, zero-at}
-use Rattle.layouts.proofs.RegisterAddresses.{in-room, apart}
+use Rattle.layouts.proofs.DeviceFacts.{in-room, apart}
 
 -- the value at address a after the writes, where it was x before
 unfoldable pub after : List Write → ℕ → ℕ → ℕ

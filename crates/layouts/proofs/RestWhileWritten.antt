@@ -26,7 +26,7 @@ use Rattle.layouts.specs.RestWhileWritten.{LastWritten, EnablesNone, Dis
 use Rattle.layouts.specs.declared.Settings.{Settings}
 use Rattle.layouts.proofs.ListLaws.{all-member, zero-at}
 use Rattle.layouts.proofs.UsableSets.{on}
-use Rattle.layouts.proofs.RegisterAddresses.{in-room, apart}
+use Rattle.layouts.proofs.DeviceFacts.{in-room, apart}
 use Rattle.layouts.proofs.RegistersAfter.{rows-all, filter-addresses}
 use Rattle.layouts.proofs.WriteByWrite.{Along, last-here, last-other, last-member, member-other, along-then, along-at, rows-along}
 use Rattle.layouts.proofs.WritesAtRest.{global-rests, control-rests, count-rests, filter-rests}

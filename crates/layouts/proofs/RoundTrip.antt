@@ -17,7 +17,7 @@ use Rattle.layouts.specs.RoundTrip.{valuesIn, RoundTrip}
 use Rattle.layouts.specs.ExactReader.{FiltersShow, Shows, LeavesValues}
 use Rattle.layouts.specs.declared.Reading.{Reading}
 use Rattle.layouts.proofs.Tabulated.{getD-tabulate}
-use Rattle.layouts.proofs.RegisterAddresses.{in-room}
+use Rattle.layouts.proofs.DeviceFacts.{in-room}
 use Rattle.layouts.proofs.UsableSets.{usable-within}
 use Rattle.layouts.proofs.ReaderAnswers.{read-accepted}
 use Rattle.layouts.proofs.LeftValues.{left-accepted, left-told}

@@ -28,7 +28,7 @@ use Rattle.layouts.specs.Settings.{usesOf, setFrom, settingsOf}
 use Rattle.layouts.specs.Writes.{row, rows, offcoreWrites, packetWrites, filterWrites, zeros, writesFor, writes}
 use Rattle.layouts.specs.WriteCount.{writeLimit, Reached, WriteCount}
 use Rattle.layouts.specs.declared.Settings.{Settings}
-use Rattle.layouts.proofs.RegisterAddresses.{filterRoom, write-room}
+use Rattle.layouts.proofs.DeviceFacts.{filterRoom, facts}
 
 rows-length : (n : ℕ) (s : CounterSet) (base step : ℕ) (values : List ℕ) → length (rows n s base step values) ≤ n
 unfolding rows
@@ -41,7 +41,7 @@ rows-length (suc n) s base step values =
     one true l = omega arith
     one false l = omega arith
 
-filter-length : (d : Device) (t : Settings) → length (filterWrites d t) ≤ filterRoom d
+pub filter-length : (d : Device) (t : Settings) → length (filterWrites d t) ≤ filterRoom d
 unfolding filterWrites offcoreWrites packetWrites filterRoom
 filter-length G t = le-refl 2
 filter-length S t = go (t .packets)
@@ -63,7 +63,7 @@ at-most s t =
       filter-length d t,
       rows-length n (t .used) (l .counter) (l .step) zeros,
       rows-length n (t .used) (l .control) (l .step) (t .words),
-      write-room d,
+      facts d .write-room,
     ))
 
 -- every counter is usable and allowed

@@ -16,7 +16,7 @@ use Rattle.layouts.specs.Layout.{layoutOf, controlAt, counterAt, filters
 use Rattle.layouts.specs.Writes.{Write}
 use Rattle.layouts.specs.RestWhileWritten.{LastWritten, Disabled, Cleared, Quiet, Prepares, filter, count, Selects, Matching, AtRest}
 use Rattle.layouts.proofs.ListLaws.{all-member}
-use Rattle.layouts.proofs.RegisterAddresses.{in-room, apart}
+use Rattle.layouts.proofs.DeviceFacts.{in-room, apart}
 use Rattle.layouts.proofs.WriteByWrite.{last-member}
 use Rattle.layouts.proofs.PlanFilters.{devices-differ}
 

@@ -3,12 +3,12 @@ use mathlib.Core.Path.{_≡_, ap, _∙_}
 use Prim.Native.Nat.{ℕ, _+_, _-_, _%_, _^_, _≤_, _<_}
 use native.Mathlib.Nat.{mod-lt}
 use native.Mathlib.Omega.{arith}
-use lib.Pow.{pow-pos}
+use lib.Pow.{pow-pos, pow-mono}
 use Rattle.requests.specs.declared.CounterSet.{CounterSet}
 use Rattle.requests.specs.declared.Device.{Device}
-use Rattle.requests.specs.declared.Device.the-variants.{G, S}
 use Rattle.requests.specs.declared.Setup.{Setup}
-use Rattle.requests.specs.Devices.{counterCount, allCounters}
+use Rattle.requests.specs.Devices.{counterCount, capacity, allCounters}
+use Rattle.plans.proofs.PlanLengthHolds.{plan-length}
 use Rattle.layouts.specs.Writes.{unusable, firstGlobal, lastGlobal}
 
 -- one more than all counters is a power of two
@@ -21,9 +21,8 @@ pub rest-small : (x all : ℕ) → x % (all + 1) ≤ all
 rest-small x all = let l : x % (all + 1) < all + 1 = mod-lt x (omega arith) in omega arith
 
 pub all-small : (d : Device) → allCounters d ≤ 255
-unfolding allCounters counterCount
-all-small G = omega arith
-all-small S = omega arith
+unfolding allCounters capacity
+all-small d = let most : 2 ^ counterCount d ≤ 2 ^ 8 = pow-mono (plan-length .device-at-most d) in omega arith
 
 -- the number of the set of all counters
 pub all-number : (d : Device) (all : CounterSet) → all ≡ record { 0 = allCounters d } → all .0 ≡ allCounters d

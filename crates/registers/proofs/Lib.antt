@@ -1,4 +1,3 @@
-pub mod Fields
 pub mod GlobalControl
 pub mod Appending
 pub mod WriteLengths

@@ -10,20 +10,20 @@ use lib.ListN.{length, drop, length-append}
 use lib.Seq.{sets-eq}
 use Rattle.requests.specs.declared.CounterSet.{CounterSet}
 use Rattle.requests.specs.declared.Device.{Device}
-use Rattle.requests.specs.declared.Device.the-variants.{G, S}
 use Rattle.requests.specs.declared.Setup.{Setup}
 use Rattle.requests.specs.Choice.{pick}
 use Rattle.requests.specs.Refusals.{numberOf, answerNumber}
 use Rattle.requests.specs.Devices.{size, counterCount, capacity}
 use Rattle.plans.proofs.Members.{size-at-most}
 use Rattle.plans.proofs.PlanLengthHolds.{plan-length}
+use Rattle.layouts.proofs.DeviceFacts.{facts}
+use Rattle.layouts.proofs.WriteCount.{filter-length}
 use Rattle.layouts.specs.Layout.{layoutOf}
-use Rattle.layouts.specs.Writes.{Write, row, rows, zeros, flat, filled, firstGlobal, lastGlobal, packetWrites, offcoreWrites, filterWrites, writesFor}
+use Rattle.layouts.specs.Writes.{Write, row, rows, zeros, flat, filled, firstGlobal, lastGlobal, packetWrites, filterWrites, writesFor}
 use Rattle.layouts.specs.Slices.{Appended, Wrote, tooShort, writeAnswer, writtenAnswer, writtenCount, writeSlice}
 use Rattle.layouts.specs.declared.Layout.{Layout}
 use Rattle.layouts.specs.declared.Settings.{Settings}
 use Rattle.layouts.specs.declared.WriteAnswer.the-variants.{Written, TooShort}
-use Rattle.registers.proofs.Fields.{control-small, counter-small, step-small}
 use Rattle.registers.proofs.Appending.{appended-then, length-flat, length-rows}
 
 -- a test counts at most once
@@ -36,20 +36,13 @@ pub device-size : (d : Device) (s : CounterSet) → size (counterCount d) s ≤ 
 unfolding capacity
 device-size d s = omega (arith, size-at-most (counterCount d) s, plan-length .device-at-most d)
 
-packets-small : (b : Bool) (x y : ℕ) → length (packetWrites b x y) ≤ 4
-unfolding packetWrites
-packets-small true x y = omega arith
-packets-small false x y = omega arith
-
 pub length-packets : (b : Bool) (x y : ℕ) → length (packetWrites b x y) ≡ 1 + 3 * pick b 1 0
 unfolding packetWrites
 length-packets true x y = refl
 length-packets false x y = refl
 
 pub filters-small : (d : Device) (t : Settings) → length (filterWrites d t) ≤ 4
-unfolding filterWrites offcoreWrites
-filters-small G t = omega arith
-filters-small S t = packets-small (t .packets) (t .«match_word») (t .«mask_word»)
+filters-small d t = omega (arith, filter-length d t, facts d .filter-small)
 
 -- the parts of the list, with the number of counters and the layout as the code has them
 module _ (s : Setup) (t : Settings) (n : ℕ) (l : Layout) (count : n ≡ counterCount (s .device)) (layout : l ≡ layoutOf (s .device)) where
@@ -93,7 +86,8 @@ module _ (s : Setup) (t : Settings) (n : ℕ) (l : Layout) (count : n ≡ counte
   -- addresses and the number of counters are small
   pub parts-small : (n ≤ capacity) × (l .control ≤ 0xFFFF) × (l .counter ≤ 0xFFFF) × (l .step ≤ 2)
   parts-small =
-      rw (count, layout) (plan-length .device-at-most (s .device), control-small (s .device), counter-small (s .device), step-small (s .device))
+      let f = facts (s .device) in
+      rw (count, layout) (plan-length .device-at-most (s .device), f .control-small, f .counter-small, f .step-small)
 
 module _ (s : Setup) (t : Settings) where
   pub length-writes :

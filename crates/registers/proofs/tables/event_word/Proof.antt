@@ -2,15 +2,15 @@
 use native.Mathlib.Omega.{arith}
 use borrow.Author.Needs.{needs}
 use Rattle.layouts.specs.Layout.{eventWord}
-use Rattle.registers.proofs.Fields.{enabled-small}
+use Rattle.layouts.proofs.DeviceFacts.{facts}
 use Rattle.registers.proofs.tables.event_word.Statement.{statement}
 use Rattle.registers.proofs.tables.event_word.Tie as tie
 
 add-result : tie.Need-add-result
-add-result c = omega (arith, c .enabled-bits .ensures, enabled-small (c .before .args .device))
+add-result c = omega (arith, c .enabled-bits .ensures, facts (c .before .args .device) .enabled-small)
 
 add-result-2 : tie.Need-add-result-2
-add-result-2 c = omega (arith, c .enabled-bits .ensures, enabled-small (c .before .args .device))
+add-result-2 c = omega (arith, c .enabled-bits .ensures, facts (c .before .args .device) .enabled-small)
 
 returns : tie.Need-returns
 unfolding eventWord

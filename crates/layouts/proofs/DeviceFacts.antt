@@ -1,0 +1,121 @@
+-- What the proofs ask of a device's numbers and tables: one record a device, cited wherever one of its facts is needed. Assumes nothing.
+--     facts     the facts of a device
+--     apart     no two of its registers have one address
+--     in-room   arrays have room for its counters
+use mathlib.Core.Path.{_≡_, refl}
+use mathlib.Core.Bool.{true}
+use Prim.Native.Nat.{ℕ, _+_, _*_, _%_, _^_, _≤_, _<_}
+use native.Mathlib.Omega.{arith}
+use Rattle.requests.specs.Choice.{both, either, every}
+use Rattle.requests.specs.declared.Device.{Device}
+use Rattle.requests.specs.declared.Device.the-variants.{G, S}
+use Rattle.requests.specs.Bits.{bit, inList, onlyBits}
+use Rattle.requests.specs.Catalogue.{eventsOf}
+use Rattle.requests.specs.Devices.{capacity, counterCount}
+use Rattle.plans.specs.Lists.{All, nil, cons}
+use Rattle.plans.proofs.PlanLengthHolds.{plan-length}
+use Rattle.layouts.specs.Layout.{tabulate, field, globalBits, controlBits, enabled, offcoreCode, layoutOf, controlAt, counterAt, filtersAt, rsp0At, rsp1At, mmCfgAt, matchAt, maskAt}
+use Rattle.layouts.specs.WriteCount.{writeLimit}
+use Rattle.layouts.proofs.ListedEvents.{belowMask, table}
+
+-- the code of the device's filter events
+unfoldable pub filterCode : Device → ℕ
+filterCode G = offcoreCode
+filterCode S = 0
+
+-- a device's filter registers take at most this many writes
+unfoldable pub filterRoom : Device → ℕ
+filterRoom G = 2
+filterRoom S = 4
+
+-- no two registers have one address
+pub record Apart (d : Device) : Type 0 where
+  pub control-control : (j k : ℕ) → controlAt d j ≡ controlAt d k → j ≡ k
+  pub counter-counter : (j k : ℕ) → counterAt d j ≡ counterAt d k → j ≡ k
+  pub counter-control : (j k : ℕ) → j < capacity → k < capacity → counterAt d j ≡ controlAt d k → ⊥
+  pub global-control : (k : ℕ) → k < capacity → layoutOf d .global ≡ controlAt d k → ⊥
+  pub global-counter : (k : ℕ) → k < capacity → layoutOf d .global ≡ counterAt d k → ⊥
+  pub filter-control : (k : ℕ) → k < capacity → All (λ (a : ℕ). a ≡ controlAt d k → ⊥) (filtersAt d)
+  pub filter-counter : (k : ℕ) → k < capacity → All (λ (a : ℕ). a ≡ counterAt d k → ⊥) (filtersAt d)
+  pub filter-global : All (λ (a : ℕ). a ≡ layoutOf d .global → ⊥) (filtersAt d)
+
+pub record DeviceFacts (d : Device) : Type 0 where
+  -- the bits that every event word has: some of 23 to 16, and none below
+  pub enabled-some : 0 < enabled d
+  pub enabled-above : enabled d % 2 ^ 16 ≡ 0
+  pub enabled-small : enabled d ≤ 0xFFFFFF
+  -- a control register has them, and the 16 bits of code and unit mask
+  pub enabled-permitted : onlyBits (controlBits d) (enabled d) ≡ true
+  pub low-permitted : every 16 (inList (controlBits d)) ≡ true
+  -- the global register has a bit for each counter
+  pub enables : every (counterCount d) (inList (globalBits d)) ≡ true
+  -- listed codes and masks have 8 bits, and no listed code is that of a filter event
+  pub events : table (filterCode d) (eventsOf d) ≡ true
+  -- the writes of all counters and of the filter registers are within the limit
+  pub filter-small : filterRoom d ≤ 4
+  pub write-room : 2 + 3 * counterCount d + filterRoom d ≤ writeLimit d
+  -- addresses have 16 bits, and a step is at most 2
+  pub control-small : layoutOf d .control ≤ 0xFFFF
+  pub counter-small : layoutOf d .counter ≤ 0xFFFF
+  pub step-small : layoutOf d .step ≤ 2
+  pub apart : Apart d
+
+pub facts : (d : Device) → DeviceFacts d
+unfolding capacity counterCount layoutOf controlAt counterAt filtersAt rsp0At rsp1At mmCfgAt matchAt maskAt enabled controlBits globalBits field tabulate inList bit onlyBits every both either belowMask table eventsOf filterCode offcoreCode filterRoom writeLimit
+facts G =
+    record {
+      enabled-some = omega arith;
+      enabled-above = refl;
+      enabled-small = omega arith;
+      enabled-permitted = refl;
+      low-permitted = refl;
+      enables = refl;
+      events = refl;
+      filter-small = omega arith;
+      write-room = omega arith;
+      control-small = omega arith;
+      counter-small = omega arith;
+      step-small = omega arith;
+      apart = record {
+        control-control = λ j k e. omega arith;
+        counter-counter = λ j k e. omega arith;
+        counter-control = λ j k a b e. omega arith;
+        global-control = λ k a e. omega arith;
+        global-counter = λ k a e. omega arith;
+        filter-control = λ k a. cons {a = rsp0At} (λ e. omega arith) (cons {a = rsp1At} (λ e. omega arith) nil);
+        filter-counter = λ k a. cons {a = rsp0At} (λ e. omega arith) (cons {a = rsp1At} (λ e. omega arith) nil);
+        filter-global = cons {a = rsp0At} (λ e. omega arith) (cons {a = rsp1At} (λ e. omega arith) nil);
+      };
+    }
+facts S =
+    record {
+      enabled-some = omega arith;
+      enabled-above = refl;
+      enabled-small = omega arith;
+      enabled-permitted = refl;
+      low-permitted = refl;
+      enables = refl;
+      events = refl;
+      filter-small = omega arith;
+      write-room = omega arith;
+      control-small = omega arith;
+      counter-small = omega arith;
+      step-small = omega arith;
+      apart = record {
+        control-control = λ j k e. omega arith;
+        counter-counter = λ j k e. omega arith;
+        counter-control = λ j k a b e. omega arith;
+        global-control = λ k a e. omega arith;
+        global-counter = λ k a e. omega arith;
+        filter-control = λ k a. cons {a = mmCfgAt} (λ e. omega arith) (cons {a = matchAt} (λ e. omega arith) (cons {a = maskAt} (λ e. omega arith) nil));
+        filter-counter = λ k a. cons {a = mmCfgAt} (λ e. omega arith) (cons {a = matchAt} (λ e. omega arith) (cons {a = maskAt} (λ e. omega arith) nil));
+        filter-global = cons {a = mmCfgAt} (λ e. omega arith) (cons {a = matchAt} (λ e. omega arith) (cons {a = maskAt} (λ e. omega arith) nil));
+      };
+    }
+
+pub apart : (d : Device) → Apart d
+apart d = facts d .apart
+
+-- arrays have room for the counters of a device
+pub in-room : (d : Device) (k : ℕ) → k < counterCount d → k < capacity
+in-room d k l = omega (arith, plan-length .device-at-most d)
