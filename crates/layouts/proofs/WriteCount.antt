@@ -1,5 +1,5 @@
 -- The number of writes: at most the device's limit, which a plan that uses every counter has. By the lengths of the parts of the list. Assumes nothing.
-use mathlib.Core.Path.{_≡_, refl}
+use mathlib.Core.Path.{refl}
 use mathlib.Core.Logic.{_≢_}
 use mathlib.Core.Bool.{Bool, true, false}
 use mathlib.Core.List.{List, [], _∷_, flatMap}
@@ -12,17 +12,16 @@ use Rattle.requests.specs.declared.CounterSet.{CounterSet}
 use Rattle.requests.specs.declared.Device.{Device}
 use Rattle.requests.specs.declared.Device.the-variants.{G, S}
 use Rattle.requests.specs.declared.Setup.{Setup}
-use Rattle.requests.specs.declared.Request.{Request}
 use Rattle.requests.specs.declared.Request.the-variants.{Event, Packet}
 use Rattle.requests.specs.Bits.{bit, inList}
 use Rattle.requests.specs.Devices.{has, counterCount, capacity, allCounters}
 use Rattle.requests.specs.Catalogue.{allows, eventsOf, codeIn, pairIn, maskNotListed}
-use Rattle.requests.specs.Checks.{kindNotOn, notListed, tooWide, outOfRange, incomplete, conflicting, requestRows, requestRefusal, Formed}
+use Rattle.requests.specs.Checks.{kindNotOn, notListed, tooWide, outOfRange, incomplete, conflicting, requestRows, requestRefusal}
 use Rattle.plans.specs.declared.Place.{Place}
 use Rattle.plans.specs.declared.Place.the-variants.{Counter}
-use Rattle.plans.specs.Lists.{All, nil, cons, Pairwise, empty, add, none, and}
+use Rattle.plans.specs.Lists.{nil, cons, Pairwise, empty, add, none, and}
 use Rattle.plans.specs.Places.{countedOf, countersOf}
-use Rattle.plans.specs.Legal.{Usable, event, packet, wordsOf, packetsOf, ofAll, counters, Legal}
+use Rattle.plans.specs.Legal.{event, packet, wordsOf, packetsOf, ofAll, counters}
 use Rattle.layouts.specs.Layout.{tabulate, layoutOf}
 use Rattle.layouts.specs.Settings.{usesOf, setFrom, settingsOf}
 use Rattle.layouts.specs.Writes.{row, rows, offcoreWrites, packetWrites, filterWrites, zeros, writesFor, writes}
@@ -74,11 +73,6 @@ all d = record { 0 = allCounters d }
 places : List Place
 places = Counter 0 ∷ Counter 1 ∷ Counter 2 ∷ Counter 3 ∷ []
 
--- four events, the first of them a packet event where the device has one
-requests : Device → List Request
-requests G = Event 0xC0 0 (all G) ∷ Event 0xC0 0 (all G) ∷ Event 0xC0 0 (all G) ∷ Event 0xC0 0 (all G) ∷ []
-requests S = Packet 0 0 (all S) ∷ Event 0x52 0 (all S) ∷ Event 0x52 0 (all S) ∷ Event 0x52 0 (all S) ∷ []
-
 setup : Device → Setup
 setup d = record { device = d; usable = all d }
 
@@ -88,46 +82,41 @@ apart =
     add {a = 0} (cons {a = 1} (λ e. omega arith) (cons {a = 2} (λ e. omega arith) (cons {a = 3} (λ e. omega arith) nil)))
     (add {a = 1} (cons {a = 2} (λ e. omega arith) (cons {a = 3} (λ e. omega arith) nil)) (add {a = 2} (cons {a = 3} (λ e. omega arith) nil) (add {a = 3} nil empty)))
 
-usable : (d : Device) → All (Usable (setup d)) (counters places)
-unfolding places counters countersOf countedOf flatMap setup all allCounters counterCount has bit
-usable G = cons {a = 0} (omega arith, refl) (cons {a = 1} (omega arith, refl) (cons {a = 2} (omega arith, refl) (cons {a = 3} (omega arith, refl) nil)))
-usable S = cons {a = 0} (omega arith, refl) (cons {a = 1} (omega arith, refl) (cons {a = 2} (omega arith, refl) (cons {a = 3} (omega arith, refl) nil)))
-
-formed : (d : Device) → All (Formed (setup d)) (requests d)
-unfolding setup requests all both either allCounters counterCount firstHolding allows eventsOf codeIn pairIn maskNotListed kindNotOn notListed tooWide outOfRange incomplete conflicting requestRows requestRefusal
-formed G = cons refl (cons refl (cons refl (cons refl nil)))
-formed S = cons refl (cons refl (cons refl (cons refl nil)))
-
-legal : (d : Device) → Legal (setup d) (requests d) places
-unfolding setup requests places all allCounters counterCount has bit ofAll wordsOf flatMap packetsOf
-legal G =
-    record {
-      differ = apart;
-      usable-only = usable G;
-      allowed = and (event refl) (and (event refl) (and (event refl) (and (event refl) none)));
-      one-word = λ i l. (0, nil);
-      one-packet = ((0, 0), nil);
-    }
-legal S =
-    record {
-      differ = apart;
-      usable-only = usable S;
-      allowed = and (packet refl) (and (event refl) (and (event refl) (and (event refl) none)));
-      one-word = λ i l. (0, nil);
-      one-packet = ((0, 0), cons refl nil);
-    }
-
-length-is : (d : Device) → length (writes (setup d) (requests d) places) ≡ writeLimit d
-unfolding writeLimit setup requests places all allCounters counterCount has bit ofAll usesOf wordsOf flatMap packetsOf counters countersOf countedOf settingsOf setFrom inList either tabulate capacity layoutOf rows filterWrites offcoreWrites packetWrites writesFor writes
-length-is G = refl
-length-is S = refl
-
-setup-device : (d : Device) → setup d .device ≡ d
-unfolding setup
-setup-device d = refl
-
+-- a device's longest list: four events, the first of them a packet event where the device has one
 reached : (d : Device) → Reached d
-reached d = record { setup = setup d; requests = requests d; places = places; device = setup-device d; formed = formed d; legal = legal d; length-is = length-is d }
+unfolding setup places all both either firstHolding allows eventsOf codeIn pairIn maskNotListed kindNotOn notListed tooWide outOfRange incomplete conflicting requestRows requestRefusal writeLimit allCounters counterCount has bit ofAll usesOf wordsOf flatMap packetsOf counters countersOf countedOf settingsOf setFrom inList tabulate capacity layoutOf rows filterWrites offcoreWrites packetWrites writesFor writes
+reached G =
+    record {
+      setup = setup G;
+      requests = Event 0xC0 0 (all G) ∷ Event 0xC0 0 (all G) ∷ Event 0xC0 0 (all G) ∷ Event 0xC0 0 (all G) ∷ [];
+      places = places;
+      device = refl;
+      formed = cons refl (cons refl (cons refl (cons refl nil)));
+      legal = record {
+        differ = apart;
+        usable-only = cons {a = 0} (omega arith, refl) (cons {a = 1} (omega arith, refl) (cons {a = 2} (omega arith, refl) (cons {a = 3} (omega arith, refl) nil)));
+        allowed = and (event refl) (and (event refl) (and (event refl) (and (event refl) none)));
+        one-word = λ i l. (0, nil);
+        one-packet = ((0, 0), nil);
+      };
+      length-is = refl;
+    }
+reached S =
+    record {
+      setup = setup S;
+      requests = Packet 0 0 (all S) ∷ Event 0x52 0 (all S) ∷ Event 0x52 0 (all S) ∷ Event 0x52 0 (all S) ∷ [];
+      places = places;
+      device = refl;
+      formed = cons refl (cons refl (cons refl (cons refl nil)));
+      legal = record {
+        differ = apart;
+        usable-only = cons {a = 0} (omega arith, refl) (cons {a = 1} (omega arith, refl) (cons {a = 2} (omega arith, refl) (cons {a = 3} (omega arith, refl) nil)));
+        allowed = and (packet refl) (and (event refl) (and (event refl) (and (event refl) none)));
+        one-word = λ i l. (0, nil);
+        one-packet = ((0, 0), cons refl nil);
+      };
+      length-is = refl;
+    }
 
 pub write-count : WriteCount
 unfolding writes
