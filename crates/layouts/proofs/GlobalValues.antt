@@ -1,8 +1,8 @@
--- The used counters of a plan and the values of the global register, which no other proof unfolds. Assumes nothing.
---     used-has, used-usable    the used set has the plan's counters, and each is usable
---     first-set, first-bit     the first value: the bits of the counters that are not usable
---     last-bit, last-unused    the last value: those and the used ones; where none is used, the first value
---     first-bits, last-bits    both have permitted bits only
+-- The used counters of a plan and the two values of the global register: laws of plans cite these, and do not unfold the values. Assumes nothing.
+--     used-has, used-usable             the used set has the plan's counters, and each is usable
+--     first-set, first-bit              the first value: the bits of the counters that are not usable
+--     last-bit, last-unused             the last value: those and the used ones; where none is used, the first value
+--     first-permitted, last-permitted   neither has a reserved bit
 use mathlib.Core.Path.{_≡_, refl, sym, ap, ap₂, subst, _∙_}
 use mathlib.Core.Bool.{Bool, true, false, not, true≢false, false≢true}
 use mathlib.Core.Logic.{inl, inr, ⊎-elim}
@@ -70,8 +70,8 @@ first-bit s k l =
     let others : ℕ → Bool = λ j. not (has (s .usable) j) in
     ap (bit k) (first-set s) ∙ bit-set (counterCount (s .device)) 0 k others l ∙ ap others (zero-add k)
 
-pub first-bits : (s : Setup) → onlyBits (globalBits (s .device)) (firstGlobal s) ≡ true
-first-bits s = rw (first-set s) (set-clean (s .device) (λ k. not (has (s .usable) k)))
+pub first-permitted : (s : Setup) → onlyBits (globalBits (s .device)) (firstGlobal s) ≡ true
+first-permitted s = rw (first-set s) (set-clean (s .device) (λ k. not (has (s .usable) k)))
 
 -- ---- the last value
 
@@ -97,5 +97,5 @@ module _ (s : Setup) (rs : List Request) (ps : List Place) (legal : Legal s rs p
       let enabled : ℕ → Bool = λ j. either (not (has (s .usable) j)) (inList (counters ps) j) in
       ap (bit k) last-set ∙ bit-set (counterCount (s .device)) 0 k enabled l ∙ ap enabled (zero-add k)
 
-  pub last-bits : onlyBits (globalBits (s .device)) (lastGlobal s (settingsOf (s .device) rs ps .used .0)) ≡ true
-  last-bits = rw last-set (set-clean (s .device) (λ k. either (not (has (s .usable) k)) (inList (counters ps) k)))
+  pub last-permitted : onlyBits (globalBits (s .device)) (lastGlobal s (settingsOf (s .device) rs ps .used .0)) ≡ true
+  last-permitted = rw last-set (set-clean (s .device) (λ k. either (not (has (s .usable) k)) (inList (counters ps) k)))

@@ -31,7 +31,7 @@ use Rattle.layouts.proofs.Tabulated.{getD-tabulate}
 use Rattle.layouts.proofs.WordBits.{bit-zero, zero-only}
 use Rattle.layouts.proofs.DeviceFacts.{in-room, apart}
 use Rattle.layouts.proofs.RegistersAfter.{writes-all}
-use Rattle.layouts.proofs.GlobalValues.{first-bits, last-bits}
+use Rattle.layouts.proofs.GlobalValues.{first-permitted, last-permitted}
 use Rattle.layouts.proofs.ControlWords.{word-clean, plan-words, word-at}
 use Rattle.layouts.proofs.OffcoreWords.{offcore-clean, first-clean}
 use Rattle.layouts.proofs.AskedWords.{FirstWord, offcore-word, latency-word, first-words, second-words}
@@ -141,14 +141,14 @@ module _ (s : Setup) (rs : List Request) (ps : List Place) (described : All (Des
       let d = s .device in
       let us = ofAll (usesOf (s .device)) rs ps in
       writes-all s (settingsOf d rs ps) (Clean s)
-      (global-clean s (firstGlobal s) (first-bits s))
+      (global-clean s (firstGlobal s) (first-permitted s))
       (λ k l h. zero-clean s (controlAt d k))
       (filters-clean d s rs ps described (legal .allowed))
       (λ k l h. zero-clean s (counterAt d k))
       (λ k l h. control-clean s k (getD (tabulate capacity (wordAt us)) k 0) l
       (rw (getD-tabulate capacity (wordAt us) k 0 (in-room d k l))
       (word-at (λ w. onlyBits (controlBits d) w ≡ true) us k (zero-only (controlBits d)) (all-imp (λ x w. word-clean s (x .1) w) (plan-words s described (legal .allowed))))))
-      (global-clean s (lastGlobal s (settingsOf d rs ps .used .0)) (last-bits s rs ps legal))
+      (global-clean s (lastGlobal s (settingsOf d rs ps .used .0)) (last-permitted s rs ps legal))
 
 -- a word of RSP0 with bit 38 is a latency request's
 first-latency : (s : Setup) (rs : List Request) (w : ℕ) → FirstWord s rs w → bit outstanding w ≡ true → AsksOutstanding rs w
