@@ -1,7 +1,6 @@
 -- The session and the plain queue agree. Assumes nothing.
 --     answer-is     the session answers a call as the table says of the state that it stands for
 --     next-is       one call keeps the session standing for the plain queue
---     agreement     so they agree after every list of calls
 use mathlib.Core.Path.{_≡_, refl, ap, _∙_}
 use mathlib.Core.List.{List, [], _∷_, _++_}
 use mathlib.Core.Bool.{Bool, true, false}
@@ -18,11 +17,9 @@ use Rattle.requests.specs.Devices.{setupOf}
 use Rattle.sessions.specs.Turns.{turned}
 use Rattle.sessions.specs.Calls.{Call, Open, Add, Drop, Turn, Plain, notOpen, opened}
 use Rattle.sessions.specs.Table.{table, callOrder, refusal}
-use Rattle.sessions.specs.Plain.{removed, unlessRefused, change, step, run}
-use Rattle.sessions.specs.Sessions.{queueLimit, vacant, queued, padded, sessionOf, plainOf, refusedBy, answered, openOf, addOf, dropOf, turnAnswer, turnOf, answerTo, nextSession, sessionAfter, queueAfter}
-use Rattle.sessions.specs.Agreement.{Agreement}
+use Rattle.sessions.specs.Plain.{removed, unlessRefused, change, step}
+use Rattle.sessions.specs.Sessions.{queueLimit, vacant, queued, padded, sessionOf, plainOf, refusedBy, answered, openOf, addOf, dropOf, turnAnswer, turnOf, answerTo, nextSession}
 use Rattle.sessions.specs.declared.Session.{Session}
-use Rattle.sessions.proofs.TableAnswers.{plain-closed}
 
 -- a queue is read back from its array
 stored : (q : List Entry) → take (length q) (padded q) ≡ q
@@ -89,18 +86,3 @@ step-made false t q n (Turn room) = refl
 
 pub next-is : (s : Session) (c : Call) → plainOf (nextSession s c) ≡ step queueLimit (plainOf s) c
 next-is s c = ap plainOf (next-by s c) ∙ step-made (s .opened) (s .setup) (s .queue) (s .len) c
-
-pub after-is : (s : Session) (cs : List Call) → plainOf (sessionAfter s cs) ≡ run queueLimit (plainOf s) cs
-unfolding sessionAfter run
-after-is s [] = refl
-after-is s (c ∷ cs) = after-is (nextSession s c) cs ∙ ap (λ (p : Plain). run queueLimit p cs) (next-is s c)
-
-same : (s : Session) → s .opened ≡ false → (calls : List Call) → plainOf (sessionAfter s calls) ≡ queueAfter calls
-same s h calls = after-is s calls ∙ ap (λ (p : Plain). run queueLimit p calls) (plain-closed s h)
-
-answers : (s : Session) → s .opened ≡ false → (calls : List Call) (c : Call) → answerTo (sessionAfter s calls) c ≡ answerFor (refusal queueLimit (queueAfter calls) c)
-unfolding refusedBy
-answers s h calls c = answer-is (sessionAfter s calls) c ∙ ap (λ (p : Plain). answerFor (refusal queueLimit p c)) (same s h calls)
-
-pub agreement : Agreement
-agreement = record { stands = same; answers = answers }

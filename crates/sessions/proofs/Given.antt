@@ -21,7 +21,7 @@ use Rattle.sessions.specs.declared.Assigned.{Assigned}
 use Rattle.sessions.proofs.Lists.{all-joined, pairwise-right}
 use Rattle.sessions.proofs.TakenPlan.{taken-first}
 use Rattle.sessions.proofs.SoundKept.{sound-turned}
-use Rattle.sessions.proofs.Plans.{Planned}
+use Rattle.sessions.proofs.Faithful.{Planned}
 
 -- the entry's id with a place
 abbrev withPlace : Entry → Place → Assigned

@@ -19,7 +19,7 @@ unfolding taken fits requestsOf
 head-first s head rest p = (takenAfter (fits s) (head ∷ []) rest, taken-yes (fits s) [] head rest (plan-test .planned s (head .request ∷ []) p))
 
 pub head-taken : HeadTaken
-head-taken calls s head rest e = go (well-formed calls s (head ∷ rest) e .alone)
+head-taken limit calls s head rest e = go (well-formed limit calls s (head ∷ rest) e .alone)
   where
     go : All (λ (x : Entry). HasPlan s (x .request ∷ [])) (head ∷ rest) → (more : List Entry) × (taken s (head ∷ rest) ≡ head ∷ more)
     go (cons h hs) = head-first s head rest h

@@ -20,8 +20,10 @@ pub mod TurnsAt
 pub mod Settled
 pub mod Waiting
 pub mod Answers
-pub mod Plans
+pub mod Faithful
+pub mod SmallSession
 pub mod Given
+pub mod Promised
 pub mod Demand3
 pub mod TurnPlan
 pub mod AcceptanceTests

@@ -26,7 +26,6 @@ use Rattle.sessions.specs.Turns.{fits, taken, passed, turned}
 use Rattle.sessions.specs.Calls.{Call, Open, Add, Drop, Turn, Plain, notOpen, opened, waiting, waits}
 use Rattle.sessions.specs.Table.{refusal}
 use Rattle.sessions.specs.Plain.{removed, change, step, run}
-use Rattle.sessions.specs.Sessions.{queueLimit, queueAfter}
 use Rattle.sessions.specs.DistinctIds.{Distinct, DistinctIds}
 use Rattle.sessions.specs.Sound.{Sound}
 use Rattle.sessions.specs.WellFormed.{WellFormed}
@@ -136,12 +135,12 @@ module _ (limit : ℕ) where
 -- ---- from the start
 
 pub well-formed : WellFormed
-well-formed calls s q e = subst (SoundIn queueLimit) e (sound-run queueLimit notOpen calls tt)
+well-formed limit calls s q e = subst (SoundIn limit) e (sound-run limit notOpen calls tt)
 
 pub distinct-ids : DistinctIds
 unfolding waiting
-distinct-ids calls = go (queueAfter calls) (sound-run queueLimit notOpen calls tt)
+distinct-ids limit calls = go (run limit notOpen calls) (sound-run limit notOpen calls tt)
   where
-    go : (p : Plain) → SoundIn queueLimit p → Distinct (waiting p)
+    go : (p : Plain) → SoundIn limit p → Distinct (waiting p)
     go notOpen a = empty
     go (opened s q) a = a .distinct

@@ -22,10 +22,10 @@ use Rattle.sessions.specs.Sound.{Sound}
 use Rattle.sessions.specs.TurnPlan.{TurnDone, TurnPlan}
 use Rattle.sessions.specs.declared.Session.{Session}
 use Rattle.sessions.proofs.Lists.{all-right, all-map}
-use Rattle.sessions.proofs.Agreed.{agreement}
 use Rattle.sessions.proofs.TakenPlan.{taken-first}
 use Rattle.sessions.proofs.Accepted.{accepted-turn}
 use Rattle.sessions.proofs.SoundKept.{sound-turned, well-formed}
+use Rattle.sessions.proofs.SmallSession.{agreement}
 use Rattle.sessions.proofs.Answers.{not-refused, turn-plan-is, turn-count-is, turn-next-is, turn-slice-is}
 
 taken-formed : (limit : ℕ) (s : Setup) (q : List Entry) → Sound limit s q → All (Formed s) (requestsOf (taken s q))
@@ -54,9 +54,9 @@ turn-done s q session slice same sound accepted =
     }
 
 pub turn-plan : TurnPlan
-unfolding refusedBy
+unfolding refusedBy sessionAfter
 turn-plan session closed calls s q is slice answer =
     let now : Session = sessionAfter session calls in
-    let same = agreement .stands session closed calls ∙ is in
-    turn-done s q now slice same (well-formed calls s q is)
+    let same = agreement session closed .stands calls ∙ is in
+    turn-done s q now slice same (well-formed queueLimit calls s q is)
     (ap (λ (p : Plain). refusal queueLimit p (Turn (length slice))) (sym same) ∙ not-refused now (length slice) answer)

@@ -13,11 +13,11 @@ use Rattle.plans.specs.Places.{countersOf}
 use Rattle.plans.specs.Legal.{Allowed, Usable}
 use Rattle.plans.specs.Order.{First}
 use Rattle.sessions.specs.Turns.{requestsOf, taken, assign}
-use Rattle.sessions.specs.Calls.{Call, Drop, Plain, waiting}
+use Rattle.sessions.specs.Calls.{Call, Drop, Plain, notOpen, waiting}
 use Rattle.sessions.specs.Table.{refusal}
 use Rattle.sessions.specs.Plain.{run, completed, drops}
-use Rattle.sessions.specs.Sessions.{queueLimit, sessionAfter, queueAfter}
-use Rattle.sessions.specs.Completed.{CompletedTurn, turnsOf}
+use Rattle.sessions.specs.Sessions.{queueLimit}
+use Rattle.sessions.specs.Completed.{Machine, smallSession, CompletedTurn, stateAfter, turnsOf}
 use Rattle.sessions.specs.declared.Session.{Session}
 
 -- "A request is in the plan of a turn when the plan that the turn answers gives it its counter."
@@ -50,20 +50,20 @@ pub record Dropped (limit : ℕ) (from : Plain) (after : List Call) (p : ℕ) (e
   pub early : completed limit from since ≤ p
   pub first : drops limit (e .id) from since ≡ 0
 
--- The promise of p to a request, at a place in a list of calls where the plain queue is `from` and the session s, and `after` are the calls
--- that follow: once p + 1 further turns are completed, it was dropped first, or it has been in the plan of at least one of the first p + 1.
-abbrev pub Promise : Plain → Session → List Call → ℕ → Entry → Type 0
-Promise from s after p e =
-    suc p ≤ completed queueLimit from after
-    → Dropped queueLimit from after p e
-    ⊎ InOneOf (take (suc p) (turnsOf from s after)) e
+module _ {State : Type 0} (m : Machine State) (limit : ℕ) where
+  -- The promise of p to a request, at a place in a list of calls where the plain queue is `from` and the machine's state s, and `after` are the
+  -- calls that follow: once p + 1 further turns are completed, it was dropped first, or it has been in the plan of at least one of the first p + 1.
+  abbrev pub Promise : Plain → State → List Call → ℕ → Entry → Type 0
+  Promise from s after p e = suc p ≤ completed limit from after → Dropped limit from after p e ⊎ InOneOf (take (suc p) (turnsOf m limit from s after)) e
 
--- Every list of calls from a session not yet opened, any place in it, between `before` and `after`, and any request e that waits there:
--- "A request waits while it is in that list of ids, and p is the number of requests before it there."
+  -- Every list of calls from the state s on, where the plain queue is `start`, any place in it, between `before` and `after`, and any request e
+  -- that waits there: "A request waits while it is in that list of ids, and p is the number of requests before it there."
+  abbrev pub Promises : Plain → State → Type 0
+  Promises start s =
+      (before after : List Call) (ahead behind : List Entry) (e : Entry)
+      → waiting (run limit start before) ≡ ahead ++ e ∷ behind
+      → Promise (run limit start before) (stateAfter m s before) after (length ahead) e
+
+-- from a session not yet opened, with a queue of 16
 abbrev pub Demand3 : Type 0
-Demand3 =
-    (s : Session)
-    → s .opened ≡ false
-    → (before after : List Call) (ahead behind : List Entry) (e : Entry)
-    → waiting (queueAfter before) ≡ ahead ++ e ∷ behind
-    → Promise (queueAfter before) (sessionAfter s before) after (length ahead) e
+Demand3 = (s : Session) → s .opened ≡ false → Promises smallSession queueLimit notOpen s

@@ -13,8 +13,8 @@ use Rattle.requests.specs.Refusals.{answerNumber}
 use Rattle.plans.specs.declared.Place.{Place}
 use Rattle.plans.specs.declared.Place.the-variants.{Counter, Pair}
 use Rattle.sessions.specs.Calls.{Call, Open, Add, Drop, Turn, notOpen}
-use Rattle.sessions.specs.Sessions.{newSession, queued, answerTo, nextSession, sessionAfter}
-use Rattle.sessions.specs.Completed.{CompletedTurn, turnsOf}
+use Rattle.sessions.specs.Sessions.{queueLimit, newSession, queued, answerTo, nextSession, sessionAfter}
+use Rattle.sessions.specs.Completed.{smallSession, CompletedTurn, turnsOf}
 use Rattle.sessions.specs.declared.Session.{Session}
 use Rattle.sessions.specs.declared.Assigned.{Assigned}
 
@@ -35,7 +35,7 @@ unfoldable pub outcomeOf : List Call → Outcome
 outcomeOf calls =
     record {
       numbers = numbersOf newSession calls;
-      plans = map (λ (t : CompletedTurn). t .plan) (turnsOf notOpen newSession calls);
+      plans = map (λ (t : CompletedTurn). t .plan) (turnsOf smallSession queueLimit notOpen newSession calls);
       ids = map (λ (e : Entry). e .id) (queued (sessionAfter newSession calls));
     }
 

@@ -1,5 +1,5 @@
 -- What the four calls answer, for every session and argument.
-use mathlib.Core.List.{List, [], _∷_, _++_}
+use mathlib.Core.List.{List, [], _∷_, _++_, foldl}
 use mathlib.Core.Bool.{true, false}
 use mathlib.Core.Option.{Option, none, some}
 use Prim.Native.Nat.{ℕ, _-_}
@@ -120,8 +120,7 @@ nextSession s (Turn room) = turnOf s room .session
 
 -- the session that a list of calls leaves
 unfoldable pub sessionAfter : Session → List Call → Session
-sessionAfter s [] = s
-sessionAfter s (c ∷ cs) = sessionAfter (nextSession s c) cs
+sessionAfter s calls = foldl nextSession s calls
 
 -- the plain queue after the same calls, from the start
 abbrev pub queueAfter : List Call → Plain
