@@ -5,19 +5,19 @@ use Rattle.requests.specs.Choice.{both}
 use Rattle.requests.specs.Devices.{capacity}
 use Rattle.requests.specs.Refusals.{numberOf}
 use Rattle.plans.specs.Places.{countedOf}
-use Rattle.sessions.specs.Sessions.{turnAnswer, planOf}
+use Rattle.sessions.specs.Sessions.{queueLimit, vacant, padded, newSession, unassigned, turnAnswer, planOf}
+use Rattle.records.specs.Examples.{tabbed}
 use Rattle.records.specs.Fields.{fields, sameBytes}
 use Rattle.records.specs.Numbers.{digitOf, numberFrom, decimalOf, hexOf}
 use Rattle.records.specs.Text.{bytes, tab, newline, hexDigit, hexText, decimalDigits, decimalText, lineOf}
-use Rattle.answers.specs.Replies.{answerText, registerText, takeLines, setLines, turnReply}
-use Rattle.records.specs.Examples.{tabbed}
-use Rattle.answers.specs.Reader.{takeSays, setSays, noSays, fieldsSay, linesOf, linesSay, replySays}
 use Rattle.answers.specs.Examples.{typed, taken, Examples, Readings}
+use Rattle.answers.specs.Reader.{takeSays, setSays, noSays, fieldsSay, linesOf, linesSay, replySays}
+use Rattle.answers.specs.Replies.{answerText, registerText, takeLines, setLines, turnReply}
 
 pub examples-hold : Examples
-unfolding flatMap tabbed capacity numberOf countedOf turnAnswer planOf bytes tab newline hexDigit hexText decimalDigits decimalText lineOf answerText registerText takeLines setLines turnReply typed taken
+unfolding flatMap capacity numberOf countedOf queueLimit vacant padded newSession unassigned turnAnswer planOf tabbed bytes tab newline hexDigit hexText decimalDigits decimalText lineOf typed taken answerText registerText takeLines setLines turnReply
 examples-hold = refl
 
 pub readings-hold : Readings
-unfolding flatMap tabbed typed both bytes tab newline fields sameBytes digitOf numberFrom decimalOf hexOf takeSays setSays noSays fieldsSay linesOf linesSay replySays
+unfolding flatMap both tabbed fields sameBytes digitOf numberFrom decimalOf hexOf bytes tab newline typed takeSays setSays noSays fieldsSay linesOf linesSay replySays
 readings-hold = refl

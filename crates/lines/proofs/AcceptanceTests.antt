@@ -13,23 +13,23 @@ use Rattle.plans.specs.Search.{takeCounter, takeWord, takePacket, placeOf, admi
 use Rattle.layouts.specs.Layout.{tabulate, layoutOf, rsp0At, rsp1At, mmCfgAt, matchAt, maskAt, mmEnable, enabled, eventWord, offcoreCode, rspMask, rspWord, packetWord}
 use Rattle.layouts.specs.Settings.{usesOf, wordAt, setFrom, settingsOf}
 use Rattle.layouts.specs.Writes.{rows, zeros, unusable, firstGlobal, lastGlobal, offcoreWrites, packetWrites, filterWrites, writesFor, writes, flat, filled}
-use Rattle.sessions.specs.Calls.{waiting, waits}
+use Rattle.sessions.specs.Calls.{waits}
 use Rattle.sessions.specs.Choose.{takenAfter, passedAfter}
 use Rattle.sessions.specs.Plain.{removed}
 use Rattle.sessions.specs.Sessions.{queueLimit, vacant, queued, padded, sessionOf, newSession, plainOf, refusedBy, answered, openOf, addOf, dropOf, unassigned, turnAnswer, turnOf, turnSlice, planOf}
-use Rattle.sessions.specs.Table.{callOrder, badOpening, outsideIds, badId, idWaiting, idNotWaiting, addRows, noPlanAlone, queueFull, sliceTooShort, table, refusal}
+use Rattle.sessions.specs.Table.{openRows, outsideIds, addRows, dropRows, turnRows, beforeOpen, onceOpen, table, refusal}
 use Rattle.sessions.specs.Turns.{requestsOf, fits, taken, passed, turned, placesOf, assign, writesOf}
+use Rattle.records.specs.Examples.{tabbed}
 use Rattle.records.specs.Fields.{fields, sameBytes}
 use Rattle.records.specs.Numbers.{digitOf, numberFrom, decimalOf, hexOf}
-use Rattle.records.specs.Parse.{longest, tooLong, parseText}
+use Rattle.records.specs.Parse.{longest, tooLong, parseText, parsedRefusal}
 use Rattle.records.specs.Text.{bytes, tab, newline, hexDigit, hexText, decimalDigits, decimalText, lineOf}
 use Rattle.records.specs.Verbs.{openLine, eventLine, packetLine, offcoreLine, latencyLine, dropLine, turnLine, hasVerb, verbs, recordOf}
-use Rattle.records.specs.Examples.{tabbed}
 use Rattle.answers.specs.Examples.{typed}
 use Rattle.answers.specs.Replies.{answerText, registerText, takeLines, setLines, turnRoom, replyOf, turnReply, recordReply, parsedReply}
 use Rattle.lines.specs.Stream.{lineStart, feedStart, lineReply, keepByte, byteState, byteText, feedState, feedText, unfinished, endText, transcript}
 use Rattle.lines.specs.Tries.{outcome, expected, Tries}
 
 pub tries-hold : Tries
-unfolding flatMap tabbed bit inList anyBit onlyBits typeBits anyResponse answerBits outstanding rsp1Bits rsp0Bits latencyWord allows eventsOf codeIn pairIn maskNotListed kindNotOn notListed tooWide outOfRange incomplete conflicting requestRows both either every firstHolding has capacity counterCount allCounters letterOf deviceOf usableSet setupOf numberOf answerFor wordsOf packetsOf ofAll counters countedOf countersOf first second takeCounter takeWord takePacket placeOf admit width firstFrom putFirst thenRest tryNumber planIn firstPlan hasPlan tabulate layoutOf rsp0At rsp1At mmCfgAt matchAt maskAt mmEnable enabled eventWord offcoreCode rspMask rspWord packetWord usesOf wordAt setFrom settingsOf rows zeros unusable firstGlobal lastGlobal offcoreWrites packetWrites filterWrites writesFor writes flat filled waiting waits takenAfter passedAfter removed queueLimit vacant queued padded sessionOf newSession plainOf refusedBy answered openOf addOf dropOf unassigned turnAnswer turnOf turnSlice planOf callOrder badOpening outsideIds badId idWaiting idNotWaiting addRows noPlanAlone queueFull sliceTooShort table refusal requestsOf fits taken passed turned placesOf assign writesOf fields sameBytes digitOf numberFrom decimalOf hexOf longest tooLong parseText bytes tab newline hexDigit hexText decimalDigits decimalText lineOf openLine eventLine packetLine offcoreLine latencyLine dropLine turnLine hasVerb verbs recordOf typed answerText registerText takeLines setLines turnRoom replyOf turnReply recordReply parsedReply lineStart feedStart lineReply keepByte byteState byteText feedState feedText unfinished endText transcript outcome expected
+unfolding flatMap bit inList anyBit onlyBits typeBits anyResponse answerBits outstanding rsp1Bits rsp0Bits latencyWord allows eventsOf codeIn pairIn maskNotListed kindNotOn notListed tooWide outOfRange incomplete conflicting requestRows both either every firstHolding has capacity counterCount allCounters letterOf deviceOf usableSet setupOf numberOf answerFor wordsOf packetsOf ofAll counters countedOf countersOf first second takeCounter takeWord takePacket placeOf admit width firstFrom putFirst thenRest tryNumber planIn firstPlan hasPlan tabulate layoutOf rsp0At rsp1At mmCfgAt matchAt maskAt mmEnable enabled eventWord offcoreCode rspMask rspWord packetWord usesOf wordAt setFrom settingsOf rows zeros unusable firstGlobal lastGlobal offcoreWrites packetWrites filterWrites writesFor writes flat filled waits takenAfter passedAfter removed queueLimit vacant queued padded sessionOf newSession plainOf refusedBy answered openOf addOf dropOf unassigned turnAnswer turnOf turnSlice planOf openRows outsideIds addRows dropRows turnRows beforeOpen onceOpen table refusal requestsOf fits taken passed turned placesOf assign writesOf tabbed fields sameBytes digitOf numberFrom decimalOf hexOf longest tooLong parseText parsedRefusal bytes tab newline hexDigit hexText decimalDigits decimalText lineOf openLine eventLine packetLine offcoreLine latencyLine dropLine turnLine hasVerb verbs recordOf typed answerText registerText takeLines setLines turnRoom replyOf turnReply recordReply parsedReply lineStart feedStart lineReply keepByte byteState byteText feedState feedText unfinished endText transcript outcome expected
 tries-hold = refl

@@ -9,6 +9,7 @@ use mathlib.Mathlib.Data.Bool.Basic.{eq-false-of-not-eq-true, eq-true-of-not-eq-
 use mathlib.Core.Option.{Option, none, some}
 use Prim.Native.Nat.{ℕ, _*_, _≤_, _<_}
 use native.Mathlib.Nat.{lt-of-not-le}
+use native.Mathlib.Omega.{arith}
 use lib.ListN.{length}
 use Rattle.requests.specs.declared.Opening.{Opening}
 use Rattle.requests.specs.declared.Setup.{Setup}
@@ -25,8 +26,11 @@ use Rattle.sessions.specs.Table.{refusal}
 use Rattle.sessions.specs.RefusalTable.{IsId, Applies, no-setup, add-id, id-waits, kind, not-listed, lacks, range, conflict, alone, full, short}
 use Rattle.plans.proofs.PlanTestHolds.{plan-test}
 use Rattle.sessions.proofs.TakenPlan.{taken-first}
-use Rattle.sessions.proofs.Conditions.{le-of-not-lt, outside, inside, waits-yes}
+use Rattle.sessions.proofs.Conditions.{id-test, inside, waits-test}
 use Rattle.sessions.proofs.Rows.{refusal-table}
+
+le-of-not-lt : {m n : ℕ} → ¬ (n < m) → m ≤ n
+le-of-not-lt h = omega (arith, lt-of-not-le h)
 
 -- ---- open
 
@@ -66,8 +70,8 @@ module _ (limit : ℕ) (s : Setup) (q : List Entry) where
     pub accepted-add : AcceptedAdd limit s q id r
     accepted-add =
         record {
-          is-id = inside id (eq-false-of-not-eq-true (λ h. no-row 4 (add-id (outside id h))));
-          new = eq-false-of-not-eq-true (λ h. no-row 5 (id-waits (waits-yes id q h)));
+          is-id = inside id (eq-false-of-not-eq-true (λ h. no-row 4 (add-id (id-test id .0 h))));
+          new = eq-false-of-not-eq-true (λ h. no-row 5 (id-waits (waits-test id q .0 h)));
           formed = request-formed;
           plan = plan-test .has-plan s (r ∷ []) (eq-true-of-not-eq-false (λ h. no-row 12 (alone (λ p. false≢true (sym h ∙ plan-test .planned s (r ∷ []) p)))));
           room = lt-of-not-le (λ l. no-row 13 (full l));

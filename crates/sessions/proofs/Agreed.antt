@@ -16,7 +16,7 @@ use Rattle.requests.specs.Choice.{firstHolding}
 use Rattle.requests.specs.Devices.{setupOf}
 use Rattle.sessions.specs.Turns.{turned}
 use Rattle.sessions.specs.Calls.{Call, Open, Add, Drop, Turn, Plain, notOpen, opened}
-use Rattle.sessions.specs.Table.{table, callOrder, refusal}
+use Rattle.sessions.specs.Table.{beforeOpen, onceOpen, table, refusal}
 use Rattle.sessions.specs.Plain.{removed, unlessRefused, change, step}
 use Rattle.sessions.specs.Sessions.{queueLimit, vacant, queued, padded, sessionOf, plainOf, refusedBy, answered, openOf, addOf, dropOf, turnAnswer, turnOf, answerTo, nextSession}
 use Rattle.sessions.specs.declared.Session.{Session}
@@ -74,7 +74,7 @@ opens s h (some t) = stands t []
 
 step-made : (o : Bool) (t : Setup) (q : List Entry) (n : ℕ) (c : Call)
     → plainOf (unlessRefused (refusedBy (made o t q n) c) (made o t q n) (changed (made o t q n) c)) ≡ step queueLimit (plainOf (made o t q n)) c
-unfolding step change refusedBy plainOf queued refusal table callOrder firstHolding
+unfolding step change refusedBy plainOf queued refusal table beforeOpen onceOpen firstHolding
 step-made true t q n (Open o) = refl
 step-made true t q n (Add id r) = by-refusal (refusal queueLimit (opened t (take n q)) (Add id r)) (made true t q n) _ (opened t (take n q)) _ refl (stands t (take n q ++ record { id = id; request = r } ∷ []))
 step-made true t q n (Drop id) = by-refusal (refusal queueLimit (opened t (take n q)) (Drop id)) (made true t q n) _ (opened t (take n q)) _ refl (stands t (removed id (take n q)))

@@ -28,8 +28,8 @@ use Rattle.requests.specs.Checks.{requestRows, requestRefusal}
 use Rattle.requests.proofs.Openings.{opened-some, opened-none}
 use Rattle.plans.specs.Search.{hasPlan}
 use Rattle.sessions.specs.Turns.{taken, writesOf}
-use Rattle.sessions.specs.Calls.{Call, Open, Add, Drop, Turn, notOpen, opened, waiting, waits}
-use Rattle.sessions.specs.Table.{callOrder, badOpening, outsideIds, badId, idWaiting, idNotWaiting, addRows, noPlanAlone, queueFull, sliceTooShort, table, refusal}
+use Rattle.sessions.specs.Calls.{Call, Open, Add, Drop, Turn, notOpen, opened, waits}
+use Rattle.sessions.specs.Table.{openRows, outsideIds, addRows, dropRows, turnRows, beforeOpen, onceOpen, table, refusal}
 use Rattle.sessions.specs.Sessions.{queueLimit, queued, plainOf, refusedBy, answered, sessionOf, openOf}
 use Rattle.sessions.specs.RefusalTable.{add-before, full}
 use Rattle.sessions.specs.declared.Session.{Session}
@@ -63,29 +63,29 @@ module _ {A : Type 0} where
 -- ---- open
 
 open-again : (limit : ℕ) (t : Setup) (q : List Entry) (o : Opening) → refusal limit (opened t q) (Open o) ≡ some CallOrder
-unfolding refusal table firstHolding callOrder
+unfolding refusal table firstHolding beforeOpen
 open-again limit t q o = refl
 
 open-bad : (limit : ℕ) (o : Opening) → setupOf o ≡ none → refusal limit notOpen (Open o) ≡ some BadOpening
-unfolding refusal table firstHolding callOrder badOpening
+unfolding refusal table firstHolding beforeOpen openRows
 open-bad limit o h = rw h
 
 open-accepted : (limit : ℕ) (o : Opening) (t : Setup) → setupOf o ≡ some t → refusal limit notOpen (Open o) ≡ none
-unfolding refusal table firstHolding callOrder badOpening badId idWaiting idNotWaiting addRows noPlanAlone queueFull sliceTooShort
+unfolding refusal table firstHolding beforeOpen openRows
 open-accepted limit o t h = rw h
 
 -- ---- calls before open
 
 pub add-closed : (limit id : ℕ) (r : Request) → refusal limit notOpen (Add id r) ≡ some CallOrder
-unfolding refusal table firstHolding callOrder
+unfolding refusal table firstHolding onceOpen
 add-closed limit id r = refl
 
 pub drop-closed : (limit id : ℕ) → refusal limit notOpen (Drop id) ≡ some CallOrder
-unfolding refusal table firstHolding callOrder
+unfolding refusal table firstHolding onceOpen
 drop-closed limit id = refl
 
 pub turn-closed : (limit room : ℕ) → refusal limit notOpen (Turn room) ≡ some CallOrder
-unfolding refusal table firstHolding callOrder
+unfolding refusal table firstHolding onceOpen
 turn-closed limit room = refl
 
 module _ (limit : ℕ) (t : Setup) (q : List Entry) where
@@ -93,34 +93,34 @@ module _ (limit : ℕ) (t : Setup) (q : List Entry) where
 
   module _ (id : ℕ) where
     pub drop-bad-id : outsideIds id ≡ true → refusal limit (opened t q) (Drop id) ≡ some BadId
-    unfolding refusal table firstHolding callOrder badOpening badId
+    unfolding refusal table firstHolding onceOpen dropRows
     drop-bad-id h = rw h
 
     pub drop-not-waiting : outsideIds id ≡ false → waits id q ≡ false → refusal limit (opened t q) (Drop id) ≡ some IdNotWaiting
-    unfolding refusal table firstHolding callOrder badOpening badId idWaiting idNotWaiting waiting
+    unfolding refusal table firstHolding onceOpen dropRows
     drop-not-waiting h w = rw (h, w)
 
     pub drop-accepted : outsideIds id ≡ false → waits id q ≡ true → refusal limit (opened t q) (Drop id) ≡ none
-    unfolding refusal table firstHolding callOrder badOpening badId idWaiting idNotWaiting addRows noPlanAlone queueFull sliceTooShort waiting
+    unfolding refusal table firstHolding onceOpen dropRows
     drop-accepted h w = rw (h, w)
 
   -- ---- add
 
   module _ (id : ℕ) (r : Request) where
     pub add-bad-id : outsideIds id ≡ true → refusal limit (opened t q) (Add id r) ≡ some BadId
-    unfolding refusal table firstHolding callOrder badOpening badId
+    unfolding refusal table firstHolding onceOpen addRows
     add-bad-id h = rw h
 
     pub add-waiting : outsideIds id ≡ false → waits id q ≡ true → refusal limit (opened t q) (Add id r) ≡ some IdWaiting
-    unfolding refusal table firstHolding callOrder badOpening badId idWaiting waiting
+    unfolding refusal table firstHolding onceOpen addRows
     add-waiting h w = rw (h, w)
 
     -- the rows past 7, 8, 10, 9, 11
     lastRows : List (Row Refusal)
-    lastRows = (not (hasPlan t (r ∷ [])), NoPlanAlone) ∷ (leb limit (length q), QueueFull) ∷ (false, SliceTooShort) ∷ []
+    lastRows = (not (hasPlan t (r ∷ [])), NoPlanAlone) ∷ (leb limit (length q), QueueFull) ∷ []
 
     add-rows : outsideIds id ≡ false → waits id q ≡ false → refusal limit (opened t q) (Add id r) ≡ firstHolding (requestRows t r ++ lastRows)
-    unfolding lastRows refusal table firstHolding callOrder badOpening badId idWaiting idNotWaiting addRows noPlanAlone queueFull sliceTooShort waiting
+    unfolding lastRows refusal table firstHolding onceOpen addRows
     add-rows h w = rw (h, w)
 
     module _ (h : outsideIds id ≡ false) (w : waits id q ≡ false) where
@@ -144,11 +144,11 @@ module _ (limit : ℕ) (t : Setup) (q : List Entry) where
 
   module _ (room : ℕ) where
     pub turn-short : ltb room (2 * length (writesOf t (taken t q))) ≡ true → refusal limit (opened t q) (Turn room) ≡ some SliceTooShort
-    unfolding refusal table firstHolding callOrder badOpening badId idWaiting idNotWaiting addRows noPlanAlone queueFull sliceTooShort
+    unfolding refusal table firstHolding onceOpen turnRows
     turn-short h = rw h
 
     pub turn-accepted : ltb room (2 * length (writesOf t (taken t q))) ≡ false → refusal limit (opened t q) (Turn room) ≡ none
-    unfolding refusal table firstHolding callOrder badOpening badId idWaiting idNotWaiting addRows noPlanAlone queueFull sliceTooShort
+    unfolding refusal table firstHolding onceOpen turnRows
     turn-accepted h = rw h
 
 -- ---- the answer

@@ -10,7 +10,7 @@ use Rattle.requests.specs.declared.Entry.{Entry}
 use Rattle.requests.specs.declared.Refusal.{Refusal}
 use Rattle.requests.specs.Choice.{firstHolding}
 use Rattle.sessions.specs.Calls.{Call, Open, Add, Drop, Turn, Plain, notOpen, opened}
-use Rattle.sessions.specs.Table.{table, callOrder, refusal}
+use Rattle.sessions.specs.Table.{beforeOpen, onceOpen, table, refusal}
 use Rattle.sessions.specs.Plain.{unlessRefused, step, completes, completed}
 use Rattle.sessions.proofs.Rank.{turnsIn}
 
@@ -29,7 +29,7 @@ module _ (limit : ℕ) where
   turnsAt (opened s q) (Turn room) = unlessRefused (refusal limit (opened s q) (Turn room)) [] (record { setup = s; queue = q } ∷ [])
 
   pub count-call : (p : Plain) (c : Call) → length (turnsAt p c) ≡ completes limit p c
-  unfolding turnsAt completes refusal table callOrder firstHolding
+  unfolding turnsAt completes refusal table beforeOpen onceOpen firstHolding
   count-call notOpen (Open o) = refl
   count-call notOpen (Add id r) = refl
   count-call notOpen (Drop id) = refl
