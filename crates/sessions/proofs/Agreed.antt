@@ -1,9 +1,10 @@
 -- The session and the plain queue agree. Assumes nothing.
 --     answer-is     the session answers a call as the table says of the state that it stands for
 --     next-is       one call keeps the session standing for the plain queue
-use mathlib.Core.Path.{_≡_, refl, ap, _∙_}
+use mathlib.Core.Path.{_≡_, refl, ap, sym, _∙_}
 use mathlib.Core.List.{List, [], _∷_, _++_}
-use mathlib.Core.Bool.{Bool, true, false}
+use mathlib.Core.Bool.{true}
+use mathlib.Mathlib.Data.Bool.Basic.{eq-true-of-not-eq-false}
 use mathlib.Core.Option.{Option, none, some}
 use Prim.Native.Nat.{ℕ, _-_}
 use lib.ListN.{length, take, replicate}
@@ -12,14 +13,15 @@ use Rattle.requests.specs.declared.Setup.{Setup}
 use Rattle.requests.specs.declared.Entry.{Entry}
 use Rattle.requests.specs.declared.Refusal.{Refusal}
 use Rattle.requests.specs.Refusals.{answerFor}
-use Rattle.requests.specs.Choice.{firstHolding}
 use Rattle.requests.specs.Devices.{setupOf}
 use Rattle.sessions.specs.Turns.{turned}
 use Rattle.sessions.specs.Calls.{Call, Open, Add, Drop, Turn, Plain, notOpen, opened}
-use Rattle.sessions.specs.Table.{beforeOpen, onceOpen, table, refusal}
-use Rattle.sessions.specs.Plain.{removed, unlessRefused, change, step}
+use Rattle.sessions.specs.Plain.{removed, onQueue, change, unlessRefused, step}
 use Rattle.sessions.specs.Sessions.{queueLimit, vacant, queued, padded, sessionOf, plainOf, refusedBy, answered, openOf, addOf, dropOf, turnAnswer, turnOf, answerTo, nextSession}
+use Rattle.sessions.specs.RefusalTable.{Applies, add-before, drop-before, turn-before}
 use Rattle.sessions.specs.declared.Session.{Session}
+use Rattle.sessions.proofs.Rows.{refusal-table}
+use Rattle.sessions.proofs.TableAnswers.{plain-closed, plain-opened}
 
 -- a queue is read back from its array
 stored : (q : List Entry) → take (length q) (padded q) ≡ q
@@ -60,29 +62,33 @@ next-by s (Add id r) = refl
 next-by s (Drop id) = refl
 next-by s (Turn room) = turn-by s room (refusedBy s (Turn room)) refl .1
 
--- each of two, by a refusal
-by-refusal : (x : Option Refusal) (old new : Session) (p q : Plain) → plainOf old ≡ p → plainOf new ≡ q → plainOf (unlessRefused x old new) ≡ unlessRefused x p q
-by-refusal none old new p q h g = g
-by-refusal (some x) old new p q h g = h
+-- ---- the plain queue afterwards
 
-abbrev made : Bool → Setup → List Entry → ℕ → Session
-made o t q n = record { opened = o; setup = t; queue = q; len = n }
+-- a session that accepts a call which is refused before open is open
+is-open : (s : Session) (c : Call) → Applies queueLimit notOpen c 2 → refusedBy s c ≡ none → s .opened ≡ true
+unfolding refusedBy
+is-open s c before h = eq-true-of-not-eq-false (λ closed. refusal-table .accepted queueLimit notOpen c (rw (plain-closed s closed) at h) 2 before)
 
-opens : (s : Session) → plainOf s ≡ notOpen → (x : Option Setup) → plainOf (elim x [ none ↦ s | some t ↦ sessionOf t [] ]) ≡ elim x [ none ↦ notOpen | some t ↦ opened t [] ]
-opens s h none = h
-opens s h (some t) = stands t []
+-- and the session with its queue changed stands for the plain queue changed
+queue-is : (s : Session) (f : Setup → List Entry → List Entry) → s .opened ≡ true → plainOf (sessionOf (s .setup) (f (s .setup) (queued s))) ≡ onQueue (plainOf s) f
+unfolding onQueue
+queue-is s f h = stands (s .setup) (f (s .setup) (queued s)) ∙ sym (ap (λ (p : Plain). onQueue p f) (plain-opened s h))
 
-step-made : (o : Bool) (t : Setup) (q : List Entry) (n : ℕ) (c : Call)
-    → plainOf (unlessRefused (refusedBy (made o t q n) c) (made o t q n) (changed (made o t q n) c)) ≡ step queueLimit (plainOf (made o t q n)) c
-unfolding step change refusedBy plainOf queued refusal table beforeOpen onceOpen firstHolding
-step-made true t q n (Open o) = refl
-step-made true t q n (Add id r) = by-refusal (refusal queueLimit (opened t (take n q)) (Add id r)) (made true t q n) _ (opened t (take n q)) _ refl (stands t (take n q ++ record { id = id; request = r } ∷ []))
-step-made true t q n (Drop id) = by-refusal (refusal queueLimit (opened t (take n q)) (Drop id)) (made true t q n) _ (opened t (take n q)) _ refl (stands t (removed id (take n q)))
-step-made true t q n (Turn room) = by-refusal (refusal queueLimit (opened t (take n q)) (Turn room)) (made true t q n) _ (opened t (take n q)) _ refl (stands t (turned t (take n q)))
-step-made false t q n (Open o) = by-refusal (refusal queueLimit notOpen (Open o)) (made false t q n) _ notOpen _ refl (opens (made false t q n) refl (setupOf o))
-step-made false t q n (Add id r) = refl
-step-made false t q n (Drop id) = refl
-step-made false t q n (Turn room) = refl
+opens : (s : Session) (x : Option Setup) → plainOf (elim x [ none ↦ s | some t ↦ sessionOf t [] ]) ≡ elim x [ none ↦ plainOf s | some t ↦ opened t [] ]
+opens s none = refl
+opens s (some t) = stands t []
+
+changed-is : (s : Session) (c : Call) → refusedBy s c ≡ none → plainOf (changed s c) ≡ change (plainOf s) c
+unfolding change
+changed-is s (Open o) h = opens s (setupOf o)
+changed-is s (Add id r) h = queue-is s (λ t q. q ++ record { id = id; request = r } ∷ []) (is-open s (Add id r) add-before h)
+changed-is s (Drop id) h = queue-is s (λ t q. removed id q) (is-open s (Drop id) drop-before h)
+changed-is s (Turn room) h = queue-is s (λ t q. turned t q) (is-open s (Turn room) turn-before h)
 
 pub next-is : (s : Session) (c : Call) → plainOf (nextSession s c) ≡ step queueLimit (plainOf s) c
-next-is s c = ap plainOf (next-by s c) ∙ step-made (s .opened) (s .setup) (s .queue) (s .len) c
+unfolding step refusedBy
+next-is s c = ap plainOf (next-by s c) ∙ go (refusedBy s c) refl
+  where
+    go : (x : Option Refusal) → refusedBy s c ≡ x → plainOf (unlessRefused x s (changed s c)) ≡ unlessRefused x (plainOf s) (change (plainOf s) c)
+    go none h = changed-is s c h
+    go (some x) h = refl

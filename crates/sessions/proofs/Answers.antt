@@ -19,7 +19,7 @@ use Rattle.layouts.specs.Writes.{filled}
 use Rattle.sessions.specs.Turns.{taken, turned, placesOf, assign, writesOf}
 use Rattle.sessions.specs.Calls.{Turn, Plain, notOpen, opened}
 use Rattle.sessions.specs.Table.{refusal}
-use Rattle.sessions.specs.Plain.{change, step}
+use Rattle.sessions.specs.Plain.{onQueue, change, step}
 use Rattle.sessions.specs.Sessions.{queueLimit, queued, plainOf, refusedBy, sessionOf, unassigned, turnAnswer, turnOf, turnSlice, planOf, answerTo, nextSession}
 use Rattle.sessions.specs.declared.Session.{Session}
 use Rattle.sessions.specs.declared.Assigned.{Assigned}
@@ -76,7 +76,7 @@ module _ (session : Session) (s : Setup) (q : List Entry) (same : plainOf sessio
     turn-count-is = ap (λ (a : TurnAnswered). a .writes) turn-is ∙ in-plain (λ (x : Setup) (l : List Entry). length (writesOf x (taken x l)))
 
     pub turn-next-is : plainOf (turnOf session room .session) ≡ opened s (turned s q)
-    unfolding nextSession change
+    unfolding nextSession change onQueue
     turn-next-is = next-is session (Turn room) ∙ ap (λ (p : Plain). step queueLimit p (Turn room)) same ∙ step-accepted queueLimit (opened s q) (Turn room) accepted
 
   pub turn-slice-is : (slice : List ℕ) → refusal queueLimit (opened s q) (Turn (length slice)) ≡ none → turnSlice session slice ≡ filled (writesOf s (taken s q)) slice

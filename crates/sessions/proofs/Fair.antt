@@ -12,7 +12,7 @@ use borrow.Author.Tests.{eqb-true, eq-eqb, not-true}
 use Rattle.requests.specs.declared.Refusal.{Refusal}
 use Rattle.requests.specs.Bits.{inList}
 use Rattle.requests.specs.Refusals.{numberOf, checkOrder, inFront, checkedBefore}
-use Rattle.requests.specs.Choice.{both, either, pick, Row, firstHolding}
+use Rattle.requests.specs.Choice.{both, pick, Row, firstHolding}
 use Rattle.requests.proofs.Tests.{both-parts, either-cases}
 use Rattle.plans.specs.Lists.{All, nil, cons}
 

@@ -83,18 +83,18 @@ module _ {State : Type 0} (m : Machine State) (limit : ℕ) (Stands : State → 
 
   call-is : (s : State) (p : Plain) → Stands s p → (c : Call) → map stateOf (turnsBy m p s c) ≡ turnsAt limit p c
   unfolding turnsBy turnsAt
-  call-is s notOpen w c = refl
-  call-is s (opened t q) w (Open o) = refl
-  call-is s (opened t q) w (Add id r) = refl
-  call-is s (opened t q) w (Drop id) = refl
+  call-is s p w (Open o) = refl
+  call-is s p w (Add id r) = refl
+  call-is s p w (Drop id) = refl
+  call-is s notOpen w (Turn room) = refl
   call-is s (opened t q) w (Turn room) = turn-is s t q w room
 
   call-planned : (s : State) (p : Plain) → Stands s p → (c : Call) → All Planned (turnsBy m p s c)
   unfolding turnsBy
-  call-planned s notOpen w c = nil
-  call-planned s (opened t q) w (Open o) = nil
-  call-planned s (opened t q) w (Add id r) = nil
-  call-planned s (opened t q) w (Drop id) = nil
+  call-planned s p w (Open o) = nil
+  call-planned s p w (Add id r) = nil
+  call-planned s p w (Drop id) = nil
+  call-planned s notOpen w (Turn room) = nil
   call-planned s (opened t q) w (Turn room) = turn-planned s t q w room
 
   pub turns-are : (s : State) (p : Plain) → Stands s p → (cs : List Call) → map stateOf (turnsOf m limit p s cs) ≡ turnsIn (step limit) (turnsAt limit) p cs

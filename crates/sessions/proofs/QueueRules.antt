@@ -10,7 +10,7 @@ use Rattle.requests.proofs.Openings.{opening-is}
 use Rattle.sessions.specs.Turns.{turned}
 use Rattle.sessions.specs.Calls.{Open, Add, Drop, Turn, notOpen, opened}
 use Rattle.sessions.specs.Table.{refusal}
-use Rattle.sessions.specs.Plain.{change, step}
+use Rattle.sessions.specs.Plain.{onQueue, change, step}
 use Rattle.sessions.specs.QueueRules.{QueueRules}
 use Rattle.sessions.proofs.Removed.{removed-one}
 use Rattle.sessions.proofs.Steps.{step-accepted, step-refused}
@@ -22,7 +22,7 @@ module _ (limit : ℕ) where
   opens o h = let t = accepted-open limit o h in (t .0, opening-is o (t .0) (t .1), step-accepted limit notOpen (Open o) h ∙ rw (t .1, change))
 
   pub queue-rules : QueueRules limit
-  unfolding change turned
+  unfolding change onQueue turned
   queue-rules =
       record {
         refused = λ p c x h. step-refused limit p c x h;

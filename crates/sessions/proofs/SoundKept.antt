@@ -25,7 +25,7 @@ use Rattle.plans.proofs.Sets.{all-append}
 use Rattle.sessions.specs.Turns.{fits, taken, passed, turned}
 use Rattle.sessions.specs.Calls.{Call, Open, Add, Drop, Turn, Plain, notOpen, opened, waiting, waits}
 use Rattle.sessions.specs.Table.{refusal}
-use Rattle.sessions.specs.Plain.{removed, change, step, run}
+use Rattle.sessions.specs.Plain.{removed, onQueue, change, step, run}
 use Rattle.sessions.specs.DistinctIds.{Distinct, DistinctIds}
 use Rattle.sessions.specs.Sound.{Sound}
 use Rattle.sessions.specs.WellFormed.{WellFormed}
@@ -105,20 +105,22 @@ SoundIn limit notOpen = Unit {0}
 SoundIn limit (opened s q) = Sound limit s q
 
 module _ (limit : ℕ) where
-  sound-opens : (o : Opening) (x : Option Setup) → setupOf o ≡ x → SoundIn limit (elim x [ none ↦ notOpen | some s ↦ opened s [] ])
-  sound-opens o none e = tt
-  sound-opens o (some s) e = sound-opened limit s (ap setupOf (opening-is o s e) ∙ e)
+  sound-opens : (p : Plain) → SoundIn limit p → (o : Opening) (x : Option Setup) → setupOf o ≡ x → SoundIn limit (elim x [ none ↦ p | some s ↦ opened s [] ])
+  sound-opens p a o none e = a
+  sound-opens p a o (some s) e = sound-opened limit s (ap setupOf (opening-is o s e) ∙ e)
+
+  sound-queue : (p : Plain) (f : Setup → List Entry → List Entry) → ((s : Setup) (q : List Entry) → p ≡ opened s q → Sound limit s q → Sound limit s (f s q))
+      → SoundIn limit p → SoundIn limit (onQueue p f)
+  unfolding onQueue
+  sound-queue notOpen f keeps a = tt
+  sound-queue (opened s q) f keeps a = keeps s q refl a
 
   sound-change : (p : Plain) (c : Call) → refusal limit p c ≡ none → SoundIn limit p → SoundIn limit (change p c)
   unfolding change
-  sound-change notOpen (Open o) h a = sound-opens o (setupOf o) refl
-  sound-change notOpen (Add id r) h a = tt
-  sound-change notOpen (Drop id) h a = tt
-  sound-change notOpen (Turn room) h a = tt
-  sound-change (opened s q) (Open o) h a = a
-  sound-change (opened s q) (Add id r) h a = sound-added limit s q a id r (accepted-add limit s q id r h)
-  sound-change (opened s q) (Drop id) h a = sound-removed limit s q a id
-  sound-change (opened s q) (Turn room) h a = sound-turned limit s q a
+  sound-change p (Open o) h a = sound-opens p a o (setupOf o) refl
+  sound-change p (Add id r) h a = sound-queue p _ (λ s q is sound. sound-added limit s q sound id r (accepted-add limit s q id r (rw is at h))) a
+  sound-change p (Drop id) h a = sound-queue p _ (λ s q is sound. sound-removed limit s q sound id) a
+  sound-change p (Turn room) h a = sound-queue p _ (λ s q is sound. sound-turned limit s q sound) a
 
   pub sound-step : (p : Plain) (c : Call) → SoundIn limit p → SoundIn limit (step limit p c)
   sound-step p c a = go (refusal limit p c) refl

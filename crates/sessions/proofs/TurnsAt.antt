@@ -10,8 +10,8 @@ use Rattle.requests.specs.declared.Entry.{Entry}
 use Rattle.requests.specs.declared.Refusal.{Refusal}
 use Rattle.requests.specs.Choice.{firstHolding}
 use Rattle.sessions.specs.Calls.{Call, Open, Add, Drop, Turn, Plain, notOpen, opened}
-use Rattle.sessions.specs.Table.{beforeOpen, onceOpen, table, refusal}
-use Rattle.sessions.specs.Plain.{unlessRefused, step, completes, completed}
+use Rattle.sessions.specs.Table.{onceOpen, table, refusal}
+use Rattle.sessions.specs.Plain.{turnsAsked, unlessRefused, step, completes, completed}
 use Rattle.sessions.proofs.Rank.{turnsIn}
 
 -- a turn of the plain queue: the setup and the queue there
@@ -22,21 +22,23 @@ pub record TurnAt : Type 0 where
 module _ (limit : ℕ) where
   -- the turns that one call completes
   unfoldable pub turnsAt : Plain → Call → List TurnAt
-  turnsAt notOpen c = []
-  turnsAt (opened s q) (Open o) = []
-  turnsAt (opened s q) (Add id r) = []
-  turnsAt (opened s q) (Drop id) = []
+  turnsAt p (Open o) = []
+  turnsAt p (Add id r) = []
+  turnsAt p (Drop id) = []
+  turnsAt notOpen (Turn room) = []
   turnsAt (opened s q) (Turn room) = unlessRefused (refusal limit (opened s q) (Turn room)) [] (record { setup = s; queue = q } ∷ [])
 
+  -- a call that asks for none completes none
+  no-turns : (x : Option Refusal) → _≡_ {A = ℕ} 0 (unlessRefused x 0 0)
+  no-turns none = refl
+  no-turns (some x) = refl
+
   pub count-call : (p : Plain) (c : Call) → length (turnsAt p c) ≡ completes limit p c
-  unfolding turnsAt completes refusal table beforeOpen onceOpen firstHolding
-  count-call notOpen (Open o) = refl
-  count-call notOpen (Add id r) = refl
-  count-call notOpen (Drop id) = refl
+  unfolding turnsAt completes turnsAsked refusal table onceOpen firstHolding
+  count-call p (Open o) = no-turns (refusal limit p (Open o))
+  count-call p (Add id r) = no-turns (refusal limit p (Add id r))
+  count-call p (Drop id) = no-turns (refusal limit p (Drop id))
   count-call notOpen (Turn room) = refl
-  count-call (opened s q) (Open o) = refl
-  count-call (opened s q) (Add id r) = refl
-  count-call (opened s q) (Drop id) = refl
   count-call (opened s q) (Turn room) = go (refusal limit (opened s q) (Turn room))
     where
       go : (x : Option Refusal) → length {A = TurnAt} (unlessRefused x [] (record { setup = s; queue = q } ∷ [])) ≡ unlessRefused x 0 1
@@ -50,10 +52,7 @@ module _ (limit : ℕ) where
 
   pub turns-refused : (p : Plain) (c : Call) (x : Refusal) → refusal limit p c ≡ some x → length (turnsAt p c) ≡ 0
   unfolding completes
-  turns-refused p (Open o) x h = count-call p (Open o)
-  turns-refused p (Add id r) x h = count-call p (Add id r)
-  turns-refused p (Drop id) x h = count-call p (Drop id)
-  turns-refused p (Turn room) x h = count-call p (Turn room) ∙ rw h
+  turns-refused p c x h = count-call p c ∙ rw h
 
   pub turn-accepted : (s : Setup) (q : List Entry) (room : ℕ) → refusal limit (opened s q) (Turn room) ≡ none → turnsAt (opened s q) (Turn room) ≡ record { setup = s; queue = q } ∷ []
   unfolding turnsAt

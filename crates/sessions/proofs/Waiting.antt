@@ -17,9 +17,11 @@ use Rattle.requests.specs.declared.Refusal.{Refusal}
 use Rattle.sessions.specs.Turns.{taken, passed}
 use Rattle.sessions.specs.Calls.{Call, Open, Add, Drop, Turn, Plain, opened}
 use Rattle.sessions.specs.Table.{refusal}
-use Rattle.sessions.specs.Plain.{removed, change, step, completed, dropsOf}
+use Rattle.sessions.specs.Plain.{removed, onQueue, change, dropsAsked, step, completed, dropsOf}
+use Rattle.sessions.specs.RefusalTable.{second-open}
 use Rattle.sessions.specs.Sound.{Sound}
-use Rattle.sessions.proofs.Steps.{step-accepted, step-refused, drops-refused}
+use Rattle.sessions.proofs.Rows.{refusal-table}
+use Rattle.sessions.proofs.Steps.{step-accepted, step-refused, drops-refused, drops-other}
 use Rattle.sessions.proofs.Removed.{length-removed, removed-around}
 use Rattle.sessions.proofs.SoundKept.{sound-step}
 use Rattle.sessions.proofs.Advance.{Nearer, advance}
@@ -51,23 +53,23 @@ module _ (limit : ℕ) (e : Entry) where
 
     by-turn : (room : ℕ) → refusal limit here (Turn room) ≡ none → List·Memᴰ e (taken s (ahead ++ e ∷ behind)) ⊎ Nearer s ahead e behind
         → ProgressBy limit e Ahead here (Turn room) (length ahead)
-    unfolding change dropsOf
+    unfolding change onQueue dropsAsked
     by-turn room h (inl m) =
         let t : TurnAt = record { setup = s; queue = ahead ++ e ∷ behind } in
         served (record { turn = t; member = rw (turn-accepted limit s (ahead ++ e ∷ behind) room h) (List·Memᴰ·head refl); serves = record { sound = sound; member = m } })
     by-turn room h (inr n) =
         still (Turn room) (passed s ahead) (n .more) (step-accepted limit here (Turn room) h ∙ ap (opened s) (n .next))
         (rw (turn-accepted limit s (ahead ++ e ∷ behind) room h) (omega (arith, n .fewer)))
-        refl
+        (drops-other limit (e .id) here (Turn room) refl h)
 
     accepted : (c : Call) → refusal limit here c ≡ none → ProgressBy limit e Ahead here c (length ahead)
-    unfolding change turnsAt dropsOf
-    accepted (Open o) h = still (Open o) ahead behind (step-accepted limit here (Open o) h) (omega arith) refl
+    unfolding change onQueue turnsAt dropsAsked
+    accepted (Open o) h = absurd (refusal-table .accepted limit here (Open o) h 2 second-open)
     accepted (Add id r) h =
         still (Add id r) ahead (behind ++ record { id = id; request = r } ∷ [])
         (step-accepted limit here (Add id r) h ∙ ap (opened s) (append-assoc ahead (e ∷ behind) (record { id = id; request = r } ∷ [])))
         (omega arith)
-        refl
+        (drops-other limit (e .id) here (Add id r) refl h)
     accepted (Drop id) h = go (eqb id (e .id)) refl
       where
         go : (b : Bool) → eqb id (e .id) ≡ b → ProgressBy limit e Ahead here (Drop id) (length ahead)
@@ -76,7 +78,7 @@ module _ (limit : ℕ) (e : Entry) where
             still (Drop id) (removed id ahead) (removed id behind)
             (step-accepted limit here (Drop id) h ∙ ap (opened s) (removed-around id ahead e behind k))
             (omega (arith, length-removed id ahead))
-            (rw (h, ne-eqb (e .id) id (λ same. eqb-false id (e .id) k (sym same))))
+            (drops-other limit (e .id) here (Drop id) (rw (ne-eqb (e .id) id (λ same. eqb-false id (e .id) k (sym same)))) h)
     accepted (Turn room) h = by-turn room h (advance s ahead e behind (sound .alone))
 
     progress-here : (c : Call) → ProgressBy limit e Ahead here c (length ahead)

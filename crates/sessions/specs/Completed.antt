@@ -44,10 +44,10 @@ module _ {State : Type 0} (m : Machine State) where
 
   -- the turns that one call completes, where p and s are the plain queue and the machine's state
   unfoldable pub turnsBy : Plain → State → Call → List CompletedTurn
-  turnsBy notOpen s c = []
-  turnsBy (opened t q) s (Open o) = []
-  turnsBy (opened t q) s (Add id r) = []
-  turnsBy (opened t q) s (Drop id) = []
+  turnsBy p s (Open o) = []
+  turnsBy p s (Add id r) = []
+  turnsBy p s (Drop id) = []
+  turnsBy notOpen s (Turn room) = []
   turnsBy (opened t q) s (Turn room) = turnIf (m .answer s (Turn room)) (record { setup = t; queue = q; plan = m .plan s room })
 
   module _ (limit : ℕ) where

@@ -3,6 +3,7 @@ use mathlib.Core.List.{List, [], _∷_, _++_}
 use mathlib.Core.Option.{Option, none, some}
 use Prim.Native.Nat.{ℕ, _+_}
 use lib.Dec.{eqb}
+use Rattle.requests.specs.declared.Setup.{Setup}
 use Rattle.requests.specs.declared.Entry.{Entry}
 use Rattle.requests.specs.declared.Refusal.{Refusal}
 use Rattle.requests.specs.Choice.{pick}
@@ -16,16 +17,31 @@ unfoldable pub removed : ℕ → List Entry → List Entry
 removed id [] = []
 removed id (e ∷ es) = pick (eqb id (e .id)) (removed id es) (e ∷ removed id es)
 
--- what an accepted call makes of the state; no other call of a state is accepted
+-- a queue changed, where there is one
+unfoldable pub onQueue : Plain → (Setup → List Entry → List Entry) → Plain
+onQueue notOpen f = notOpen
+onQueue (opened s q) f = opened s (f s q)
+
+-- what an accepted call makes of the state
 unfoldable pub change : Plain → Call → Plain
-change notOpen (Open o) = elim (setupOf o) [ none ↦ notOpen | some s ↦ opened s [] ]
-change notOpen (Add id r) = notOpen
-change notOpen (Drop id) = notOpen
-change notOpen (Turn room) = notOpen
-change (opened s q) (Open o) = opened s q
-change (opened s q) (Add id r) = opened s (q ++ record { id = id; request = r } ∷ [])
-change (opened s q) (Drop id) = opened s (removed id q)
-change (opened s q) (Turn room) = opened s (turned s q)
+change p (Open o) = elim (setupOf o) [ none ↦ p | some s ↦ opened s [] ]
+change p (Add id r) = onQueue p (λ s q. q ++ record { id = id; request = r } ∷ [])
+change p (Drop id) = onQueue p (λ s q. removed id q)
+change p (Turn room) = onQueue p (λ s q. turned s q)
+
+-- the turns that a call asks for
+unfoldable pub turnsAsked : Call → ℕ
+turnsAsked (Open o) = 0
+turnsAsked (Add id r) = 0
+turnsAsked (Drop id) = 0
+turnsAsked (Turn room) = 1
+
+-- how often a call asks to drop the id
+unfoldable pub dropsAsked : ℕ → Call → ℕ
+dropsAsked id (Open o) = 0
+dropsAsked id (Add other r) = 0
+dropsAsked id (Drop other) = pick (eqb id other) 1 0
+dropsAsked id (Turn room) = 0
 
 -- the first of two where a call is refused, the second where it is accepted
 abbrev pub unlessRefused : {A : Type 0} → Option Refusal → A → A → A
@@ -44,10 +60,7 @@ module _ (limit : ℕ) where
 
   -- how many turns the call completes: "A turn is completed when it is accepted."
   unfoldable pub completes : Plain → Call → ℕ
-  completes p (Open o) = 0
-  completes p (Add id r) = 0
-  completes p (Drop id) = 0
-  completes p (Turn room) = unlessRefused (refusal limit p (Turn room)) 0 1
+  completes p c = unlessRefused (refusal limit p c) 0 (turnsAsked c)
 
   -- how many turns a list of calls completes
   unfoldable pub completed : Plain → List Call → ℕ
@@ -56,10 +69,7 @@ module _ (limit : ℕ) where
 
   -- how often the call drops the id: "It is dropped by an accepted drop of its id."
   unfoldable pub dropsOf : ℕ → Plain → Call → ℕ
-  dropsOf id p (Open o) = 0
-  dropsOf id p (Add other r) = 0
-  dropsOf id p (Drop other) = unlessRefused (refusal limit p (Drop other)) 0 (pick (eqb id other) 1 0)
-  dropsOf id p (Turn room) = 0
+  dropsOf id p c = unlessRefused (refusal limit p c) 0 (dropsAsked id c)
 
   -- how often a list of calls drops the id
   unfoldable pub drops : ℕ → Plain → List Call → ℕ
