@@ -1,0 +1,154 @@
+//! Library calls as scripts, answered by the Rust model: the source of the stored output of the program crate `calls`.
+//! The notation is in docs/MAINTAINING.md.
+mod model;
+mod plan;
+mod reader;
+use model::*;
+use reader::{read, Registers, State};
+use std::io::{stdin, Read};
+
+const KEPT: u64 = 0xEEEE;
+const LONGEST_SLICE: u64 = 8192;
+const LONGEST_LINE: usize = 4096;
+
+fn decimal(word: &str) -> Option<u64> {
+    if word.bytes().all(|b| b.is_ascii_digit()) { word.parse().ok() } else { None }
+}
+
+fn hex(word: &str) -> Option<u64> {
+    let digits = word.bytes().all(|b| b.is_ascii_digit() || (b'A'..=b'F').contains(&b));
+    if digits && (1..=16).contains(&word.len()) { u64::from_str_radix(word, 16).ok() } else { None }
+}
+
+fn letter(word: &str) -> Option<u64> {
+    if word.len() == 1 { Some(word.as_bytes()[0] as u64) } else { None }
+}
+
+/// Device and usable set, where the arguments that no order has given a meaning are 0 and `-`.
+fn opening(words: &[&str]) -> Option<(u64, u64)> {
+    match words {
+        [device, usable, "0", "0", "0", "-"] => Some((letter(device)?, decimal(usable)?)),
+        _ => None,
+    }
+}
+
+fn request(words: &[&str]) -> Option<Request> {
+    Some(match words {
+        ["event", code, mask, allowed] => {
+            Request::Event { code: hex(code)?.try_into().ok()?, mask: hex(mask)?.try_into().ok()?, allowed: decimal(allowed)? }
+        }
+        ["packet", match_word, mask_word, allowed] => {
+            Request::Packet { match_word: hex(match_word)?, mask_word: hex(mask_word)?, allowed: decimal(allowed)? }
+        }
+        ["offcore", word, allowed] => Request::Offcore { word: hex(word)?, allowed: decimal(allowed)? },
+        ["latency", types, first, second] => {
+            Request::Latency { types: hex(types)?.try_into().ok()?, first: decimal(first)?, second: decimal(second)? }
+        }
+        _ => return None,
+    })
+}
+
+fn answer(result: Result<(), u64>) -> String {
+    match result {
+        Ok(()) => "ok".into(),
+        Err(number) => format!("no {number}"),
+    }
+}
+
+fn queue(s: &Session) -> String {
+    s.queue[..s.len].iter().fold("queue".into(), |text, entry| format!("{text} {}", entry.id))
+}
+
+fn slice(name: &str, numbers: &[u64]) -> String {
+    let end = numbers.iter().rposition(|&n| n != KEPT).map_or(0, |last| last + 1);
+    let text = numbers[..end].iter().fold(name.into(), |text: String, n| format!("{text} {n:X}"));
+    if end < numbers.len() { format!("{text} kept*{}", numbers.len() - end) } else { text }
+}
+
+fn takes(turn: &Turn) -> String {
+    let mut text = String::new();
+    for &(id, place) in &turn.plan[..turn.taken] {
+        text += &match place {
+            Place::Counter(k) => format!("take {id} {k} -\n"),
+            Place::WithRsp(k, i) => format!("take {id} {k} {i}\n"),
+            Place::Pair(j, k) => format!("take {id} {j} 0\ntake {id} {k} 1\n"),
+        };
+    }
+    text
+}
+
+fn turn(s: &mut Session, length: u64) -> Option<String> {
+    if length > LONGEST_SLICE {
+        return None;
+    }
+    let mut list = vec![KEPT; length as usize];
+    let result = s.turn(&mut list);
+    let plan = result.as_ref().map_or(String::new(), takes);
+    Some(format!("{plan}{}\n{}\n{}", answer(result.map(|_| ())), slice("list", &list), queue(s)))
+}
+
+fn told(state: State) -> String {
+    match state {
+        State::NotOurs => "not-ours".into(),
+        State::Off => "off".into(),
+        State::Counts { register: Some(i), words: [Some(word), _], .. } => format!("rsp:{i}:{word:X}"),
+        State::Counts { words: [Some(x), Some(y)], .. } => format!("packet:{x:X}:{y:X}"),
+        State::Counts { code, mask, .. } => format!("event:{code:02X}:{mask:02X}"),
+    }
+}
+
+fn reading(words: &[&str]) -> Option<String> {
+    let (device, usable) = opening(words.get(..6)?)?;
+    let (values, rest) = words[6..].split_at_checked(10)?;
+    let v: Vec<u64> = values.iter().map(|word| hex(word)).collect::<Option<_>>()?;
+    if rest != ["0", "0"] {
+        return None;
+    }
+    let registers = Registers {
+        control: [v[0], v[1], v[2], v[3]],
+        rsp: [v[6], v[7]],
+        mm_cfg: v[6],
+        match_word: v[7],
+        mask_word: v[8],
+        global: v[9],
+    };
+    Some(match read(device, usable, &registers) {
+        Err(number) => format!("no {number}"),
+        Ok(states) => states.into_iter().fold("ok".into(), |text, state| format!("{text} {}", told(state))),
+    })
+}
+
+fn call(s: &mut Session, words: &[&str]) -> Option<String> {
+    let result = match words {
+        ["new"] => {
+            *s = Session::new();
+            return Some(String::new());
+        }
+        ["turn", length] => return turn(s, decimal(length)?),
+        ["read", rest @ ..] => return reading(rest),
+        ["open", rest @ ..] => {
+            let (device, usable) = opening(rest)?;
+            s.open(device, usable)
+        }
+        ["add", id, rest @ ..] => s.add(decimal(id)?, request(rest)?),
+        ["drop", id] => s.drop(decimal(id)?),
+        _ => return None,
+    };
+    Some(format!("{}\n{}", answer(result), queue(s)))
+}
+
+fn main() {
+    let mut script = String::new();
+    stdin().read_to_string(&mut script).unwrap();
+    let mut s = Session::new();
+    for line in script.lines() {
+        let words: Vec<&str> = line.split('#').next().unwrap().split(' ').filter(|word| !word.is_empty()).collect();
+        if words.is_empty() {
+            continue;
+        }
+        let text = if line.len() > LONGEST_LINE { None } else { call(&mut s, &words) }.unwrap_or("?".into());
+        if !text.is_empty() {
+            println!("{text}");
+        }
+    }
+}

@@ -1,0 +1,77 @@
+// The answers of calls, and what they leave.
+use crate::output::decimal;
+use crate::output::field;
+use crate::output::text;
+use plans::Place;
+use requests::Answer;
+use requests::refusals::number_of;
+use sessions::Session;
+use sessions::TurnAnswered;
+
+// `ok`, or `no` and the number.
+pub fn answer(a: Answer) {
+    match a {
+        Answer::Accepted => text(b"ok"),
+        Answer::Refused(refusal) => {
+            text(b"no");
+            field(number_of(refusal));
+        }
+    }
+}
+
+// The answer in a line of its own.
+pub fn answer_line(a: Answer) {
+    answer(a);
+    text(b"\n");
+}
+
+// The ids that wait.
+pub fn queue(session: Session) {
+    text(b"queue");
+    let mut i: usize = 0;
+    while i < 16 {
+        if i < session.len {
+            let entry = session.queue[i];
+            field(entry.id);
+        }
+        i += 1;
+    }
+    text(b"\n");
+}
+
+// A taken id at a counter, and the register that it counts.
+fn take(id: u64, counter: u64, register: &[u8]) {
+    text(b"take");
+    field(id);
+    field(counter);
+    text(register);
+}
+
+// What a taken request is given: counter and register, a latency request on two lines.
+fn place(id: u64, given: Place) {
+    match given {
+        Place::Counter(k) => take(id, k, b" -\n"),
+        Place::WithRsp(k, register) => {
+            take(id, k, b" ");
+            decimal(register);
+            text(b"\n");
+        }
+        Place::Pair(j, k) => {
+            take(id, j, b" 0\n");
+            take(id, k, b" 1\n");
+        }
+    }
+}
+
+// The plan of a turn.
+pub fn plan(turned: TurnAnswered) {
+    let mut i: usize = 0;
+    while i < 8 {
+        if i < turned.taken {
+            let assigned = turned.plan[i];
+            let given = assigned.place;
+            place(assigned.id, given);
+        }
+        i += 1;
+    }
+}

@@ -1,0 +1,16 @@
+// Library calls as scripts: reads a script from standard input, a call a line, and prints the answer of each.
+// docs/MAINTAINING.md has the notation. A line that is not in it is answered `?` and changes nothing.
+mod answers;
+mod asked;
+mod formats;
+mod numbers;
+mod output;
+mod reading;
+mod script;
+mod session_calls;
+mod source;
+mod words;
+
+fn main() {
+    source::run();
+}

@@ -1,0 +1,109 @@
+// A line of a script, and its call.
+use crate::asked::Asked;
+use crate::asked::add_numbers;
+use crate::asked::request_of;
+use crate::formats::numbers_in;
+use crate::output::KEPT;
+use crate::output::text;
+use crate::reading::reading;
+use crate::session_calls::answered;
+use crate::session_calls::turned;
+use crate::words::Words;
+use crate::words::same;
+use crate::words::word;
+use crate::words::words_of;
+use planner::add::add;
+use planner::drop::drop_request;
+use planner::open::new_session;
+use planner::open::open;
+use requests::CounterSet;
+use requests::Opening;
+use sessions::Session;
+ghost use Prim.Native.Nat.{_≤_};
+ghost use lib.ListN.{length};
+
+// The longest slice of a script.
+const LONGEST_SLICE: u64 = 8192;
+
+// A line that is not in the notation.
+pub fn unknown(session: Session) -> Session {
+    text(b"?\n");
+    session
+}
+
+fn open_call(session: Session, at: [u64; 20]) -> Session {
+    let opening = Opening {
+        device: at[1],
+        usable: CounterSet(at[2]),
+    };
+    answered(open(session, opening))
+}
+
+fn add_call(session: Session, line: &[u8], words: Words) -> Session {
+    let numbers = add_numbers(line, words);
+    let at = numbers.at;
+    match request_of(line, words, numbers) {
+        Asked::For(request) => answered(add(session, at[1], request)),
+        Asked::Nothing => unknown(session),
+    }
+}
+
+// A turn with the first numbers of a list.
+fn turn_in(session: Session, list: &mut [u64], count: usize) -> Session
+    requires { ⌜ count ≤ length (now list) ⌝ }
+{
+    turned(session, &mut list[..count])
+}
+
+fn turn_call(session: Session, length: u64) -> Session {
+    if LONGEST_SLICE < length {
+        return unknown(session);
+    }
+    let mut list = [KEPT; 8192];
+    turn_in(session, &mut list, length as usize)
+}
+
+fn read_call(session: Session, at: [u64; 20]) -> Session {
+    reading(at);
+    session
+}
+
+// The call of a line without further words, with a number, or with all that open or the reader takes.
+fn call(session: Session, line: &[u8], words: Words) -> Session {
+    let verb = word(line, words, 0);
+    let alone = numbers_in(line, words, b"v");
+    if same(verb, b"new") && alone.fits {
+        return new_session();
+    }
+    let one = numbers_in(line, words, b"vd");
+    let at = one.at;
+    if same(verb, b"drop") && one.fits {
+        return answered(drop_request(session, at[1]));
+    }
+    if same(verb, b"turn") && one.fits {
+        return turn_call(session, at[1]);
+    }
+    let opening = numbers_in(line, words, b"vld000-");
+    if same(verb, b"open") && opening.fits {
+        let given = opening.at;
+        return open_call(session, given);
+    }
+    let values = numbers_in(line, words, b"vld000-xxxxxxxxxx00");
+    if same(verb, b"read") && values.fits {
+        let given = values.at;
+        return read_call(session, given);
+    }
+    if same(verb, b"add") {
+        return add_call(session, line, words);
+    }
+    unknown(session)
+}
+
+// A line of the script; one without words is passed over.
+pub fn run_line(session: Session, line: &[u8]) -> Session {
+    let words = words_of(line);
+    if words.count == 0 {
+        return session;
+    }
+    call(session, line, words)
+}

@@ -1,0 +1,29 @@
+// The calls of a session: each prints its answer and what it leaves, and answers the session afterwards.
+use crate::answers::answer_line;
+use crate::answers::plan;
+use crate::answers::queue;
+use crate::output::slice;
+use planner::turn::turn;
+use sessions::Answered;
+use sessions::Session;
+
+// The answer of an open, add or drop.
+pub fn answered(done: Answered) -> Session {
+    let answer = done.answer;
+    answer_line(answer);
+    let session = done.session;
+    queue(session);
+    session
+}
+
+// A turn with a slice.
+pub fn turned(session: Session, list: &mut [u64]) -> Session {
+    let done = turn(session, list);
+    plan(done);
+    let answer = done.answer;
+    answer_line(answer);
+    slice(b"list", list);
+    let next = done.session;
+    queue(next);
+    next
+}
