@@ -1,10 +1,12 @@
 //! Library calls as scripts, answered by the Rust model: the source of the stored output of the program crate `calls`.
 //! The notation is in docs/MAINTAINING.md.
-mod model;
-mod plan;
-mod reader;
-use model::*;
-use reader::{read, Registers, State};
+
+mod planner;
+
+use planner::model::reader::{read, Registers, State};
+use planner::model::Session;
+use planner::requests::{Place, Request};
+use planner::{Calls, Turn, PLACES};
 use std::io::{stdin, Read};
 
 const KEPT: u64 = 0xEEEE;
@@ -56,7 +58,7 @@ fn answer(result: Result<(), u64>) -> String {
 }
 
 fn queue(s: &Session) -> String {
-    s.queue[..s.len].iter().fold("queue".into(), |text, entry| format!("{text} {}", entry.id))
+    s.queue().iter().fold("queue".into(), |text, entry| format!("{text} {}", entry.id))
 }
 
 fn slice(name: &str, numbers: &[u64]) -> String {
@@ -67,7 +69,8 @@ fn slice(name: &str, numbers: &[u64]) -> String {
 
 fn takes(turn: &Turn) -> String {
     let mut text = String::new();
-    for &(id, place) in &turn.plan[..turn.taken] {
+    for (entry, place) in turn.taken.iter().zip(turn.places).take(turn.count) {
+        let id = entry.id;
         text += &match place {
             Place::Counter(k) => format!("take {id} {k} -\n"),
             Place::WithRsp(k, i) => format!("take {id} {k} {i}\n"),
@@ -104,8 +107,10 @@ fn reading(words: &[&str]) -> Option<String> {
     if rest != ["0", "0"] {
         return None;
     }
+    let mut control = [0; PLACES];
+    control[..6].copy_from_slice(&v[..6]);
     let registers = Registers {
-        control: [v[0], v[1], v[2], v[3]],
+        control,
         rsp: [v[6], v[7]],
         mm_cfg: v[6],
         match_word: v[7],

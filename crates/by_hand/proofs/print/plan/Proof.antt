@@ -1,8 +1,8 @@
--- `tries::print::plan` reads within the plan and ends: the index is at most 8, and the measure is what is left of 8.
+-- `by_hand::print::plan` reads within the plan and ends: the index is at most 8, and the measure is what is left of 8.
 use Prim.Native.Nat.{_≤_, _-_}
 use borrow.Author.Needs.{needs}
-use Rattle.tries.proofs.print.plan.Statement.{statement}
-use Rattle.tries.proofs.print.plan.Tie as tie
+use Rattle.by_hand.proofs.print.plan.Statement.{statement}
+use Rattle.by_hand.proofs.print.plan.Tie as tie
 
 abbrev Inv-loop : tie.InvT-loop
 Inv-loop t i₀ i = i ≤ 8

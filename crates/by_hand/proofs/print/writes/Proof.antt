@@ -1,8 +1,8 @@
--- `tries::print::writes` reads within the list and ends: the index is at most 18, of 36 numbers in pairs, and the measure is what is left of 18.
+-- `by_hand::print::writes` reads within the list and ends: the index is at most 18, of 36 numbers in pairs, and the measure is what is left of 18.
 use Prim.Native.Nat.{_≤_, _-_}
 use borrow.Author.Needs.{needs}
-use Rattle.tries.proofs.print.writes.Statement.{statement}
-use Rattle.tries.proofs.print.writes.Tie as tie
+use Rattle.by_hand.proofs.print.writes.Statement.{statement}
+use Rattle.by_hand.proofs.print.writes.Tie as tie
 
 abbrev Inv-loop : tie.InvT-loop
 Inv-loop list count i₀ i = i ≤ 18

@@ -1,8 +1,8 @@
--- `tries::print::session` reads within the queue and ends: the index is at most 16, and the measure is what is left of 16.
+-- `by_hand::print::session` reads within the queue and ends: the index is at most 16, and the measure is what is left of 16.
 use Prim.Native.Nat.{_≤_, _-_}
 use borrow.Author.Needs.{needs}
-use Rattle.tries.proofs.print.session.Statement.{statement}
-use Rattle.tries.proofs.print.session.Tie as tie
+use Rattle.by_hand.proofs.print.session.Statement.{statement}
+use Rattle.by_hand.proofs.print.session.Tie as tie
 
 abbrev Inv-loop : tie.InvT-loop
 Inv-loop s i₀ i = i ≤ 16

@@ -1,18 +1,14 @@
 // Calls with their answers printed.
 use crate::print;
 use planner::add::add;
-use planner::open::new_session;
-use planner::open::open;
 use planner::turn::turn;
 use requests::CounterSet;
 use requests::Opening;
 use requests::Request;
 use sessions::Session;
 
-// The letters of the devices.
+// The letter of device G.
 pub const G: u64 = 71;
-
-pub const S: u64 = 83;
 
 // An event that a set of counters is allowed for.
 pub fn event(code: u8, mask: u8, allowed: u64) -> Request {
@@ -28,15 +24,6 @@ pub fn opening(device: u64, usable: u64) -> Opening {
         device: device,
         usable: CounterSet(usable),
     }
-}
-
-// A session after open.
-pub fn opened(device: u64, usable: u64) -> Session {
-    let answered = open(new_session(), opening(device, usable));
-    let answer = answered.answer;
-    print::answer(answer);
-    let next = answered.session;
-    next
 }
 
 // The session after an add.
@@ -55,10 +42,4 @@ pub fn turned(session: Session) -> Session {
     print::turn(answered, &list);
     let next = answered.session;
     next
-}
-
-// A turn on an empty queue.
-pub fn empty_queue() {
-    print::text(b"empty queue\n");
-    turned(opened(S, 14));
 }

@@ -15,7 +15,7 @@ pub fn text(bytes: &[u8]) {
     io::write_all(OUT, bytes);
 }
 
-pub fn decimal(n: u64) {
+fn decimal(n: u64) {
     io::print_decimal(OUT, n);
 }
 
@@ -129,17 +129,6 @@ pub fn session(s: Session) {
         }
         i += 1;
     }
-}
-
-// The numbers of a slice.
-pub fn slice(numbers: &[u64]) {
-    text(b"slice");
-    let mut i: usize = 0;
-    while i < numbers.len() {
-        hex_field(numbers[i], 1);
-        i += 1;
-    }
-    text(b"\n");
 }
 
 // A taken id at a counter.

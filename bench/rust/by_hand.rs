@@ -1,4 +1,4 @@
-//! Prints the stored output of the program crate `tries`, from the model.
+//! Prints the stored output of the program crate `by_hand`, from the model.
 
 mod planner;
 
@@ -37,14 +37,6 @@ fn print_session_of(s: &Session, length: usize) {
     }
 }
 
-fn print_slice(slice: &[u64]) {
-    print!("slice");
-    for number in slice {
-        print!(" {number:x}");
-    }
-    println!();
-}
-
 fn print_answer(answer: Result<(), u64>) {
     match answer {
         Ok(()) => println!("ok"),
@@ -78,67 +70,7 @@ fn turn_and_print(s: &mut Session, out: &mut [u64]) {
     }
 }
 
-/// Sixteen requests that allow counter 0 alone.
-fn pinned() -> Session {
-    let mut s = Session::new();
-    print_answer(s.open(71, 15));
-    for id in 1..=16 {
-        print_answer(s.add(id, event(0xC0, 0, 1)));
-    }
-    s
-}
-
-fn try_j(s: &mut Session) {
-    println!("J");
-    let mut taken = [[0; 3]; 17];
-    let mut seen = [0; 17];
-    for number in 1..=48 {
-        let turn = s.turn(&mut [0; LIST]).unwrap();
-        for &Entry { id, .. } in &turn.taken[..turn.count] {
-            taken[id as usize][seen[id as usize]] = number;
-            seen[id as usize] += 1;
-        }
-    }
-    for id in 1..=16 {
-        println!("{id}: {} {} {}", taken[id][0], taken[id][1], taken[id][2]);
-    }
-}
-
-/// A refused call: the session and the slice before, the answer, and both afterwards.
-fn refused(s: &mut Session, call: impl Fn(&mut Session, &mut [u64]) -> Result<(), u64>) {
-    let mut slice = [7; 4];
-    print_session(s);
-    print_slice(&slice);
-    print_answer(call(s, &mut slice));
-    print_session(s);
-    print_slice(&slice);
-}
-
-fn refusals() {
-    println!("refusals");
-    let mut s = Session::new();
-    refused(&mut s, |s, _| s.add(1, event(0xC0, 0, 15)));
-    refused(&mut s, |s, _| s.open(72, 15));
-    print_answer(s.open(71, 3));
-    print_answer(s.add(1, event(0xC0, 0, 1)));
-    refused(&mut s, |s, _| s.add(65536, event(0xC0, 0, 1)));
-    refused(&mut s, |s, _| s.add(1, event(0x3C, 0, 1)));
-    refused(&mut s, |s, _| s.drop(2));
-    refused(&mut s, |s, _| s.add(2, Request::Packet { match_word: 0, mask_word: 0, allowed: 1 }));
-    refused(&mut s, |s, _| s.add(2, event(0xB7, 1, 1)));
-    refused(&mut s, |s, _| s.add(2, Request::Offcore { word: 1, allowed: 1 }));
-    refused(&mut s, |s, _| s.add(2, Request::Offcore { word: 0x80010001, allowed: 1 }));
-    refused(&mut s, |s, _| s.add(2, Request::Offcore { word: 0x200010001, allowed: 1 }));
-    refused(&mut s, |s, _| s.add(2, Request::Latency { types: 1, first: 2, second: 2 }));
-    for id in 2..=16 {
-        print_answer(s.add(id, event(0x3C, 0, 2)));
-    }
-    refused(&mut s, |s, _| s.add(17, event(0x3C, 0, 2)));
-    refused(&mut s, |s, slice| s.turn(slice).map(|_| ()));
-}
-
 fn by_hand() {
-    println!("by hand");
     let mut queue = vec![Entry { id: 7, request: Request::Offcore { word: u64::MAX, allowed: u64::MAX } }; LIMIT];
     queue[1] = Entry { id: 7, request: Request::Latency { types: 0xFFFF, first: 4, second: u64::MAX } };
     queue[2] = Entry { id: 0, request: event(0xFF, 0xFF, 8) };
@@ -155,14 +87,5 @@ fn by_hand() {
 }
 
 fn main() {
-    println!("K");
-    let mut s = pinned();
-    print_answer(s.add(17, event(0xC0, 0, 1)));
-    try_j(&mut s);
-    println!("empty queue");
-    let mut empty = Session::new();
-    print_answer(empty.open(83, 14));
-    turn_and_print(&mut empty, &mut [0; LIST]);
-    refusals();
     by_hand();
 }

@@ -1,4 +1,4 @@
-// A session made by hand, with nonsense in it: every call answers by its definition.
+// Calls on a session with nonsense in it.
 use crate::calls::G;
 use crate::calls::added;
 use crate::calls::event;
@@ -54,7 +54,6 @@ fn nonsense() -> Session {
 }
 
 pub fn run() {
-    print::text(b"by hand\n");
     let session = nonsense();
     print::session(session);
     let reopened = open(session, opening(G, 15));
