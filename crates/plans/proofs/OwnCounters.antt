@@ -32,9 +32,9 @@ abbrev pub own : Setup → Setup
 own s = record { device = s .device; usable = ownSet (s .device) (s .usable) }
 
 -- the mask of all counters leaves the device's
-pub masked : (d : Device) (set : CounterSet) (all : ℕ) → all ≡ allCounters d → bitAnd (set .0) all ≡ ownSet d set .0
+pub masked : (d : Device) (set all : CounterSet) → all ≡ record { 0 = allCounters d } → bitAnd (set .0) (all .0) ≡ ownSet d set .0
 unfolding allCounters
-masked d set all e = rw e (and-mask (set .0) (counterCount d))
+masked d set all e = rw (ap (λ (x : CounterSet). x .0) e) (and-mask (set .0) (counterCount d))
 
 pub own-below : (d : Device) (set : CounterSet) → ownSet d set .0 < 2 ^ counterCount d
 own-below d set = mod-lt (set .0) (pow-pos (counterCount d))

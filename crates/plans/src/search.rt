@@ -17,8 +17,9 @@ pub fn plan_rows(setup: Setup, rows: &[u64; 32], count: usize) -> u64
 {
     let device = setup.device;
     let usable = setup.usable;
+    let all = all_counters(device);
     let left = Left {
-        free: CounterSet(usable.0 & all_counters(device)),
+        free: CounterSet(usable.0 & all.0),
         rsp0: 0,
         rsp1: 0,
         packet: 0,

@@ -23,18 +23,18 @@ searched s rows count free x e found = rw (found, e, whole-plan (own s) rows cou
 
 place-from-requires : tie.Need-place-from-requires
 place-from-requires c κs =
-    let s = c .before .before .before in
+    let s = c .before .before .before .before in
     let u = s .args .setup in (
       s .pre,
       omega arith,
       (omega arith, omega arith, omega arith),
-      rw (masked (u .device) (u .usable) _ (c .before .all-counters .ensures)) (own-below (u .device) (u .usable)),
+      rw (masked (u .device) (u .usable) _ (c .before .before .all-counters .ensures)) (own-below (u .device) (u .usable)),
     )
 
 returns : tie.Need-returns
 returns c =
-    let a = c .before .before .before .before .args in
-    searched (a .setup) (a .rows .now) (a .count) _ _ (masked (a .setup .device) (a .setup .usable) _ (c .before .before .all-counters .ensures)) (c .place-from .ensures)
+    let a = c .before .before .before .before .before .args in
+    searched (a .setup) (a .rows .now) (a .count) _ _ (masked (a .setup .device) (a .setup .usable) _ (c .before .before .before .all-counters .ensures)) (c .place-from .ensures)
 
 pub plan-rows-spec : {M : Type 1} → statement M
 plan-rows-spec = tie.close (tie.spec (λ c κs. search needs) place-from-requires returns)
