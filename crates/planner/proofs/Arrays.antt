@@ -1,12 +1,12 @@
 -- Laws on lists in their arrays, over any element type, number of places and filling: a value is stored in the first place past the list,
 -- and the places past it are filled one after another. Assumes nothing.
-use mathlib.Core.Path.{_≡_, refl, ap, _∙_}
+use mathlib.Core.Path.{_≡_, refl, ap}
 use Prim.Native.Nat.{ℕ, zero, suc, _+_, _-_, _<_, _≤_}
 use mathlib.Core.List.{List, [], _∷_, _++_, append-assoc}
 use native.Mathlib.Numerals.{add-one}
 use native.Mathlib.Omega.{arith}
 use lib.ListN.{length, take, set, replicate, length-append}
-use lib.Seq.{set-append-seam, append-snoc, take-at, take-suc-set}
+use lib.Seq.{set-append-seam, append-snoc, take-suc-set}
 use Rattle.planner.specs.Selections.{inArray}
 
 module _ {A : Type 0} (n : ℕ) (d : A) (l : List A) (k : ℕ) where
@@ -14,9 +14,6 @@ module _ {A : Type 0} (n : ℕ) (d : A) (l : List A) (k : ℕ) where
   array-push a p h =
       let m : n - length l ≡ suc (n - length (l ++ (a ∷ []))) = simp length-append (omega arith) in
       rw (p, m, set-append-seam, append-snoc)
-
-  pub array-take : k ≡ length l → take k (inArray n d l) ≡ l
-  array-take p = take-at l _ k (rw p)
 
 module _ {A : Type 0} (d : A) where
   replicate-next : (n : ℕ) → replicate n d ++ (d ∷ []) ≡ replicate (suc n) d

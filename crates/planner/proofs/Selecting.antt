@@ -1,7 +1,7 @@
 -- What the loop of a turn has made of the entries that it has gone through, and how one entry more is taken or passed over: by `taking`,
 -- since the number that the search answers is 0 exactly where there is no legal plan. Assumes nothing.
 use mathlib.Core.Path.{_≡_, ap, sym, _∙_}
-use Prim.Native.Nat.{ℕ, _+_, _^_, _≤_, _<_}
+use Prim.Native.Nat.{ℕ, _+_, _^_, _<_}
 use mathlib.Core.Option.{some}
 use mathlib.Core.List.{List, [], _∷_, _++_}
 use native.Mathlib.Decide.{decLt}
@@ -22,7 +22,7 @@ use Rattle.plans.proofs.ReachHolds.{reach}
 use Rattle.plans.proofs.Unpacking.{some-packed, plan-unpacked}
 use Rattle.plans.proofs.PartsHold.{parts}
 use Rattle.plans.proofs.PlanLengthHolds.{plan-length}
-use Rattle.sessions.specs.Turns.{requestsOf, taken, passed, placesOf}
+use Rattle.sessions.specs.Turns.{requestsOf, taken, placesOf}
 use Rattle.sessions.specs.Sessions.{vacant}
 use Rattle.planner.specs.declared.Chosen.{Chosen}
 use Rattle.planner.specs.Selections.{entriesAt, Searched, Selected}

@@ -90,13 +90,10 @@ pub fn select(
     let mut code = EMPTY_PLAN;
     let mut count: usize = 0;
     let mut rest: usize = 0;
-    let mut i = 0;
-    while i < n {
-        let at = i;
+    for at in 0..n {
         let entry = session.queue[at];
         let request = entry.request;
         let found = plan_with(setup, usable, left, rows, count, request);
-        i += 1;
         if found == 0 {
             passed[rest] = at;
             rest += 1;

@@ -1,5 +1,5 @@
 -- `planner::queue::with_entry` is the session with the entry at the back. The loop's invariant: the places past the entry are vacant up to i.
-use mathlib.Core.Path.{_≡_, refl, sym, ap, _∙_}
+use mathlib.Core.Path.{_≡_, refl, sym, _∙_}
 use mathlib.Core.List.{[], _∷_, _++_, append-nil}
 use Prim.Native.Nat.{_+_, _-_, _≤_}
 use borrow.Author.Needs.{needs}
@@ -7,7 +7,7 @@ use native.Mathlib.Numerals.{add-one}
 use native.Mathlib.Omega.{arith}
 use lib.ListN.{length, take, set, replicate, length-append, length-set, length-take}
 use lib.Seq.{take-suc-set}
-use Rattle.sessions.specs.Sessions.{vacant, queued, sessionOf}
+use Rattle.sessions.specs.Sessions.{vacant, queued}
 use Rattle.requests.proofs.Windows.{length-mapped}
 use Rattle.planner.proofs.Arrays.{filled-next}
 use Rattle.planner.proofs.Queues.{session-filled}

@@ -1,6 +1,7 @@
--- `planner::select::select` chooses what `Selected` says. The loop's invariant: so it has of the first i entries, and `left` has the sets
+-- `planner::select::select` chooses what `Selected` says. The loop's invariant: so it has of the entries before `at`, and `left` has the sets
 -- of counters that those taken leave.
 use mathlib.Core.Path.{_≡_, ap, sym, _∙_}
+use mathlib.Core.Logic.{⊎-elim}
 use Prim.Native.Nat.{ℕ, _+_, _-_, _≤_, _<_}
 use borrow.Author.Needs.{needs}
 use native.Mathlib.Omega.{arith}
@@ -16,13 +17,13 @@ use Rattle.planner.proofs.select.select.Statement.{statement}
 use Rattle.planner.proofs.select.select.Tie as tie
 
 abbrev Inv-loop : tie.InvT-loop
-Inv-loop rows₀ taken₀ passed₀ session setup n usable counters left₀ code₀ count₀ rest₀ i₀ rows taken passed left code count rest i =
-    (length (session .queue) ≡ 16) × (length rows ≡ 32) × (i ≤ n) × (count + rest ≡ i)
-    × Selected (session .setup) (session .queue) (take i (session .queue)) rows taken passed (record { code = code; count = count; rest = rest })
-    × (session .setup .usable .0 < 64 → left ≡ leftOf (session .setup) (requestsOf (takenBy (session .setup) (take i (session .queue)))))
+Inv-loop rows₀ taken₀ passed₀ session setup n usable counters left₀ code₀ count₀ rest₀ at₀ rows taken passed left code count rest at =
+    (length (session .queue) ≡ 16) × (length rows ≡ 32) × (at ≤ n) × (count + rest ≡ at)
+    × Selected (session .setup) (session .queue) (take at (session .queue)) rows taken passed (record { code = code; count = count; rest = rest })
+    × (session .setup .usable .0 < 64 → left ≡ leftOf (session .setup) (requestsOf (takenBy (session .setup) (take at (session .queue)))))
 
 abbrev μ-loop : tie.MeasureT-loop
-μ-loop rows₀ taken₀ passed₀ session setup n usable counters left₀ code₀ count₀ rest₀ i₀ rows taken passed left code count rest i = n - i
+μ-loop rows₀ taken₀ passed₀ session setup n usable counters left₀ code₀ count₀ rest₀ at₀ rows taken passed left code count rest at = n - at
 
 length-16 : (c : tie.Start Inv-loop μ-loop) → length (c .args .t1 .queue) ≡ 16
 length-16 c = search (length-mapped, needs)
@@ -47,9 +48,6 @@ plan-with-requires c κs =
     let u = c .before .before .before .before .before .before .usable-count .ensures in
     ((u, rw u (so-far .taken-usable), l .loop .inv .1), λ fits. l .loop .inv .5 fits ∙ ap (leftOf s) (sym (so-far .rows-taken)))
 
-add-i : tie.Need-add-i Inv-loop μ-loop
-add-i c = omega arith
-
 mul-passed : tie.Need-mul-passed Inv-loop μ-loop
 mul-passed c = omega arith
 
@@ -59,26 +57,6 @@ element-write-passed c = omega arith
 add-rest : tie.Need-add-rest Inv-loop μ-loop
 add-rest c = omega arith
 
-loop-less : tie.Need-loop-less Inv-loop μ-loop
-loop-less c = omega arith
-
-loop-again : tie.Need-loop-again Inv-loop μ-loop
-unfolding vacant
-loop-again c =
-    let l = c .before .before .before .before .before in
-    let v = l .loop .inv in
-    let q = c .before .before .before .before .before .before .before .before .before .before .before .args .t1 .queue in
-    let i = l .loop .i in
-    let search = c .before .plan-with .ensures in
-    let next = take-next q i vacant (omega arith) in (
-      v .0,
-      search .size,
-      omega arith,
-      omega arith,
-      rw next (selected-passes (v .4) i search (c .if1 .taken) (omega arith) (omega arith)),
-      rw next (left-passes (v .4) i search (v .5) (c .if1 .taken)),
-    )
-
 left-by-requires : tie.Need-left-by-requires Inv-loop μ-loop
 left-by-requires c κs = let few = reach .few (c .before .before .before .before .before .before .before .before .before .before .before .args .t1 .setup .device) in omega (arith, c .before .before .before .before .before .before .before .counter-count .ensures)
 
@@ -87,7 +65,7 @@ room : (c : tie.After-left-by Inv-loop μ-loop) → c .before .before .before .b
 unfolding vacant
 room c =
     let v = c .before .before .before .before .before .before .loop .inv in
-    taken-room (v .4) (c .before .before .before .before .before .before .loop .i) (c .before .before .plan-with .ensures) (c .before .if1 .left) .1
+    taken-room (v .4) (c .before .before .before .before .before .before .loop .at) (c .before .before .plan-with .ensures) (c .before .if1 .left) .1
 
 mul-taken : tie.Need-mul-taken Inv-loop μ-loop
 mul-taken c = let r = room c in omega arith
@@ -98,34 +76,49 @@ element-write-taken c = let r = room c in omega arith
 add-count : tie.Need-add-count Inv-loop μ-loop
 add-count c = omega arith
 
-loop-less-2 : tie.Need-loop-less-2 Inv-loop μ-loop
-loop-less-2 c = omega arith
+add-at : tie.Need-add-at Inv-loop μ-loop
+add-at c = omega arith
 
-loop-again-2 : tie.Need-loop-again-2 Inv-loop μ-loop
+loop-less : tie.Need-loop-less Inv-loop μ-loop
+loop-less c = omega arith
+
+loop-again : tie.Need-loop-again Inv-loop μ-loop
 unfolding vacant
-loop-again-2 c =
-    let l = c .before .before .before .before .before .before in
+loop-again c =
+    let l = c .before .before .before .before .before in
     let v = l .loop .inv in
-    let q = c .before .before .before .before .before .before .before .before .before .before .before .before .args .t1 .queue in
-    let i = l .loop .i in
-    let search = c .before .before .plan-with .ensures in
-    let exists = c .before .if1 .left in
+    let q = c .before .before .before .before .before .before .before .before .before .before .before .args .t1 .queue in
+    let i = l .loop .at in
+    let search = c .before .plan-with .ensures in
     let next = take-next q i vacant (omega arith) in
-    let less = c .left-by .ensures ∙ ap (λ (n : ℕ). leftBy n (getD q i vacant .request) (l .loop .left)) (c .before .before .before .before .before .before .before .before .counter-count .ensures) in (
+    ⊎-elim
+    (λ w.
+    rw (w .1, w .2, w .3, w .4, w .5, w .6) (
       v .0,
       search .size,
       omega arith,
       omega arith,
-      rw next (selected-takes (v .4) i search exists (omega arith) (omega arith)),
-      rw next (left-takes (v .4) i search (v .5) less exists),
-    )
+      rw next (selected-passes (v .4) i search (w .0 .taken) (omega arith) (omega arith)),
+      rw next (left-passes (v .4) i search (v .5) (w .0 .taken)),
+    ))
+    (λ w.
+    let less = w .1 .ensures ∙ ap (λ (n : ℕ). leftBy n (getD q i vacant .request) (l .loop .left)) (c .before .before .before .before .before .before .before .counter-count .ensures) in
+    rw (w .2, w .3, w .4, w .5, w .6, w .7) (
+      v .0,
+      search .size,
+      omega arith,
+      omega arith,
+      rw next (selected-takes (v .4) i search (w .0 .left) (omega arith) (omega arith)),
+      rw next (left-takes (v .4) i search (v .5) less (w .0 .left)),
+    ))
+    (c .if1 .came)
 
 returns : tie.Need-returns Inv-loop μ-loop
 unfolding queued
 returns c =
     let l = c .before in
     let s = c .before .before .before .before .before .before .before .args .t1 in
-    rw (← take-min (s .queue) (s .len) (l .loop .i) (omega arith)) (l .loop .inv .4)
+    rw (← take-min (s .queue) (s .len) (l .loop .at) (omega arith)) (l .loop .inv .4)
 
 pub select-spec : {M : Type 1} → statement M
 select-spec =
@@ -141,16 +134,14 @@ select-spec =
     mul-entry
     element-copy-out-entry
     plan-with-requires
-    add-i
     mul-passed
     element-write-passed
     add-rest
-    loop-less
-    loop-again
     left-by-requires
     mul-taken
     element-write-taken
     add-count
-    loop-less-2
-    loop-again-2
+    add-at
+    loop-less
+    loop-again
     returns)

@@ -1,5 +1,4 @@
 -- `planner::turn::turn` is `turnOf`, and leaves `turnSlice`: a law for each return, by the tests that led there and the writer's answer.
-use mathlib.Core.Path.{_≡_}
 use Prim.Native.Nat.{min}
 use borrow.Author.Needs.{needs}
 use native.Mathlib.Omega.{arith}

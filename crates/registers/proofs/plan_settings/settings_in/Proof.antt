@@ -1,11 +1,10 @@
 -- `settings_in` goes from the last row to the first: the values are those of the rows from `left` on.
-use mathlib.Core.Path.{_≡_, ap, _∙_}
+use mathlib.Core.Path.{_≡_, _∙_}
 use Prim.Native.Nat.{_≤_, min}
 use native.Mathlib.Nat.{sub-zero}
 use native.Mathlib.Omega.{arith}
 use borrow.Author.Needs.{needs}
 use Rattle.requests.specs.Devices.{capacity}
-use Rattle.registers.specs.Adding.{settingsWith}
 use Rattle.registers.proofs.PlanSteps.{settingsFrom, rows-past, rows-before}
 use Rattle.registers.proofs.plan_settings.settings_in.Statement.{statement}
 use Rattle.registers.proofs.plan_settings.settings_in.Tie as tie
