@@ -1,7 +1,7 @@
 -- A call is refused by the first row that applies, and accepted where none does. Assumes nothing.
---     exact            the conditions of a call's rows are document 01's
---     numbered         a row that applies is one of them
---     in-order         they stand in the order in which they are checked
+--     in-order         the rows of a call stand in the order in which they are checked
+--     exact            their conditions are document 01's
+--     numbered         and a row that applies is one of them
 --     refusal-table    so the table says what document 01 says
 use mathlib.Core.Path.{_≡_, refl}
 use mathlib.Core.Logic.{_↔_}
@@ -23,6 +23,18 @@ use Rattle.sessions.specs.Sessions.{queueLimit}
 use Rattle.sessions.specs.RefusalTable.{Applies, add-before, drop-before, turn-before, second-open, no-setup, add-id, drop-id, id-waits, id-not-waits, kind, not-listed, lacks, range, conflict, alone, full, short, RefusalTable}
 use Rattle.sessions.proofs.Fair.{numbers, Exact, inOrder, Fair, fair-some, fair-none}
 use Rattle.sessions.proofs.Conditions.{not-test, setup-test, id-test, waits-test, alone-test, full-test, short-test}
+
+-- "Checked in the order 1, 2, 3, .."
+in-order : (limit : ℕ) (p : Plain) (c : Call) → inOrder (numbers (table limit p c)) (numbers (table limit p c)) checkOrder ≡ true
+unfolding table beforeOpen onceOpen openRows addRows requestRows dropRows turnRows numberOf checkOrder inOrder inList both either
+in-order limit notOpen (Open o) = refl
+in-order limit notOpen (Add id r) = refl
+in-order limit notOpen (Drop id) = refl
+in-order limit notOpen (Turn room) = refl
+in-order limit (opened s q) (Open o) = refl
+in-order limit (opened s q) (Add id r) = refl
+in-order limit (opened s q) (Drop id) = refl
+in-order limit (opened s q) (Turn room) = refl
 
 -- a row that applies in any case
 always : {A : Type 0} → A → (true ≡ true) ↔ A
@@ -80,18 +92,6 @@ numbered (conflict e) = refl
 numbered (alone e) = refl
 numbered (full e) = refl
 numbered (short f l) = refl
-
--- "Checked in the order 1, 2, 3, .."
-in-order : (limit : ℕ) (p : Plain) (c : Call) → inOrder (numbers (table limit p c)) (numbers (table limit p c)) checkOrder ≡ true
-unfolding table beforeOpen onceOpen openRows addRows requestRows dropRows turnRows numberOf checkOrder inOrder inList both either
-in-order limit notOpen (Open o) = refl
-in-order limit notOpen (Add id r) = refl
-in-order limit notOpen (Drop id) = refl
-in-order limit notOpen (Turn room) = refl
-in-order limit (opened s q) (Open o) = refl
-in-order limit (opened s q) (Add id r) = refl
-in-order limit (opened s q) (Drop id) = refl
-in-order limit (opened s q) (Turn room) = refl
 
 fair : (limit : ℕ) (p : Plain) (c : Call) → Fair (Applies limit p c) (table limit p c)
 fair limit p c = record { exact = exact limit p c; only = λ n a. numbered a; ordered = in-order limit p c }
