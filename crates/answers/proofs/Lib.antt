@@ -7,6 +7,7 @@ pub mod LinesAreCalls
 pub mod LineLists
 pub mod LinesAnswered
 pub mod LinesSay
+pub mod OutputSays
 pub mod GivenTo
 pub mod Demand3OfLines
 pub mod NeverShort

@@ -1,9 +1,10 @@
 -- Lists of lines and the calls that they make. Assumes nothing.
---     session-by       lines leave the session that their calls leave
+--     session-by, stands-after   lines leave the session that their calls leave, which stands for the plain queue of these
 --     calls-append, run-append   two lists one after the other
 --     calls-split      a call among those of lines, and its line
 --     askable-after    each request that lines leave waiting is one that a line can add
 use mathlib.Core.Path.{_≡_, refl, ap, sym, _∙_}
+use mathlib.Core.Bool.{false}
 use mathlib.Core.List.{List, [], _∷_, _++_, flatMap, append-assoc}
 use mathlib.Core.Option.{Option, none, some}
 use Prim.Native.Nat.{ℕ}
@@ -20,7 +21,8 @@ use Rattle.sessions.specs.Calls.{Call, Plain, notOpen, opened, waiting}
 use Rattle.sessions.specs.Calls as calls
 use Rattle.sessions.specs.Table.{refusal}
 use Rattle.sessions.specs.Plain.{change, step, run}
-use Rattle.sessions.specs.Sessions.{queueLimit, sessionAfter, queueAfter}
+use Rattle.sessions.specs.Sessions.{queueLimit, plainOf, sessionAfter, queueAfter}
+use Rattle.sessions.proofs.Agreed.{agreement}
 use Rattle.sessions.proofs.Steps.{step-accepted, step-refused}
 use Rattle.sessions.proofs.Rearranged.{all-turned}
 use Rattle.sessions.proofs.Removed.{all-removed}
@@ -48,6 +50,10 @@ pub session-by : (s : Session) (lines : List (List ℕ)) → sessionBy s lines �
 unfolding sessionBy callsBy sessionAfter answerLine flatMap
 session-by s [] = refl
 session-by s (line ∷ lines) = session-by (answerLine s line .session) lines ∙ sym (line-session s (parseLine line) (callsBy lines))
+
+-- it stands for the plain queue of the calls
+pub stands-after : (start : Session) → start .opened ≡ false → (lines : List (List ℕ)) → plainOf (sessionBy start lines) ≡ queueAfter (callsBy lines)
+stands-after start closed lines = ap plainOf (session-by start lines) ∙ agreement .stands start closed (callsBy lines)
 
 -- ---- two lists one after the other
 

@@ -14,7 +14,7 @@ use Rattle.records.specs.declared.Record.the-variants.{Open, Add, Drop, Turn}
 use Rattle.answers.specs.Replies.{answerText, takeLines, setLines, turnRoom, replyOf, turnReply, recordReply}
 use Rattle.answers.specs.Reader.{Answers, replySays}
 use Rattle.answers.specs.LinesAreCalls.{callOf, LinesAreCalls}
-use Rattle.answers.proofs.ReadLines.{whole-reads, answer-reads}
+use Rattle.answers.proofs.ReadLines.{answer-reads}
 use Rattle.answers.proofs.TurnsSaid.{turn-said}
 
 left : (s : Session) (r : Record) → recordReply s r .session ≡ nextSession s (callOf r)
@@ -37,9 +37,9 @@ answers-last s Turn = (told s, refl)
 
 answered-alone : (s : Session) (r : Record) → r ≢ Turn → replySays (recordReply s r .text) ≡ some (Answers (answerNumber (answerTo s (callOf r))) ∷ [])
 unfolding recordReply replyOf answerTo callOf
-answered-alone s (Open d u) h = whole-reads (answer-reads (openOf s (record { device = letterOf d; usable = u }) .answer))
-answered-alone s (Add id r) h = whole-reads (answer-reads (addOf s id r .answer))
-answered-alone s (Drop id) h = whole-reads (answer-reads (dropOf s id .answer))
+answered-alone s (Open d u) h = answer-reads (openOf s (record { device = letterOf d; usable = u }) .answer) .says
+answered-alone s (Add id r) h = answer-reads (addOf s id r .answer) .says
+answered-alone s (Drop id) h = answer-reads (dropOf s id .answer) .says
 answered-alone s Turn h = absurd (h refl)
 
 pub lines-are-calls : LinesAreCalls

@@ -33,7 +33,7 @@ use Rattle.answers.proofs.SliceFits.{turn-goes}
 use Rattle.answers.proofs.TurnsSaid.{closed-says, opened-says}
 use Rattle.answers.proofs.LinesAreCalls.{lines-are-calls}
 use Rattle.answers.proofs.LinesAnswered.{lines-answered}
-use Rattle.answers.proofs.LineLists.{session-by, askable-after}
+use Rattle.answers.proofs.LineLists.{session-by, stands-after, askable-after}
 
 module _ (start : Session) (closed : start .opened ≡ false) (lines : List (List ℕ)) where
   -- the session and the plain queue there
@@ -45,7 +45,7 @@ module _ (start : Session) (closed : start .opened ≡ false) (lines : List (Lis
 
   stands : plainOf here ≡ queue
   unfolding here queue
-  stands = ap plainOf (session-by start lines) ∙ agreement .stands start closed (callsBy lines)
+  stands = stands-after start closed lines
 
   -- a record's text is answered as the record
   reply-is : (r : Record) → Fits r → replyAfter start lines (recordText r) ≡ recordReply here r .text

@@ -1,10 +1,10 @@
--- What a reader makes of the lines of a reply: each says what it was written from, before whatever follows it. Assumes nothing.
---     Reads                                   a text says these things before whatever follows it
---     nothing-reads, then-reads, joined-reads, whole-reads    texts one after another
+-- What a reader makes of the lines of a reply: each says what it was written from, and texts one after another say what each says. Assumes nothing.
+--     says-append                             texts one after another say what each says
+--     Reads, nothing-reads, then-reads, joined-reads    the same as a type
 --     take-reads, set-reads, answer-reads     the lines of a reply
-use mathlib.Core.Path.{_≡_, refl, ap, sym, _∙_}
+use mathlib.Core.Path.{_≡_, refl}
 use mathlib.Core.Bool.{Bool, true, false}
-use mathlib.Core.List.{List, [], _∷_, _++_, flatMap, append-assoc, append-nil}
+use mathlib.Core.List.{List, [], _∷_, _++_, flatMap}
 use mathlib.Core.Option.{Option, none, some}
 use Prim.Native.Nat.{ℕ}
 use native.Mathlib.Omega.{arith}
@@ -18,14 +18,14 @@ use Rattle.requests.specs.Refusals.{numberOf, answerNumber}
 use Rattle.plans.specs.Lists.{All, nil, cons}
 use Rattle.records.specs.Text.{bytes, tab, newline, hexText, decimalText, lineOf}
 use Rattle.records.specs.Records.{Decimal, Hex}
-use Rattle.records.specs.Fields.{onto, sameBytes}
+use Rattle.records.specs.Fields.{onto, fields, sameBytes}
 use Rattle.records.specs.Numbers.{digitOf, numberFrom, decimalOf}
 use Rattle.records.proofs.Decimals.{decimal-reads}
 use Rattle.records.proofs.Hexes.{hex-reads}
 use Rattle.records.proofs.Tabs.{lacks, Lacking, lacks-parts, oneField, Plain, Plains, none, more, Written, written}
 use Rattle.records.proofs.Texts.{decimal-plain, hex-plain}
 use Rattle.answers.specs.Replies.{answerText, registerText}
-use Rattle.answers.specs.Reader.{Said, Takes, Sets, Answers, takeSays, setSays, noSays, fieldsSay, linesOf, linesSay, replySays}
+use Rattle.answers.specs.Reader.{Said, Takes, Sets, Answers, takeSays, setSays, noSays, fieldsSay, linesOf, endSays, saidBefore, linesSay, replySays}
 
 -- ---- lines of a text
 
@@ -40,33 +40,86 @@ some-line (b ∷ t) = go (eqb b newline) (some-line t)
     go true s = ([], linesOf t, refl)
     go false (f, fs, e) = (b ∷ f, fs, rw e)
 
--- a run of bytes without a newline is the first line before one
-first-line : (f t : List ℕ) → lacks newline f ≡ true → linesOf (f ++ newline ∷ t) ≡ f ∷ linesOf t
+-- a run of bytes without a newline, closed by one, is one line
+one-line : (f : List ℕ) → lacks newline f ≡ true → linesOf (f ++ newline ∷ []) ≡ f ∷ [] ∷ []
 unfolding linesOf newline
-first-line [] t h = refl
-first-line (b ∷ f) t h = let s : Lacking newline b f = lacks-parts newline b f h in rw (s .first, first-line f t (s .others))
+one-line [] h = refl
+one-line (b ∷ f) h = let s : Lacking newline b f = lacks-parts newline b f h in rw (s .first, one-line f (s .others))
+
+-- the parts of two texts, where the last of the first and the first of the second are one
+glued : List (List ℕ) → List ℕ → List (List ℕ) → List (List ℕ)
+glued [] g gs = g ∷ gs
+glued (f ∷ []) g gs = (f ++ g) ∷ gs
+glued (f ∷ next ∷ fs) g gs = f ∷ glued (next ∷ fs) g gs
+
+onto-glued : (b : ℕ) (f : List ℕ) (fs : List (List ℕ)) (g : List ℕ) (gs : List (List ℕ)) → onto b (glued (f ∷ fs) g gs) ≡ glued (onto b (f ∷ fs)) g gs
+unfolding glued
+onto-glued b f [] g gs = refl
+onto-glued b f (next ∷ fs) g gs = refl
+
+lines-append : (a t g : List ℕ) (gs : List (List ℕ)) → linesOf t ≡ g ∷ gs → linesOf (a ++ t) ≡ glued (linesOf a) g gs
+unfolding linesOf glued
+lines-append [] t g gs e = e
+lines-append (b ∷ a) t g gs e = go (eqb b newline) (some-line a) (lines-append a t g gs e)
+  where
+    go : (x : Bool) → (f : List ℕ) × (fs : List (List ℕ)) × (linesOf a ≡ f ∷ fs) → linesOf (a ++ t) ≡ glued (linesOf a) g gs
+        → pick x ([] ∷ linesOf (a ++ t)) (onto b (linesOf (a ++ t))) ≡ glued (pick x ([] ∷ linesOf a) (onto b (linesOf a))) g gs
+    go true (f, fs, s) ih = rw (ih, s)
+    go false (f, fs, s) ih = rw (ih, s) (onto-glued b f fs g gs)
 
 -- ---- texts one after another
 
--- the text says these things before whatever follows it
+some-glued : (parts : List (List ℕ)) (g : List ℕ) (gs : List (List ℕ)) → (h : List ℕ) × (hs : List (List ℕ)) × (glued parts g gs ≡ h ∷ hs)
+unfolding glued
+some-glued [] g gs = (g, gs, refl)
+some-glued (f ∷ []) g gs = (f ++ g, gs, refl)
+some-glued (f ∷ next ∷ fs) g gs = (f, glued (next ∷ fs) g gs, refl)
+
+-- what is behind the last newline, and what follows it
+end-say : (line g : List ℕ) (gs : List (List ℕ)) (xs ys : List Said) → endSays line ≡ some xs → linesSay (g ∷ gs) ≡ some ys → linesSay ((line ++ g) ∷ gs) ≡ some (xs ++ ys)
+end-say [] g gs xs ys e f = let is : [] ≡ xs = cc in rw (← is) f
+end-say (b ∷ line) g gs xs ys e f = let z : _≡_ {A = ℕ} 0 1 = cc in absurd (omega arith)
+
+-- lines that are all closed, and what follows them
+glued-say : (parts : List (List ℕ)) (g : List ℕ) (gs : List (List ℕ)) (xs ys : List Said)
+    → linesSay parts ≡ some xs → linesSay (g ∷ gs) ≡ some ys → linesSay (glued parts g gs) ≡ some (xs ++ ys)
+unfolding linesSay glued
+glued-say [] g gs xs ys e f = let z : _≡_ {A = ℕ} 0 1 = cc in absurd (omega arith)
+glued-say (line ∷ []) g gs xs ys e f = end-say line g gs xs ys e f
+glued-say (line ∷ next ∷ fs) g gs xs ys e f =
+    go (fieldsSay (fields line)) refl (linesSay (next ∷ fs)) refl e (λ zs d. glued-say (next ∷ fs) g gs zs ys d f) (some-glued (next ∷ fs) g gs)
+  where
+    go : (x : Option Said) → fieldsSay (fields line) ≡ x → (zs : Option (List Said)) → linesSay (next ∷ fs) ≡ zs → saidBefore x zs ≡ some xs
+        → ((zs : List Said) → linesSay (next ∷ fs) ≡ some zs → linesSay (glued (next ∷ fs) g gs) ≡ some (zs ++ ys))
+        → (h : List ℕ) × (hs : List (List ℕ)) × (glued (next ∷ fs) g gs ≡ h ∷ hs) → linesSay (line ∷ glued (next ∷ fs) g gs) ≡ some (xs ++ ys)
+    go (some x) p (some zs) q d below (h, hs, s) =
+        let is : x ∷ zs ≡ xs = cc in
+        let rest : linesSay (h ∷ hs) ≡ some (zs ++ ys) = rw s at (below zs q) in
+        rw (s, p, rest, ← is)
+    go (some x) p none q d below s = let z : _≡_ {A = ℕ} 0 1 = cc in absurd (omega arith)
+    go none p zs q d below s = let z : _≡_ {A = ℕ} 0 1 = cc in absurd (omega arith)
+
+pub says-append : (a b : List ℕ) (xs ys : List Said) → replySays a ≡ some xs → replySays b ≡ some ys → replySays (a ++ b) ≡ some (xs ++ ys)
+unfolding replySays
+says-append a b xs ys e f =
+    let (g, gs, s) = some-line b in
+    rw (lines-append a b g gs s) (glued-say (linesOf a) g gs xs ys e (rw s at f))
+
+-- the text says these things
 pub record Reads (text : List ℕ) (xs : List Said) : Type 0 where
-  pub before : (t : List ℕ) (ys : List Said) → replySays t ≡ some ys → replySays (text ++ t) ≡ some (xs ++ ys)
+  pub says : replySays text ≡ some xs
 
 pub nothing-reads : Reads [] []
-nothing-reads = record { before = λ t ys e. e }
+unfolding replySays linesSay linesOf
+nothing-reads = record { says = refl }
 
 pub then-reads : {a b : List ℕ} {xs ys : List Said} → Reads a xs → Reads b ys → Reads (a ++ b) (xs ++ ys)
-then-reads {a} {b} {xs} {ys} f g = record { before = λ t zs e. rw (append-assoc a b t, append-assoc xs ys zs) (f .before (b ++ t) (ys ++ zs) (g .before t zs e)) }
+then-reads {a} {b} {xs} {ys} f g = record { says = says-append a b xs ys (f .says) (g .says) }
 
 pub joined-reads : {A : Type 0} (f : A → List ℕ) (g : A → List Said) {l : List A} → All (λ (a : A). Reads (f a) (g a)) l → Reads (flatMap f l) (flatMap g l)
 unfolding flatMap
 joined-reads f g nil = nothing-reads
 joined-reads f g (cons h hs) = then-reads h (joined-reads f g hs)
-
--- nothing follows
-pub whole-reads : {text : List ℕ} {xs : List Said} → Reads text xs → replySays text ≡ some xs
-unfolding replySays linesSay linesOf
-whole-reads {text} {xs} f = sym (ap replySays (append-nil text)) ∙ f .before [] [] refl ∙ ap some (append-nil xs)
 
 -- ---- a line
 
@@ -75,12 +128,7 @@ line-reads : (f : List ℕ) (fs : List (List ℕ)) (x : Said) → oneField f ≡
 unfolding replySays linesSay
 line-reads f fs x one plain says =
     let w : Written f fs = written f fs one plain in
-    record {
-      before = λ t ys e.
-          let (next, lines, split) = some-line t in
-          let rest : linesSay (next ∷ lines) ≡ some ys = rw split at e in
-          rw (w .line, append-assoc, first-line (w .text) t (w .one-line), split, w .parts, says, rest);
-    }
+    record { says = rw (w .line, one-line (w .text) (w .one-line), w .parts, says) }
 
 -- a register that is printed
 abbrev pub RegisterFits : Option ℕ → Type 0

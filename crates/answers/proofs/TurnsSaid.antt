@@ -44,7 +44,7 @@ use Rattle.records.specs.declared.Record.the-variants.{Turn}
 use Rattle.answers.specs.Replies.{registerText, takeLines, setLines, turnRoom, turnReply, recordReply}
 use Rattle.answers.specs.Reader.{Takes, Answers, replySays}
 use Rattle.answers.specs.LinesAreCalls.{takesOf, setsOf, Askable, TurnSays}
-use Rattle.answers.proofs.ReadLines.{Reads, nothing-reads, then-reads, joined-reads, whole-reads, RegisterFits, take-reads, set-reads, answer-reads}
+use Rattle.answers.proofs.ReadLines.{Reads, nothing-reads, then-reads, joined-reads, RegisterFits, take-reads, set-reads, answer-reads}
 use Rattle.answers.proofs.WriteWidths.{WordsFit, words-fit, WriteFits, writes-fit}
 use Rattle.answers.proofs.SliceFits.{turn-goes}
 
@@ -116,7 +116,7 @@ turn-reads : (a : TurnAnswered) (slice : List ℕ) (ws : List Write) → All Ass
     → replySays (turnReply a slice .text) ≡ some (takesOf (planOf a) ++ setsOf ws ++ Answers (answerNumber (a .answer)) ∷ [])
 unfolding turnReply
 turn-reads a slice ws plan list is =
-    rw (← is) (whole-reads (then-reads (then-reads (plan-read (planOf a) plan) (sets-read list)) (answer-reads (a .answer))))
+    rw (← is) (then-reads (then-reads (plan-read (planOf a) plan) (sets-read list)) (answer-reads (a .answer)) .says)
 
 -- what is taken of a queue can be asked for as the queue can
 taken-askable : (s : Setup) (q : List Entry) → Askable q → Askable (taken s q)
@@ -146,7 +146,7 @@ module _ (s : Session) (same : plainOf s ≡ notOpen) where
   pub closed-says : replySays (recordReply s Turn .text) ≡ some (Answers (some (numberOf CallOrder)) ∷ [])
   unfolding recordReply turnReply takesOf flatMap setLines answerNumber
   closed-says =
-      rw (unchanged .plan s turnRoom CallOrder refused, unchanged .writes s turnRoom CallOrder refused, refused) (whole-reads (answer-reads (Refused CallOrder)))
+      rw (unchanged .plan s turnRoom CallOrder refused, unchanged .writes s turnRoom CallOrder refused, refused) (answer-reads (Refused CallOrder) .says)
 
 -- afterwards they are those of the requests taken
 module _ (s : Session) (t : Setup) (q : List Entry) (same : plainOf s ≡ opened t q) (askable : Askable q) where

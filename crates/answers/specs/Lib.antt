@@ -9,4 +9,5 @@ pub mod LinesAnswered
 pub mod LinesAreCalls
 pub mod LineLists
 pub mod LinesSay
+pub mod OutputSays
 pub mod Demand3OfLines
