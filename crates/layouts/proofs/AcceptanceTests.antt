@@ -6,7 +6,7 @@ use Rattle.requests.specs.Bits.{bit, inList, anyBit, onlyBits, typeBits, anyRes
 use Rattle.requests.specs.Catalogue.{allows, eventsOf, codeIn, pairIn, maskNotListed}
 use Rattle.requests.specs.Checks.{kindNotOn, notListed, tooWide, outOfRange, incomplete, conflicting, requestRows, requestRefusal, formed}
 use Rattle.requests.specs.Choice.{both, either, every, firstHolding}
-use Rattle.requests.specs.Devices.{has, capacity, counterCount, allCounters, letterOf, deviceOf, usableSet, setupOf}
+use Rattle.requests.specs.Devices.{has, capacity, counterCount, allCounters, letterOf, devices, named, deviceOf, packetsOn, offcoreOn, pairsJudged, usableSet, setupOf}
 use Rattle.requests.specs.Refusals.{numberOf, answerNumber}
 use Rattle.plans.specs.Legal.{wordsOf, packetsOf, ofAll, counters}
 use Rattle.plans.specs.Places.{countedOf, countersOf, first, second}
@@ -22,11 +22,11 @@ unfolding flatMap bit inList anyResponse outstanding latencyWord either has capa
 written = refl
 
 told-as : map (λ (e : AcceptedAs). toldBy (readingFor (e .given))) acceptances ≡ map tellsOf acceptances
-unfolding bit inList anyBit onlyBits typeBits anyResponse answerBits outstanding rsp1Bits rsp0Bits latencyWord allows eventsOf codeIn pairIn maskNotListed kindNotOn notListed tooWide outOfRange incomplete conflicting requestRows requestRefusal formed both either every firstHolding has capacity counterCount allCounters letterOf deviceOf usableSet setupOf readingFor acceptances tellsOf tabulate mmEnable enabled eventWord codeOf maskOf offcoreCode rspMask rspWord packetWord ours count filterWord controlFits rsp1Fits latencyFits rsp0Fits filtersFit accepts filterOf tell readingOf refusedReading readOf setFrom told toldBy unusable firstGlobal lastGlobal
+unfolding bit inList anyBit onlyBits typeBits anyResponse answerBits outstanding rsp1Bits rsp0Bits latencyWord allows eventsOf codeIn pairIn maskNotListed kindNotOn notListed tooWide outOfRange incomplete conflicting requestRows requestRefusal formed both either every firstHolding has capacity counterCount allCounters letterOf devices named deviceOf packetsOn offcoreOn pairsJudged usableSet setupOf readingFor acceptances tellsOf tabulate mmEnable enabled eventWord codeOf maskOf offcoreCode rspMask rspWord packetWord ours count filterWord controlFits rsp1Fits latencyFits rsp0Fits filtersFit accepts filterOf tell readingOf refusedReading readOf setFrom told toldBy unusable firstGlobal lastGlobal
 told-as = refl
 
 numbered : map (λ (e : RefusedAs). answerNumber (readingFor (e .given) .answer)) refusals ≡ map (λ (e : RefusedAs). some (e .number)) refusals
-unfolding bit inList anyBit onlyBits typeBits anyResponse answerBits outstanding rsp1Bits rsp0Bits latencyWord allows eventsOf codeIn pairIn maskNotListed kindNotOn notListed tooWide outOfRange incomplete conflicting requestRows requestRefusal formed both either every firstHolding has capacity counterCount allCounters letterOf deviceOf usableSet setupOf numberOf answerNumber readingFor refusals tabulate mmEnable enabled eventWord codeOf maskOf offcoreCode rspMask rspWord packetWord ours count filterWord controlFits rsp1Fits latencyFits rsp0Fits filtersFit accepts filterOf tell readingOf refusedReading readOf setFrom unusable firstGlobal lastGlobal
+unfolding bit inList anyBit onlyBits typeBits anyResponse answerBits outstanding rsp1Bits rsp0Bits latencyWord allows eventsOf codeIn pairIn maskNotListed kindNotOn notListed tooWide outOfRange incomplete conflicting requestRows requestRefusal formed both either every firstHolding has capacity counterCount allCounters letterOf devices named deviceOf packetsOn offcoreOn pairsJudged usableSet setupOf numberOf answerNumber readingFor refusals tabulate mmEnable enabled eventWord codeOf maskOf offcoreCode rspMask rspWord packetWord ours count filterWord controlFits rsp1Fits latencyFits rsp0Fits filtersFit accepts filterOf tell readingOf refusedReading readOf setFrom unusable firstGlobal lastGlobal
 numbered = refl
 
 pub examples-hold : Examples

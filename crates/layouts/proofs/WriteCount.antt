@@ -14,7 +14,7 @@ use Rattle.requests.specs.declared.Device.the-variants.{G, S}
 use Rattle.requests.specs.declared.Setup.{Setup}
 use Rattle.requests.specs.declared.Request.the-variants.{Event, Packet}
 use Rattle.requests.specs.Bits.{bit, inList}
-use Rattle.requests.specs.Devices.{has, counterCount, capacity, allCounters}
+use Rattle.requests.specs.Devices.{has, counterCount, capacity, allCounters, packetsOn, offcoreOn, pairsJudged}
 use Rattle.requests.specs.Catalogue.{allows, eventsOf, codeIn, pairIn, maskNotListed}
 use Rattle.requests.specs.Checks.{kindNotOn, notListed, tooWide, outOfRange, incomplete, conflicting, requestRows, requestRefusal}
 use Rattle.plans.specs.declared.Place.{Place}
@@ -84,7 +84,7 @@ apart =
 
 -- a device's longest list: four events, the first of them a packet event where the device has one
 reached : (d : Device) → Reached d
-unfolding setup places all both either firstHolding allows eventsOf codeIn pairIn maskNotListed kindNotOn notListed tooWide outOfRange incomplete conflicting requestRows requestRefusal writeLimit allCounters counterCount has bit ofAll usesOf wordsOf flatMap packetsOf counters countersOf countedOf settingsOf setFrom inList tabulate capacity layoutOf rows filterWrites offcoreWrites packetWrites writesFor writes
+unfolding setup places all both either firstHolding packetsOn offcoreOn pairsJudged allows eventsOf codeIn pairIn maskNotListed kindNotOn notListed tooWide outOfRange incomplete conflicting requestRows requestRefusal writeLimit allCounters counterCount has bit ofAll usesOf wordsOf flatMap packetsOf counters countersOf countedOf settingsOf setFrom inList tabulate capacity layoutOf rows filterWrites offcoreWrites packetWrites writesFor writes
 reached G =
     record {
       setup = setup G;

@@ -10,6 +10,7 @@ use lib.Dec.{eqb}
 use borrow.Author.Tests.{not-true, eqb-true, eqb-false, ne-eqb, ltb-true, lt-ltb}
 use Rattle.requests.specs.Choice.{both, either}
 use Rattle.requests.specs.Bits.{anyBit, typeBits, anyResponse, answerBits, outstanding, rsp0Bits}
+use Rattle.requests.specs.Devices.{packetsOn, offcoreOn, pairsJudged}
 use Rattle.requests.specs.Catalogue.{MaskRule, range, eventsOf, codeIn, maskNotListed}
 use Rattle.requests.specs.Checks.{kindNotOn, notListed, tooWide, outOfRange, incomplete, conflicting}
 use Rattle.requests.specs.RefusedRequests.{Lists, InCatalogue, TypesIn, offcore-word, latency-types, AllowedSet, of-event, of-packet, of-offcore, first-of-latency, second-of-latency, KindNotOn, packet-on-G, offcore-on-S, latency-on-S, NotListed, pair, code, Incomplete, mask-0, no-type, no-response, OutOfRange, mask-above, word-bit, type-bit, wide-set, Conflicting, bit-38, bit-16, RefusedRequests}
@@ -25,7 +26,7 @@ use Rattle.requests.proofs.CatalogueRows.{code-row, row-code, pair-row,
 -- ---- 7
 
 kind-applies : (d : Device) (r : Request) → kindNotOn d r ≡ true → KindNotOn d r
-unfolding kindNotOn
+unfolding kindNotOn packetsOn offcoreOn
 kind-applies d (Event c m a) h = absurd (false≢true h)
 kind-applies G (Packet x y a) h = packet-on-G
 kind-applies S (Packet x y a) h = absurd (false≢true h)
@@ -35,7 +36,7 @@ kind-applies G (Latency t a b) h = absurd (false≢true h)
 kind-applies S (Latency t a b) h = latency-on-S
 
 kind-holds : (d : Device) (r : Request) → KindNotOn d r → kindNotOn d r ≡ true
-unfolding kindNotOn
+unfolding kindNotOn packetsOn offcoreOn
 kind-holds d r packet-on-G = refl
 kind-holds d r offcore-on-S = refl
 kind-holds d r latency-on-S = refl
@@ -43,7 +44,7 @@ kind-holds d r latency-on-S = refl
 -- ---- 8
 
 listed-applies : (d : Device) (r : Request) → notListed d r ≡ true → NotListed d r
-unfolding notListed
+unfolding notListed pairsJudged
 listed-applies G (Event c m a) h = pair (λ p. both-ways (row-pair (eventsOf G) c m (p .0) (p .1) (p .2)) (not-true _ h))
 listed-applies S (Event c m a) h = code (λ p. both-ways (row-code (eventsOf S) c (p .0) (p .1)) (not-true _ h))
 listed-applies d (Packet x y a) h = absurd (false≢true h)
@@ -51,7 +52,7 @@ listed-applies d (Offcore w a) h = absurd (false≢true h)
 listed-applies d (Latency t a b) h = absurd (false≢true h)
 
 listed-holds : (d : Device) (r : Request) → NotListed d r → notListed d r ≡ true
-unfolding notListed
+unfolding notListed pairsJudged
 listed-holds d r (pair {c = c} {m = m} none) = ap not (eq-false-of-not-eq-true (λ h. none (pair-row (eventsOf G) c m h)))
 listed-holds d r (code {c = c} none) = ap not (eq-false-of-not-eq-true (λ h. none (code-row (eventsOf S) c h)))
 
@@ -59,14 +60,14 @@ listed-holds d r (code {c = c} none) = ap not (eq-false-of-not-eq-true (λ h. no
 
 -- a code that is listed, but not with the mask
 mask-row : (c m : ℕ) → maskNotListed S c m ≡ true → (masks : MaskRule) × InCatalogue S c masks × (¬ Lists masks m)
-unfolding maskNotListed
+unfolding maskNotListed pairsJudged both
 mask-row c m h =
     let p = both-parts (codeIn (eventsOf S) c) _ h in
     let row = code-row (eventsOf S) c (p .0) in
     (row .0, row .1, λ l. both-ways (row-pair (eventsOf S) c m (row .0) (row .1) l) (not-true _ (p .1)))
 
 row-mask : (c m : ℕ) (masks : MaskRule) → InCatalogue S c masks → ¬ Lists masks m → maskNotListed S c m ≡ true
-unfolding maskNotListed
+unfolding maskNotListed pairsJudged both
 row-mask c m masks row out =
     true-both _ _ (row-code (eventsOf S) c masks row) (ap not (eq-false-of-not-eq-true (λ h. other (pair-row (eventsOf S) c m h))))
   where
@@ -81,8 +82,8 @@ types-none r w d offcore-word h = rw h
 types-none r w d latency-types h = ap not h
 
 lacks-applies : (d : Device) (r : Request) → incomplete d r ≡ true → Incomplete d r
-unfolding incomplete maskNotListed
-lacks-applies G (Event c m a) h = absurd (false≢true (both-parts _ _ h .1))
+unfolding incomplete maskNotListed pairsJudged both
+lacks-applies G (Event c m a) h = absurd (false≢true (both-parts (eqb m 0) (maskNotListed G c m) h .1))
 lacks-applies S (Event c m a) h =
     let p = both-parts (eqb m 0) (maskNotListed S c m) h in
     let row = mask-row c m (p .1) in
@@ -118,8 +119,8 @@ wide-holds d r a first-of-latency h = either-right _ _ (either-left _ _ h)
 wide-holds d r a second-of-latency h = either-right _ _ (either-right _ _ h)
 
 range-applies : (d : Device) (r : Request) → outOfRange d r ≡ true → OutOfRange d r
-unfolding outOfRange maskNotListed
-range-applies G (Event c m a) h = ⊎-elim (λ t. absurd (false≢true (both-parts _ _ t .1))) (wide-applies G _ a of-event) (either-cases _ _ h)
+unfolding outOfRange maskNotListed pairsJudged both
+range-applies G (Event c m a) h = ⊎-elim (λ t. absurd (false≢true (both-parts (not (eqb m 0)) (maskNotListed G c m) t .1))) (wide-applies G _ a of-event) (either-cases _ _ h)
 range-applies S (Event c m a) h = ⊎-elim above (wide-applies S _ a of-event) (either-cases _ _ h)
   where
     above : both (not (eqb m 0)) (maskNotListed S c m) ≡ true → OutOfRange S (Event c m a)

@@ -10,12 +10,12 @@ use lib.ListN.{length, getD, drop, List·getD-map, length-map, drop-of-length-le
 use lib.Seq.{drop-cons}
 use borrow.Author.Tests.{eq-eqb, ne-eqb, leb-true, leb-false}
 use Rattle.requests.specs.Choice.{both, either}
+use Rattle.requests.specs.Devices.{pairsJudged}
 use Rattle.requests.specs.Catalogue.{MaskRule, alone, range, ListedEvent, listed, allows, eventsOf, codeIn, pairIn, maskNotListed}
 use Rattle.requests.specs.Lookup.{lowest, highest, rowOf, rowsOf, rowAllows, noRow, listingOf}
 use Rattle.requests.specs.Checks.{notListed}
 use Rattle.requests.specs.declared.CounterSet.{CounterSet}
 use Rattle.requests.specs.declared.Device.{Device}
-use Rattle.requests.specs.declared.Device.the-variants.{G, S}
 use Rattle.requests.specs.declared.EventRow.{EventRow}
 use Rattle.requests.specs.declared.Listing.{Listing}
 use Rattle.requests.specs.declared.Request.the-variants.{Event}
@@ -100,23 +100,24 @@ at-end d i c m b l =
     let past : length (eventsOf d) ≤ i = rw (← row-length d) l in
     rw (drop-of-length-le (eventsOf d) past, either-false b)
 
--- what the checks read off a listing
-pub pair-not-listed : (l : Listing) (d : Device) (c m : ℕ) (a : CounterSet) → l ≡ listingOf d c m → d ≡ G → not (l .pair) ≡ notListed d (Event c m a)
-unfolding listingOf notListed
-pair-not-listed l d c m a e g = rw (e, g)
+-- what the checks read off a listing, by how an event is judged
+module _ (l : Listing) (d : Device) (c m : ℕ) (read : l ≡ listingOf d c m) where
+  pub pair-not-listed : (a : CounterSet) → pairsJudged d ≡ true → not (l .pair) ≡ notListed d (Event c m a)
+  unfolding listingOf notListed
+  pair-not-listed a g = rw (read, g)
 
-pub code-not-listed : (l : Listing) (d : Device) (c m : ℕ) (a : CounterSet) → l ≡ listingOf d c m → d ≡ S → not (l .code) ≡ notListed d (Event c m a)
-unfolding listingOf notListed
-code-not-listed l d c m a e g = rw (e, g)
+  pub code-not-listed : (a : CounterSet) → pairsJudged d ≡ false → not (l .code) ≡ notListed d (Event c m a)
+  unfolding listingOf notListed
+  code-not-listed a g = rw (read, g)
 
-mask-read : (l : Listing) (d : Device) (c m : ℕ) → l ≡ listingOf d c m → d ≡ S → both (l .code) (not (l .pair)) ≡ maskNotListed d c m
-unfolding listingOf maskNotListed
-mask-read l d c m e g = rw (e, g)
+  mask-read : pairsJudged d ≡ false → both (l .code) (not (l .pair)) ≡ maskNotListed d c m
+  unfolding listingOf maskNotListed both
+  mask-read g = rw (read, g)
 
-pub mask-of-listed : (l : Listing) (d : Device) (c m : ℕ) → l ≡ listingOf d c m → d ≡ S → l .code ≡ true → not (l .pair) ≡ maskNotListed d c m
-unfolding both
-mask-of-listed l d c m e g h = ap (λ (b : Bool). both b (not (l .pair))) (sym h) ∙ mask-read l d c m e g
+  pub mask-of-listed : pairsJudged d ≡ false → l .code ≡ true → not (l .pair) ≡ maskNotListed d c m
+  unfolding both
+  mask-of-listed g h = ap (λ (b : Bool). both b (not (l .pair))) (sym h) ∙ mask-read g
 
-pub mask-of-unlisted : (l : Listing) (d : Device) (c m : ℕ) → l ≡ listingOf d c m → d ≡ S → l .code ≡ false → false ≡ maskNotListed d c m
-unfolding both
-mask-of-unlisted l d c m e g h = ap (λ (b : Bool). both b (not (l .pair))) (sym h) ∙ mask-read l d c m e g
+  pub mask-of-unlisted : pairsJudged d ≡ false → l .code ≡ false → false ≡ maskNotListed d c m
+  unfolding both
+  mask-of-unlisted g h = ap (λ (b : Bool). both b (not (l .pair))) (sym h) ∙ mask-read g

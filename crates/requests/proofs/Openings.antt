@@ -1,13 +1,14 @@
 -- What an opening opens, by the device of its letter. Assumes nothing.
 use mathlib.Core.Path.{_≡_, refl, ap, sym, _∙_}
 use mathlib.Core.Bool.{Bool, true, false}
+use mathlib.Core.List.{List, [], _∷_}
 use mathlib.Core.Option.{Option, none, some, Option·none-ne-some, Option·some-injective}
 use Prim.Native.Nat.{ℕ, _<_}
 use native.Mathlib.Omega.{arith}
 use lib.Dec.{eqb}
-use borrow.Author.Tests.{eqb-true, eq-eqb, ne-eqb}
+use borrow.Author.Tests.{eqb-true, ne-eqb}
 use Rattle.requests.specs.Choice.{pick}
-use Rattle.requests.specs.Devices.{counterCount, letterOf, deviceOf, usableSet, setupOf, openingOf, openedAs}
+use Rattle.requests.specs.Devices.{counterCount, letterOf, devices, named, deviceOf, usableSet, setupOf, openingOf, openedAs}
 use Rattle.requests.specs.declared.CounterSet.{CounterSet}
 use Rattle.requests.specs.declared.Device.{Device}
 use Rattle.requests.specs.declared.Device.the-variants.{G, S}
@@ -24,18 +25,23 @@ unfolding counterCount
 counters-fit G = omega arith
 counters-fit S = omega arith
 
--- the letter of G, of S, and no letter of a device
-pub letter-g : (n : ℕ) → n ≡ letterOf G → deviceOf n ≡ some G
-unfolding deviceOf
-letter-g n e = rw (eq-eqb n (letterOf G) e, deviceOf)
+-- the letter of a device names it
+letter-names : (d : Device) → deviceOf (letterOf d) ≡ some d
+unfolding deviceOf named devices letterOf
+letter-names G = refl
+letter-names S = refl
 
-pub letter-s : (n : ℕ) → (n ≡ letterOf G → ⊥) → n ≡ letterOf S → deviceOf n ≡ some S
-unfolding deviceOf
-letter-s n f e = rw (ne-eqb n (letterOf G) f, eq-eqb n (letterOf S) e, deviceOf)
+pub letter-named : (n : ℕ) (d : Device) → n ≡ letterOf d → deviceOf n ≡ some d
+letter-named n d e = ap deviceOf e ∙ letter-names d
 
-pub no-letter : (n : ℕ) → (n ≡ letterOf G → ⊥) → (n ≡ letterOf S → ⊥) → deviceOf n ≡ none
-unfolding deviceOf
-no-letter n f g = rw (ne-eqb n (letterOf G) f, ne-eqb n (letterOf S) g, deviceOf)
+-- a number that is no device's letter names none
+pub no-letter : (n : ℕ) → ((d : Device) → n ≡ letterOf d → ⊥) → deviceOf n ≡ none
+unfolding deviceOf named
+no-letter n f = go devices
+  where
+    go : (ds : List Device) → named ds n ≡ none
+    go [] = refl
+    go (d ∷ ds) = rw (ne-eqb n (letterOf d) (f d), named) (go ds)
 
 -- what a device with a usable set opens
 abbrev pub openedOn : Device → CounterSet → Opened
@@ -83,13 +89,16 @@ opened-none (some t) y e = let z : _≡_ {A = ℕ} 0 1 = cc in absurd (omega ari
 
 -- the letter that names a device is its own
 pub letter-is : (letter : ℕ) (d : Device) → deviceOf letter ≡ some d → letterOf d ≡ letter
-unfolding deviceOf
-letter-is letter d e = go (eqb letter (letterOf G)) (eqb letter (letterOf S)) refl refl
+unfolding deviceOf named
+letter-is letter d e = go devices e
   where
-    go : (g s : Bool) → eqb letter (letterOf G) ≡ g → eqb letter (letterOf S) ≡ s → letterOf d ≡ letter
-    go true s h k = ap letterOf (sym (Option·some-injective G d (rw (h, deviceOf) at e))) ∙ sym (eqb-true letter (letterOf G) h)
-    go false true h k = ap letterOf (sym (Option·some-injective S d (rw (h, k, deviceOf) at e))) ∙ sym (eqb-true letter (letterOf S) k)
-    go false false h k = absurd (Option·none-ne-some d (rw (h, k, deviceOf) at e))
+    here : (x : Device) (ds : List Device) → (named ds letter ≡ some d → letterOf d ≡ letter) → (b : Bool) → eqb letter (letterOf x) ≡ b → named (x ∷ ds) letter ≡ some d → letterOf d ≡ letter
+    here x ds later true h k = ap letterOf (sym (Option·some-injective x d (rw (h, named) at k))) ∙ sym (eqb-true letter (letterOf x) h)
+    here x ds later false h k = later (rw (h, named) at k)
+
+    go : (ds : List Device) → named ds letter ≡ some d → letterOf d ≡ letter
+    go [] k = absurd (Option·none-ne-some d k)
+    go (x ∷ ds) k = here x ds (go ds) (eqb letter (letterOf x)) refl k
 
 -- the setup of an opening is what it was given, as it was given
 pub opening-is : (o : Opening) (s : Setup) → setupOf o ≡ some s → openingOf s ≡ o

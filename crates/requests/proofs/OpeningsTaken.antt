@@ -1,25 +1,19 @@
 -- Which openings are taken: those of a device's letter with a set of its counters, by the cases of the letter and of the test of the set.
-use mathlib.Core.Path.{_≡_, refl, ap, _∙_}
+use mathlib.Core.Path.{_≡_, refl, _∙_}
 use mathlib.Core.Bool.{Bool, true, false}
 use mathlib.Core.Option.{Option, none, some, Option·none-ne-some, Option·some-injective}
 use Prim.Native.Nat.{_≤_}
 use borrow.Author.Tests.{lt-ltb, le-leb, ltb-true, leb-true}
 use Rattle.requests.specs.Refusals.{numberOf, answerNumber}
-use Rattle.requests.specs.Devices.{counterCount, allCounters, letterOf, deviceOf, usableSet, setupOf, openingOf, openedAs, openedAnswer}
+use Rattle.requests.specs.Devices.{counterCount, allCounters, deviceOf, usableSet, setupOf, openingOf, openedAs, openedAnswer}
 use Rattle.requests.specs.Openings.{Opens, openingNumber, Openings}
 use Rattle.requests.specs.declared.CounterSet.{CounterSet}
 use Rattle.requests.specs.declared.Device.{Device}
 use Rattle.requests.specs.declared.Device.the-variants.{G, S}
 use Rattle.requests.specs.declared.Opening.{Opening}
 use Rattle.requests.specs.declared.Setup.{Setup}
-use Rattle.requests.proofs.Openings.{setup-on, opening-is}
+use Rattle.requests.proofs.Openings.{letter-named, setup-on, opening-is}
 use Rattle.requests.proofs.Tests.{both-parts, true-both}
-
--- the letter of a device names it
-letter-names : (d : Device) → deviceOf (letterOf d) ≡ some d
-unfolding deviceOf letterOf
-letter-names G = refl
-letter-names S = refl
 
 -- the test of a usable set, both ways
 set-bounds : (d : Device) (u : CounterSet) → usableSet d u ≡ true → (1 ≤ u .0) × (u .0 ≤ allCounters d)
@@ -34,7 +28,7 @@ set-tested d u h k = true-both _ _ (lt-ltb 0 (u .0) h) (le-leb (u .0) (allCounte
 
 taken : (o : Opening) (s : Setup) → Opens o s → setupOf o ≡ some s
 taken o s h =
-    let named : deviceOf (o .device) ≡ some (s .device) = ap deviceOf (h .device) ∙ letter-names (s .device) in
+    let named : deviceOf (o .device) ≡ some (s .device) = letter-named (o .device) (s .device) (h .device) in
     setup-on o (s .device) named ∙ rw (set-tested (s .device) (o .usable) (h .at-least) (h .at-most), h .usable)
 
 -- an opening that is taken has a set of the device's counters

@@ -4,6 +4,7 @@ use mathlib.Core.Bool.{Bool, false, not}
 use Prim.Native.Nat.{ℕ}
 use lib.Dec.{leb, eqb}
 use Rattle.requests.specs.Choice.{both, either}
+use Rattle.requests.specs.Devices.{pairsJudged}
 use Rattle.requests.specs.declared.Device.{Device}
 use Rattle.requests.specs.declared.Device.the-variants.{G, S}
 
@@ -56,7 +57,6 @@ unfoldable pub pairIn : List ListedEvent → ℕ → ℕ → Bool
 pairIn [] c m = false
 pairIn (e ∷ es) c m = either (both (eqb c (e .code)) (allows (e .masks) m)) (pairIn es c m)
 
--- whether the code is listed, but not with the mask: judged on S alone, since on G the pair is one
+-- whether the code is listed, but not with the mask: not judged where the pair is one
 unfoldable pub maskNotListed : Device → ℕ → ℕ → Bool
-maskNotListed G c m = false
-maskNotListed S c m = both (codeIn (eventsOf S) c) (not (pairIn (eventsOf S) c m))
+maskNotListed d c m = both (not (pairsJudged d)) (both (codeIn (eventsOf d) c) (not (pairIn (eventsOf d) c m)))

@@ -4,13 +4,12 @@ use mathlib.Core.Bool.{Bool, true, false, not}
 use mathlib.Core.Option.{Option, none}
 use mathlib.Core.Path.{_≡_}
 use lib.Dec.{ltb, eqb}
-use Rattle.requests.specs.Choice.{both, either, isSome, Row, firstHolding}
+use Rattle.requests.specs.Choice.{both, either, pick, isSome, Row, firstHolding}
 use Rattle.requests.specs.Bits.{onlyBits, anyBit, typeBits, anyResponse, answerBits, outstanding, rsp0Bits}
-use Rattle.requests.specs.Devices.{allCounters}
+use Rattle.requests.specs.Devices.{allCounters, packetsOn, offcoreOn, pairsJudged}
 use Rattle.requests.specs.Catalogue.{eventsOf, codeIn, pairIn, maskNotListed}
 use Rattle.requests.specs.declared.CounterSet.{CounterSet}
 use Rattle.requests.specs.declared.Device.{Device}
-use Rattle.requests.specs.declared.Device.the-variants.{G, S}
 use Rattle.requests.specs.declared.Setup.{Setup}
 use Rattle.requests.specs.declared.Request.{Request}
 use Rattle.requests.specs.declared.Request.the-variants.{Event, Packet, Offcore, Latency}
@@ -20,17 +19,13 @@ use Rattle.requests.specs.declared.Refusal.the-variants.{KindNotOnDevice
 -- 7: request kind not on this device
 unfoldable pub kindNotOn : Device → Request → Bool
 kindNotOn d (Event c m a) = false
-kindNotOn G (Packet x y a) = true
-kindNotOn S (Packet x y a) = false
-kindNotOn G (Offcore w a) = false
-kindNotOn S (Offcore w a) = true
-kindNotOn G (Latency t a b) = false
-kindNotOn S (Latency t a b) = true
+kindNotOn d (Packet x y a) = not (packetsOn d)
+kindNotOn d (Offcore w a) = not (offcoreOn d)
+kindNotOn d (Latency t a b) = not (offcoreOn d)
 
 -- 8: G: pair not listed; S: code not listed
 unfoldable pub notListed : Device → Request → Bool
-notListed G (Event c m a) = not (pairIn (eventsOf G) c m)
-notListed S (Event c m a) = not (codeIn (eventsOf S) c)
+notListed d (Event c m a) = not (pick (pairsJudged d) (pairIn (eventsOf d) c m) (codeIn (eventsOf d) c))
 notListed d (Packet x y a) = false
 notListed d (Offcore w a) = false
 notListed d (Latency t a b) = false

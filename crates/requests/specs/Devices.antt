@@ -1,5 +1,6 @@
 -- Document 01, 'What is on the bench' and 'open': devices, their counters, and what open takes.
 use mathlib.Core.Bool.{Bool, true, false}
+use mathlib.Core.List.{List, [], _∷_}
 use mathlib.Core.Option.{Option, none, some}
 use Prim.Native.Nat.{ℕ, zero, suc, _+_, _-_, _^_}
 use lib.Dec.{ltb, leb, eqb}
@@ -43,9 +44,33 @@ unfoldable pub letterOf : Device → ℕ
 letterOf G = 71
 letterOf S = 83
 
+-- all devices
+unfoldable pub devices : List Device
+devices = G ∷ S ∷ []
+
+-- the first device of the list with the letter's code
+unfoldable pub named : List Device → ℕ → Option Device
+named [] letter = none
+named (d ∷ ds) letter = elim (eqb letter (letterOf d)) [ true ↦ some d | false ↦ named ds letter ]
+
 -- the device of a letter's code
 unfoldable pub deviceOf : ℕ → Option Device
-deviceOf letter = elim (eqb letter (letterOf G)) [ true ↦ some G | false ↦ elim (eqb letter (letterOf S)) [ true ↦ some S | false ↦ none ] ]
+deviceOf letter = named devices letter
+
+-- whether the device has packet requests: "S only"
+unfoldable pub packetsOn : Device → Bool
+packetsOn G = false
+packetsOn S = true
+
+-- whether the device has offcore and latency requests: "G only"
+unfoldable pub offcoreOn : Device → Bool
+offcoreOn G = true
+offcoreOn S = false
+
+-- whether an event is judged as a pair of code and mask, as on G: on S the code has to be listed, and then the mask be one of its own
+unfoldable pub pairsJudged : Device → Bool
+pairsJudged G = true
+pairsJudged S = false
 
 -- whether a usable set is neither 0 nor above 15 (all counters)
 unfoldable pub usableSet : Device → CounterSet → Bool

@@ -15,6 +15,9 @@ use crate::bits::any_bit;
 use crate::bits::only_bits;
 use crate::catalogue::look_up;
 use crate::devices::all_counters;
+use crate::devices::offcore_on;
+use crate::devices::packets_on;
+use crate::devices::pairs_judged;
 ghost use mathlib.Core.Path.{_≡_};
 ghost use mathlib.Core.List.{_∷_, []};
 ghost use Rattle.requests.specs.Choice.{both, either};
@@ -29,32 +32,23 @@ pub fn kind_not_on(device: Device, request: Request) -> bool
 {
     match request {
         Request::Event { .. } => false,
-        Request::Packet { .. } => match device {
-            Device::G => true,
-            Device::S => false,
-        },
-        Request::Offcore { .. } => match device {
-            Device::G => false,
-            Device::S => true,
-        },
-        Request::Latency { .. } => match device {
-            Device::G => false,
-            Device::S => true,
-        },
+        Request::Packet { .. } => !packets_on(device),
+        Request::Offcore { .. } => !offcore_on(device),
+        Request::Latency { .. } => !offcore_on(device),
     }
 }
 
-// 8: whether an event is not listed: the pair on G, the code on S.
+// 8: whether an event is not listed: the pair, or the code where that has its own masks.
 pub fn not_listed(device: Device, request: Request) -> bool
     ensures { λ r. ⌜ r ≡ notListed device request ⌝ }
 {
     match request {
         Request::Event { code, mask, .. } => {
             let listing = look_up(device, code, mask);
-            match device {
-                Device::G => !listing.pair,
-                Device::S => !listing.code,
+            if pairs_judged(device) {
+                return !listing.pair;
             }
+            !listing.code
         }
         Request::Packet { .. } => false,
         Request::Offcore { .. } => false,
@@ -62,20 +56,18 @@ pub fn not_listed(device: Device, request: Request) -> bool
     }
 }
 
-// Whether the mask is not listed for its code on S.
+// Whether the code is listed, but not with the mask.
 fn mask_not_listed(device: Device, code: u8, mask: u8) -> bool
     ensures { λ r. ⌜ r ≡ maskNotListed device code mask ⌝ }
 {
-    match device {
-        Device::G => false,
-        Device::S => {
-            let listing = look_up(device, code, mask);
-            if listing.code {
-                return !listing.pair;
-            }
-            false
-        }
+    if pairs_judged(device) {
+        return false;
     }
+    let listing = look_up(device, code, mask);
+    if listing.code {
+        return !listing.pair;
+    }
+    false
 }
 
 // Whether an allowed set has a counter that the device has not.

@@ -7,7 +7,7 @@ use crate::Refusal;
 use crate::Setup;
 ghost use mathlib.Core.Path.{_≡_};
 ghost use Rattle.requests.specs.Choice.{pick};
-ghost use Rattle.requests.specs.Devices.{counterCount, allCounters, letterOf, usableSet, setupOf, openedAs};
+ghost use Rattle.requests.specs.Devices.{counterCount, allCounters, letterOf, packetsOn, offcoreOn, pairsJudged, usableSet, setupOf, openedAs};
 
 // How many counters the device has.
 pub fn counter_count(d: Device) -> u64
@@ -34,6 +34,36 @@ pub fn letter_of(d: Device) -> u64
     match d {
         Device::G => b'G' as u64,
         Device::S => b'S' as u64,
+    }
+}
+
+// Whether the device has packet requests.
+pub fn packets_on(d: Device) -> bool
+    ensures { λ r. ⌜ r ≡ packetsOn d ⌝ }
+{
+    match d {
+        Device::G => false,
+        Device::S => true,
+    }
+}
+
+// Whether the device has offcore and latency requests.
+pub fn offcore_on(d: Device) -> bool
+    ensures { λ r. ⌜ r ≡ offcoreOn d ⌝ }
+{
+    match d {
+        Device::G => true,
+        Device::S => false,
+    }
+}
+
+// Whether an event is judged as a pair of code and mask.
+pub fn pairs_judged(d: Device) -> bool
+    ensures { λ r. ⌜ r ≡ pairsJudged d ⌝ }
+{
+    match d {
+        Device::G => true,
+        Device::S => false,
     }
 }
 

@@ -1,5 +1,6 @@
 -- `check::not_listed` meets its contract: what the catalogue lists, by the laws of look-ups.
 -- Assumes nothing.
+use mathlib.Core.Path.{sym, _∙_}
 use Rattle.requests.specs.Checks.{notListed}
 use Rattle.requests.proofs.Lookups.{pair-not-listed, code-not-listed}
 use borrow.Author.Needs.{needs}
@@ -7,22 +8,26 @@ use Rattle.requests.proofs.check.not_listed.Statement.{statement}
 use Rattle.requests.proofs.check.not_listed.Tie as tie
 
 returns : tie.Need-returns
-returns c = rw (c .before .before .before .before .before .request .given .1) (pair-not-listed _ _ _ _ _ (c .before .before .before .look-up .ensures) (c .before .enum-told .given .1))
+returns c =
+    rw (c .before .before .before .before .before .request .given .1)
+    (pair-not-listed _ _ _ _ (c .before .before .before .look-up .ensures) _ (sym (c .before .before .pairs-judged .ensures) ∙ c .before .if1 .taken))
 
 returns-2 : tie.Need-returns-2
-returns-2 c = rw (c .before .before .before .before .before .request .given .1) (code-not-listed _ _ _ _ _ (c .before .before .before .look-up .ensures) (c .before .enum-told2 .given .1))
+returns-2 c =
+    rw (c .before .before .before .before .before .request .given .1)
+    (code-not-listed _ _ _ _ (c .before .before .before .look-up .ensures) _ (sym (c .before .before .pairs-judged .ensures) ∙ c .before .if1 .left))
 
 returns-3 : tie.Need-returns-3
 unfolding notListed
-returns-3 c = rw (c .enum-told3 .given .1)
+returns-3 c = rw (c .enum-told .given .1)
 
 returns-4 : tie.Need-returns-4
 unfolding notListed
-returns-4 c = rw (c .enum-told4 .given .1)
+returns-4 c = rw (c .enum-told2 .given .1)
 
 returns-5 : tie.Need-returns-5
 unfolding notListed
-returns-5 c = rw (c .enum-told5 .given .1)
+returns-5 c = rw (c .enum-told3 .given .1)
 
 pub not-listed-spec : {M : Type 1} → statement M
 not-listed-spec =
@@ -30,12 +35,11 @@ not-listed-spec =
     (tie.spec
     (λ c. search needs)
     (λ c κs. search needs)
-    (λ c. search needs)
-    (λ c. search needs)
-    (λ c. search needs)
-    (λ c. search needs)
-    (λ c. search needs)
+    (λ c κs. search needs)
     returns
+    (λ c. search needs)
+    (λ c. search needs)
+    (λ c. search needs)
     returns-2
     returns-3
     returns-4
