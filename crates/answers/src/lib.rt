@@ -1,4 +1,5 @@
 // The reply to a line: its text, and the session afterwards.
+use crate::replies::REPLY_ROOM;
 use sessions::Session;
 
 mod answer_lines;
@@ -10,7 +11,7 @@ mod texts;
 
 // The reply to a line: its text in the first `length` bytes, and the session afterwards.
 pub struct LineReply {
-    pub text: [u8; 2048],
+    pub text: [u8; REPLY_ROOM],
     pub length: usize,
     pub session: Session,
 }

@@ -1,5 +1,6 @@
 // The reply to a line, in an array of its own.
 use crate::LineReply;
+use crate::replies::REPLY_ROOM;
 use crate::replies::reply;
 use records::parse::parse_line;
 use sessions::Session;
@@ -12,7 +13,7 @@ pub fn answer_line(session: Session, line: &[u8]) -> LineReply
     ensures { λ r. ⌜ r ≡ inArray (answerLine session (now (line .entry))) ⌝ }
 {
     let parsed = parse_line(line);
-    let mut text: [u8; 2048] = [0; 2048];
+    let mut text: [u8; REPLY_ROOM] = [0; REPLY_ROOM];
     let replied = reply(session, parsed, &mut text);
     let next = replied.session;
     LineReply {

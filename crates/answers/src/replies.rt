@@ -23,6 +23,9 @@ ghost use Rattle.answers.specs.Replies.{replyOf, turnReply, turnRoom, re
 ghost use Rattle.answers.specs.Written.{replyRoom, repliedIn, repliedOut};
 ghost use Rattle.answers.specs.Texts.{Delivered};
 
+// The numbers that a turn is lent: the room of 18 writes, the most that there are.
+const TURN_ROOM: usize = 36;
+
 // The room for any reply, in bytes.
 pub const REPLY_ROOM: usize = 2048;
 
@@ -45,7 +48,7 @@ fn turn_reply(session: Session, out: &mut [u8]) -> Replied
     requires { ⌜ replyRoom ≤ length (now out) ⌝ }
     ensures { λ r. ⌜ Delivered (turnReply (turnOf session turnRoom) (turnSlice session (replicate turnRoom 0))) (now (out .entry)) (now (out .exit)) r ⌝ }
 {
-    let mut list: [u64; 36] = [0; 36];
+    let mut list: [u64; TURN_ROOM] = [0; TURN_ROOM];
     let turned = turn(session, &mut list);
     let plan = turned.plan;
     let answer = turned.answer;

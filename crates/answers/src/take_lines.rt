@@ -3,6 +3,7 @@ use crate::texts::put_byte;
 use crate::texts::put_bytes;
 use crate::texts::put_decimal;
 use plans::Place;
+use requests::devices::CAPACITY;
 use sessions::Assigned;
 ghost use mathlib.Core.List.{flatMap};
 ghost use Prim.Native.Nat.{_+_, _*_, _≤_};
@@ -49,7 +50,7 @@ fn put_assigned(out: &mut [u8], at: usize, assigned: Assigned) -> usize
 }
 
 // Puts the lines of the requests taken, in the order taken.
-pub fn put_takes(out: &mut [u8], at: usize, plan: [Assigned; 8], taken: usize) -> usize
+pub fn put_takes(out: &mut [u8], at: usize, plan: [Assigned; CAPACITY], taken: usize) -> usize
     requires { ⌜ (taken ≤ 8) × (at + 136 * taken ≤ length (now out)) ⌝ }
     ensures { λ r. ⌜ Put (now (out .entry)) at (flatMap takeLines (take taken plan)) (now (out .exit)) r ⌝ }
 {

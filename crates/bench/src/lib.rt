@@ -11,6 +11,7 @@ use plans::Place;
 pub mod turns;
 
 use plans::first_plan::first_plan;
+use plans::rows::ROW_NUMBERS;
 use plans::rows::request_at;
 use plans::search::plan_rows;
 use requests::CounterSet;
@@ -30,7 +31,12 @@ fn digits_of(place: Place) -> u64
 
 // Request i's place in the first plan of the requests in the first `count` rows.
 #[no_mangle]
-pub extern "C" fn rattle_first_plan(usable: u64, rows: &[u64; 32], count: usize, i: usize) -> u64
+pub extern "C" fn rattle_first_plan(
+    usable: u64,
+    rows: &[u64; ROW_NUMBERS],
+    count: usize,
+    i: usize,
+) -> u64
     requires { ⌜ (count ≤ 8) × (i < 8) ⌝ }
     ensures { λ r. ⌜ r ≡ placeNumber (foundOf (firstPlan (setupFor usable) (rowsFrom (now (rows .entry)) 0 count))) i ⌝ }
 {
@@ -60,7 +66,7 @@ pub extern "C" fn rattle_first_plan(usable: u64, rows: &[u64; 32], count: usize,
 
 // The packed first plan of the requests in the first `count` rows.
 #[no_mangle]
-pub extern "C" fn rattle_plan_rows(usable: u64, rows: &[u64; 32], count: usize) -> u64
+pub extern "C" fn rattle_plan_rows(usable: u64, rows: &[u64; ROW_NUMBERS], count: usize) -> u64
     requires { ⌜ count ≤ 8 ⌝ }
     ensures { λ r. ⌜ r ≡ packed (firstPlan (setupFor usable) (rowsFrom (now (rows .entry)) 0 count)) ⌝ }
 {

@@ -1,6 +1,7 @@
 // What is written into registers, and what is read from them: the types of the register tables, the writer and the reader.
 use requests::Answer;
 use requests::CounterSet;
+use requests::devices::CAPACITY;
 
 // Where a device's registers are: counter k's control is at control + step * k, its count at counter + step * k.
 pub struct Layout {
@@ -13,7 +14,7 @@ pub struct Layout {
 // The register values of a plan: the used counters, the control word of each counter, the filter words.
 pub struct Settings {
     pub used: CounterSet,
-    pub words: [u64; 8],
+    pub words: [u64; CAPACITY],
     pub rsp0: u64,
     pub rsp1: u64,
     pub packets: bool,
@@ -38,7 +39,7 @@ pub struct FilterValues {
 
 // What the reader is given. Control values at and past the device's number of counters are not looked at.
 pub struct RegisterValues {
-    pub control: [u64; 8],
+    pub control: [u64; CAPACITY],
     pub filters: FilterValues,
     pub global: u64,
 }
@@ -68,5 +69,5 @@ pub struct CounterRead {
 // The reader's answer: accepted with the state of each counter, or refused.
 pub struct Reading {
     pub answer: Answer,
-    pub counters: [CounterRead; 8],
+    pub counters: [CounterRead; CAPACITY],
 }

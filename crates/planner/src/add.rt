@@ -1,8 +1,8 @@
 // add: a request enters the queue at the back.
 use crate::ids::outside_ids;
-use crate::queue::QUEUE_LIMIT;
 use crate::queue::waits;
 use crate::queue::with_entry;
+use plans::rows::ROW_NUMBERS;
 use plans::rows::put_request;
 use plans::search::plan_rows;
 use requests::Answer;
@@ -12,6 +12,7 @@ use requests::Request;
 use requests::Setup;
 use requests::check::request_refusal;
 use sessions::Answered;
+use sessions::QUEUE_LIMIT;
 use sessions::Session;
 ghost use mathlib.Core.Path.{_≡_};
 ghost use mathlib.Core.List.{_∷_, []};
@@ -24,7 +25,7 @@ ghost use Rattle.sessions.specs.Sessions.{refusedBy, addOf};
 fn plans_alone(setup: Setup, request: Request) -> bool
     ensures { λ r. ⌜ r ≡ hasPlan setup (request ∷ []) ⌝ }
 {
-    let mut rows: [u64; 32] = [0; 32];
+    let mut rows: [u64; ROW_NUMBERS] = [0; ROW_NUMBERS];
     put_request(&mut rows, 0, request);
     plan_rows(setup, &rows, 1) != 0
 }

@@ -9,6 +9,7 @@ use requests::Refusal;
 use requests::Setup;
 use requests::devices::setup_of;
 use sessions::Answered;
+use sessions::QUEUE_LIMIT;
 use sessions::Session;
 ghost use mathlib.Core.Path.{_≡_};
 ghost use mathlib.Core.List.{[]};
@@ -23,7 +24,7 @@ pub fn new_session() -> Session
         device: Device::G,
         usable: usable,
     };
-    let places = [vacant(); 16];
+    let places = [vacant(); QUEUE_LIMIT];
     Session {
         opened: false,
         setup: setup,
@@ -36,7 +37,7 @@ pub fn new_session() -> Session
 fn opened_with(setup: Setup) -> Session
     ensures { λ r. ⌜ r ≡ sessionOf setup [] ⌝ }
 {
-    let places = [vacant(); 16];
+    let places = [vacant(); QUEUE_LIMIT];
     Session {
         opened: true,
         setup: setup,

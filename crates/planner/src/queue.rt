@@ -2,6 +2,7 @@
 use requests::CounterSet;
 use requests::Entry;
 use requests::Request;
+use sessions::QUEUE_LIMIT;
 use sessions::Session;
 ghost use mathlib.Core.Path.{_≡_};
 ghost use mathlib.Core.List.{_++_, _∷_, []};
@@ -9,9 +10,6 @@ ghost use Prim.Native.Nat.{_<_, min};
 ghost use Rattle.sessions.specs.Calls.{waits};
 ghost use Rattle.sessions.specs.Plain.{removed};
 ghost use Rattle.sessions.specs.Sessions.{vacant, queued, sessionOf};
-
-// "The queue holds at most 16 requests"
-pub const QUEUE_LIMIT: usize = 16;
 
 // What stands in a place without a request.
 pub fn vacant() -> Entry
@@ -77,7 +75,7 @@ pub fn without_id(session: Session, id: u64) -> Session
 {
     let n = bounded(session.len);
     let empty = vacant();
-    let mut out = [empty; 16];
+    let mut out = [empty; QUEUE_LIMIT];
     let mut k: usize = 0;
     let mut i = 0;
     while i < n {

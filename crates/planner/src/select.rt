@@ -3,13 +3,16 @@ use crate::Chosen;
 use crate::queue::bounded;
 use plans::reach::left_at_first;
 use plans::reach::left_by;
+use plans::rows::ROW_NUMBERS;
 use plans::rows::put_request;
 use plans::search::plan_rows;
 use requests::CounterSet;
 use requests::Request;
 use requests::Setup;
+use requests::devices::CAPACITY;
 use requests::devices::counter_count;
 use requests::set::size_of;
+use sessions::QUEUE_LIMIT;
 use sessions::Session;
 ghost use mathlib.Core.Bool.{true};
 ghost use mathlib.Core.Path.{_≡_};
@@ -49,7 +52,7 @@ fn plan_with(
     setup: Setup,
     usable: usize,
     left: u64,
-    rows: &mut [u64; 32],
+    rows: &mut [u64; ROW_NUMBERS],
     count: usize,
     request: Request,
 ) -> u64
@@ -74,9 +77,9 @@ fn plan_with(
 // become the requests taken; `taken` and `passed`, where in the queue the entries stand.
 pub fn select(
     session: Session,
-    rows: &mut [u64; 32],
-    taken: &mut [usize; 8],
-    passed: &mut [usize; 16],
+    rows: &mut [u64; ROW_NUMBERS],
+    taken: &mut [usize; CAPACITY],
+    passed: &mut [usize; QUEUE_LIMIT],
 ) -> Chosen
     requires { ⌜ (length (now rows) ≡ 32) × (length (now taken) ≡ 8) × (length (now passed) ≡ 16) ⌝ }
     ensures { λ r. ⌜ Selected (session .setup) (session .queue) (queued session) (now (rows .exit)) (now (taken .exit)) (now (passed .exit)) r ⌝ }

@@ -5,11 +5,14 @@ use crate::select::select;
 use layouts::WriteAnswer;
 use plans::Place;
 use plans::packed::place_at;
+use plans::rows::ROW_NUMBERS;
 use registers::plan_settings::settings_in;
 use registers::writer::write_list;
 use requests::Answer;
 use requests::Refusal;
+use requests::devices::CAPACITY;
 use sessions::Assigned;
+use sessions::QUEUE_LIMIT;
 use sessions::Session;
 use sessions::TurnAnswered;
 ghost use mathlib.Core.Path.{_≡_};
@@ -35,20 +38,25 @@ fn turn_refused(session: Session, refusal: Refusal) -> TurnAnswered
     TurnAnswered {
         answer: Answer::Refused(refusal),
         session: session,
-        plan: [unassigned(); 8],
+        plan: [unassigned(); CAPACITY],
         taken: 0,
         writes: 0,
     }
 }
 
 // The session after a turn: the entries passed over, then those taken.
-fn requeued(session: Session, taken: &[usize; 8], passed: &[usize; 16], chosen: Chosen) -> Session
+fn requeued(
+    session: Session,
+    taken: &[usize; CAPACITY],
+    passed: &[usize; QUEUE_LIMIT],
+    chosen: Chosen,
+) -> Session
     requires { ⌜ WithinLimits chosen (now taken) (now passed) ⌝ }
     ensures { λ r. ⌜ r ≡ sessionChosen session (now (taken .entry)) (now (passed .entry)) chosen ⌝ }
 {
     let front = chosen.rest;
     let back = chosen.count;
-    let mut queue = [vacant(); 16];
+    let mut queue = [vacant(); QUEUE_LIMIT];
     let mut i = 0;
     while i < front {
         let at = passed[i];
@@ -74,8 +82,8 @@ fn requeued(session: Session, taken: &[usize; 8], passed: &[usize; 16], chosen: 
 // The answer of a turn that is accepted, with the plan: the id of each entry taken, with its place.
 fn turn_accepted(
     session: Session,
-    taken: &[usize; 8],
-    passed: &[usize; 16],
+    taken: &[usize; CAPACITY],
+    passed: &[usize; QUEUE_LIMIT],
     chosen: Chosen,
     writes: usize,
 ) -> TurnAnswered
@@ -83,7 +91,7 @@ fn turn_accepted(
     ensures { λ r. ⌜ r ≡ turnAnswer Answer.Accepted (sessionChosen session (now (taken .entry)) (now (passed .entry)) chosen) (planChosen session (now (taken .entry)) chosen) writes ⌝ }
 {
     let count = chosen.count;
-    let mut plan = [unassigned(); 8];
+    let mut plan = [unassigned(); CAPACITY];
     let mut i = 0;
     while i < count {
         let at = taken[i];
@@ -114,9 +122,9 @@ pub fn turn(session: Session, out: &mut [u64]) -> TurnAnswered
         return turn_refused(session, Refusal::CallOrder);
     }
     let setup = session.setup;
-    let mut rows: [u64; 32] = [0; 32];
-    let mut taken: [usize; 8] = [0; 8];
-    let mut passed: [usize; 16] = [0; 16];
+    let mut rows: [u64; ROW_NUMBERS] = [0; ROW_NUMBERS];
+    let mut taken: [usize; CAPACITY] = [0; CAPACITY];
+    let mut passed: [usize; QUEUE_LIMIT] = [0; QUEUE_LIMIT];
     let chosen = select(session, &mut rows, &mut taken, &mut passed);
     let device = setup.device;
     let settings = settings_in(device, chosen.code, &rows, chosen.count);

@@ -4,12 +4,13 @@ ghost use Prim.Native.Nat.{_<_, _≤_};
 ghost use Rattle.plans.specs.Search.{holds, holdsPacket};
 ghost use Rattle.plans.specs.Filters.{wordAt, askedPacket, rspOf, filterOf};
 use crate::rows::OFFCORE;
+use crate::rows::ROW_NUMBERS;
 use crate::rows::request_at;
 use requests::Request;
 use requests::bits::latency_word;
 
 // The word that the offcore or latency request in row `at` asks of an RSP register.
-fn word_at(rows: &[u64; 32], rsp: u64, at: usize) -> u64
+fn word_at(rows: &[u64; ROW_NUMBERS], rsp: u64, at: usize) -> u64
     requires { ⌜ at < 8 ⌝ }
     ensures { λ r. ⌜ r ≡ wordAt (now (rows .entry)) rsp at ⌝ }
 {
@@ -54,7 +55,7 @@ fn same_packet(request: Request, x: u64, y: u64) -> bool
 }
 
 // Whether an RSP register can hold the word: it is unused, or its user asked for the same.
-pub fn holds_word(rows: &[u64; 32], rsp: u64, user: usize, word: u64) -> bool
+pub fn holds_word(rows: &[u64; ROW_NUMBERS], rsp: u64, user: usize, word: u64) -> bool
     requires { ⌜ user ≤ 8 ⌝ }
     ensures { λ r. ⌜ r ≡ holds (rspOf (now (rows .entry)) rsp user) word ⌝ }
 {
@@ -65,7 +66,7 @@ pub fn holds_word(rows: &[u64; 32], rsp: u64, user: usize, word: u64) -> bool
 }
 
 // Whether the match/mask register can hold the words.
-pub fn holds_packet(rows: &[u64; 32], user: usize, x: u64, y: u64) -> bool
+pub fn holds_packet(rows: &[u64; ROW_NUMBERS], user: usize, x: u64, y: u64) -> bool
     requires { ⌜ user ≤ 8 ⌝ }
     ensures { λ r. ⌜ r ≡ holdsPacket (filterOf (now (rows .entry)) user) x y ⌝ }
 {

@@ -7,13 +7,15 @@ ghost use Rattle.plans.specs.Rows.{rowsFrom};
 ghost use Rattle.plans.specs.Found.{foundOf};
 use crate::Found;
 use crate::packed::places_of;
+use crate::rows::ROW_NUMBERS;
 use crate::rows::put_request;
 use crate::search::plan_rows;
 use requests::Request;
 use requests::Setup;
+use requests::devices::CAPACITY;
 
 // The rows become the first `count` requests.
-fn put_requests(rows: &mut [u64; 32], requests: [Request; 8], count: usize)
+fn put_requests(rows: &mut [u64; ROW_NUMBERS], requests: [Request; CAPACITY], count: usize)
     requires { ⌜ (count ≤ 8) × (length (now rows) ≡ 32) ⌝ }
     ensures { λ _. ⌜ rowsFrom (now (rows .exit)) 0 count ≡ take count requests ⌝ }
 {
@@ -26,11 +28,11 @@ fn put_requests(rows: &mut [u64; 32], requests: [Request; 8], count: usize)
 }
 
 // The first plan of at most 8 requests.
-fn plan_of(setup: Setup, requests: [Request; 8], count: usize) -> Found
+fn plan_of(setup: Setup, requests: [Request; CAPACITY], count: usize) -> Found
     requires { ⌜ count ≤ 8 ⌝ }
     ensures { λ r. ⌜ r ≡ foundOf (firstPlan setup (take count requests)) ⌝ }
 {
-    let mut rows: [u64; 32] = [0; 32];
+    let mut rows: [u64; ROW_NUMBERS] = [0; ROW_NUMBERS];
     put_requests(&mut rows, requests, count);
     let code = plan_rows(setup, &rows, count);
     if code == 0 {
@@ -48,7 +50,7 @@ fn plan_of(setup: Setup, requests: [Request; 8], count: usize) -> Found
 }
 
 // The first plan of the first `count` requests.
-pub fn first_plan(setup: Setup, requests: [Request; 8], count: usize) -> Found
+pub fn first_plan(setup: Setup, requests: [Request; CAPACITY], count: usize) -> Found
     ensures { λ r. ⌜ r ≡ foundOf (firstPlan setup (take count requests)) ⌝ }
 {
     if 8 <= count {

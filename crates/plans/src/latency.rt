@@ -15,6 +15,7 @@ use crate::left::with_rsp0;
 use crate::left::with_rsp1;
 use crate::left::without_counter;
 use crate::remaining::place_counter;
+use crate::rows::ROW_NUMBERS;
 use requests::CounterSet;
 use requests::Device;
 use requests::bits::latency_word;
@@ -23,7 +24,7 @@ use requests::bits::latency_word;
 // is placed behind it like that of a request which takes one counter.
 pub fn place_latency(
     device: Device,
-    rows: &[u64; 32],
+    rows: &[u64; ROW_NUMBERS],
     count: usize,
     at: usize,
     types: u16,

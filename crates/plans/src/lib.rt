@@ -1,5 +1,6 @@
 // What a plan gives a request, and what is left while requests are placed one after another.
 use requests::CounterSet;
+use requests::devices::CAPACITY;
 
 mod counters;
 mod filters;
@@ -54,5 +55,5 @@ pub struct Given {
 // Whether there is a plan, and what it gives each request, in their order.
 pub struct Found {
     pub found: bool,
-    pub places: [Given; 8],
+    pub places: [Given; CAPACITY],
 }

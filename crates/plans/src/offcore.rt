@@ -15,6 +15,7 @@ use crate::left::with_rsp0;
 use crate::left::with_rsp1;
 use crate::left::without_counter;
 use crate::remaining::place_from;
+use crate::rows::ROW_NUMBERS;
 use requests::CounterSet;
 use requests::Device;
 
@@ -22,7 +23,7 @@ use requests::Device;
 // with RSP1.
 pub fn place_offcore(
     device: Device,
-    rows: &[u64; 32],
+    rows: &[u64; ROW_NUMBERS],
     count: usize,
     at: usize,
     word: u64,

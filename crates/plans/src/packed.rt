@@ -7,8 +7,10 @@ ghost use Rattle.plans.specs.Packed.{placeAt, placesFrom};
 ghost use Rattle.plans.specs.Found.{given};
 use crate::Given;
 use crate::Place;
+use crate::rows::ROW_NUMBERS;
 use crate::rows::request_at;
 use requests::Request;
+use requests::devices::CAPACITY;
 
 // The place of a request at counter k with register or second counter j.
 fn place_of(request: Request, k: u64, j: u64) -> Place
@@ -47,7 +49,7 @@ pub fn place_at(code: u64, i: usize, request: Request) -> Place
 }
 
 // The places of the requests in the first `count` rows, in their array.
-pub fn places_of(code: u64, rows: &[u64; 32], count: usize) -> [Given; 8]
+pub fn places_of(code: u64, rows: &[u64; ROW_NUMBERS], count: usize) -> [Given; CAPACITY]
     requires { ⌜ count ≤ 8 ⌝ }
     ensures { λ r. ⌜ r ≡ given (placesFrom code 0 (rowsFrom (now (rows .entry)) 0 count)) ⌝ }
 {

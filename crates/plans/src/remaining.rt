@@ -14,6 +14,7 @@ use crate::left::Left;
 use crate::left::with_packet;
 use crate::left::without_counter;
 use crate::offcore::place_offcore;
+use crate::rows::ROW_NUMBERS;
 use crate::rows::request_at;
 use requests::CounterSet;
 use requests::Device;
@@ -23,7 +24,7 @@ use requests::Request;
 // order.
 pub fn place_counter(
     device: Device,
-    rows: &[u64; 32],
+    rows: &[u64; ROW_NUMBERS],
     count: usize,
     next: usize,
     allowed: CounterSet,
@@ -46,7 +47,13 @@ pub fn place_counter(
 }
 
 // The plan from row `at` on: that row's request is given each of its places in order, and the rest is planned in the room that is left.
-pub fn place_from(device: Device, rows: &[u64; 32], count: usize, at: usize, left: Left) -> u64
+pub fn place_from(
+    device: Device,
+    rows: &[u64; ROW_NUMBERS],
+    count: usize,
+    at: usize,
+    left: Left,
+) -> u64
     requires { ⌜ (count ≤ 8) × (at ≤ count) × InRows left × OnDevice device left ⌝ }
     ensures { λ r. ⌜ r ≡ packed (planFrom device (now (rows .entry)) at count (roomOf (now (rows .entry)) left)) ⌝ }
 {

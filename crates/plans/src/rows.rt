@@ -5,6 +5,10 @@ ghost use lib.ListN.{length};
 ghost use Rattle.plans.specs.Rows.{requestAt, setRow, setRequest};
 use requests::CounterSet;
 use requests::Request;
+use requests::devices::CAPACITY;
+
+// The numbers of all rows: four for each request.
+pub const ROW_NUMBERS: usize = 4 * CAPACITY;
 
 // The kinds of request, as a row begins with them.
 const EVENT: u64 = 0;
@@ -16,7 +20,7 @@ pub const OFFCORE: u64 = 2;
 const LATENCY: u64 = 3;
 
 // The request of row `at`.
-pub fn request_at(rows: &[u64; 32], at: usize) -> Request
+pub fn request_at(rows: &[u64; ROW_NUMBERS], at: usize) -> Request
     requires { ⌜ at < 8 ⌝ }
     ensures { λ r. ⌜ r ≡ requestAt (now (rows .entry)) at ⌝ }
 {
@@ -52,7 +56,7 @@ pub fn request_at(rows: &[u64; 32], at: usize) -> Request
 }
 
 // Row `at` becomes four numbers.
-fn put_row(rows: &mut [u64; 32], at: usize, kind: u64, a: u64, b: u64, c: u64)
+fn put_row(rows: &mut [u64; ROW_NUMBERS], at: usize, kind: u64, a: u64, b: u64, c: u64)
     requires { ⌜ at < 8 ⌝ }
     ensures { λ _. ⌜ now (rows .exit) ≡ setRow (now (rows .entry)) at kind a b c ⌝ }
 {
@@ -63,7 +67,7 @@ fn put_row(rows: &mut [u64; 32], at: usize, kind: u64, a: u64, b: u64, c: u64)
 }
 
 // Row `at` becomes the request, and reads back as it.
-pub fn put_request(rows: &mut [u64; 32], at: usize, request: Request)
+pub fn put_request(rows: &mut [u64; ROW_NUMBERS], at: usize, request: Request)
     requires { ⌜ (at < 8) × (length (now rows) ≡ 32) ⌝ }
     ensures { λ _. ⌜ now (rows .exit) ≡ setRequest (now (rows .entry)) at request ⌝ }
     ensures { λ _. ⌜ requestAt (now (rows .exit)) at ≡ request ⌝ }

@@ -6,12 +6,13 @@ ghost use Rattle.plans.specs.Rows.{rowsFrom};
 ghost use Rattle.plans.specs.Packed.{packed};
 use crate::left::Left;
 use crate::remaining::place_from;
+use crate::rows::ROW_NUMBERS;
 use requests::CounterSet;
 use requests::Setup;
 use requests::devices::all_counters;
 
 // The first plan of the requests in the first `count` rows, packed; 0 where there is none.
-pub fn plan_rows(setup: Setup, rows: &[u64; 32], count: usize) -> u64
+pub fn plan_rows(setup: Setup, rows: &[u64; ROW_NUMBERS], count: usize) -> u64
     requires { ⌜ count ≤ 8 ⌝ }
     ensures { λ r. ⌜ r ≡ packed (firstPlan setup (rowsFrom (now (rows .entry)) 0 count)) ⌝ }
 {

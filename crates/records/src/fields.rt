@@ -1,4 +1,5 @@
 // The fields of a text, as parts of it between tabs.
+use crate::MOST_FIELDS;
 use crate::Number;
 use crate::Parts;
 use crate::numbers::decimal;
@@ -13,12 +14,12 @@ ghost use Rattle.records.specs.Parts.{Parted};
 pub fn parts_of(text: &[u8]) -> Parts
     ensures { λ r. ⌜ Parted (now (text .entry)) r ⌝ }
 {
-    let mut ends = [text.len(); 8];
+    let mut ends = [text.len(); MOST_FIELDS];
     let mut tabs: usize = 0;
     let mut i = 0;
     while i < text.len() {
         if text[i] == b'\t' {
-            if tabs < 8 {
+            if tabs < MOST_FIELDS {
                 ends[tabs] = i;
             }
             tabs += 1;

@@ -34,8 +34,11 @@ enum LineNumbers {
     Fault(usize),
 }
 
+// The most fields that are told apart; no record has as many.
+const MOST_FIELDS: usize = 8;
+
 // Where the fields of a text end, those past the last one at its end, and how many fields it has.
 struct Parts {
-    ends: [usize; 8],
+    ends: [usize; MOST_FIELDS],
     count: usize,
 }

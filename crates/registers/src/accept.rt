@@ -17,6 +17,7 @@ use requests::bits::OUTSTANDING;
 use requests::bits::TYPES;
 use requests::bits::latency_word;
 use requests::check::request_refusal;
+use requests::devices::CAPACITY;
 use requests::devices::counter_count;
 use requests::set::has;
 ghost use mathlib.Core.Path.{_≡_};
@@ -142,7 +143,7 @@ fn rsp0_fits(setup: Setup, counters0: u64, counters1: u64, rsp0: u64, rsp1: u64)
 }
 
 // How many of the first control words are the word.
-fn count_of(limit: u64, words: [u64; 8], word: u64) -> u64
+fn count_of(limit: u64, words: [u64; CAPACITY], word: u64) -> u64
     requires { ⌜ limit ≤ capacity ⌝ }
     ensures { λ r. ⌜ r ≡ count limit (λ k. getD words k 0) word ⌝ }
 {
@@ -166,7 +167,7 @@ fn mm_cfg_of(counters: u64) -> u64
 }
 
 // Whether the filter registers may hold their values beside the control words.
-fn filters_fit(setup: Setup, words: [u64; 8], filters: FilterValues) -> bool
+fn filters_fit(setup: Setup, words: [u64; CAPACITY], filters: FilterValues) -> bool
     ensures { λ r. ⌜ r ≡ filtersFit setup (λ k. getD words k 0) filters ⌝ }
 {
     let device = setup.device;
@@ -188,7 +189,7 @@ fn filters_fit(setup: Setup, words: [u64; 8], filters: FilterValues) -> bool
 }
 
 // Whether each of the first control words is one that a plan leaves.
-fn controls_fit(setup: Setup, limit: u64, words: [u64; 8]) -> bool
+fn controls_fit(setup: Setup, limit: u64, words: [u64; CAPACITY]) -> bool
     requires { ⌜ limit ≤ capacity ⌝ }
     ensures { λ r. ⌜ r ≡ every limit (λ k. controlFits setup (getD words k 0)) ⌝ }
 {
@@ -210,7 +211,7 @@ fn flag_of(word: u64) -> u64
 }
 
 // The counters whose control words, of the first ones, are not 0.
-fn used_by(limit: u64, words: [u64; 8]) -> CounterSet
+fn used_by(limit: u64, words: [u64; CAPACITY]) -> CounterSet
     requires { ⌜ limit ≤ capacity ⌝ }
     ensures { λ r. ⌜ r .0 ≡ setFrom limit 0 (λ k. not (eqb (getD words k 0) 0)) ⌝ }
 {
@@ -231,11 +232,11 @@ fn ours_or_zero(usable: bool, control: u64) -> u64
 }
 
 // The control values that are looked at: 0 for a counter that is not usable.
-pub fn looked_at(setup: Setup, values: RegisterValues) -> [u64; 8]
+pub fn looked_at(setup: Setup, values: RegisterValues) -> [u64; CAPACITY]
     ensures { λ r. ⌜ r ≡ tabulate capacity (ours setup values) ⌝ }
 {
     let usable = setup.usable;
-    let mut words = [0; 8];
+    let mut words = [0; CAPACITY];
     let mut counter: u64 = 0;
     while counter < 8 {
         words[counter as usize] = ours_or_zero(

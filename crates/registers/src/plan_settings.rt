@@ -6,11 +6,13 @@ use layouts::Settings;
 use plans::Given;
 use plans::Place;
 use plans::packed::place_at;
+use plans::rows::ROW_NUMBERS;
 use plans::rows::request_at;
 use requests::CounterSet;
 use requests::Device;
 use requests::Request;
 use requests::bits::latency_word;
+use requests::devices::CAPACITY;
 use requests::devices::counter_count;
 use requests::set::has;
 ghost use mathlib.Core.Path.{_≡_};
@@ -75,7 +77,7 @@ fn with_counters(device: Device, place: Place, used: CounterSet) -> CounterSet
 }
 
 // The control words with one more. A counter past the array has none.
-fn with_word(words: [u64; 8], counter: u64, word: u64) -> [u64; 8]
+fn with_word(words: [u64; CAPACITY], counter: u64, word: u64) -> [u64; CAPACITY]
     ensures { λ r. ⌜ r ≡ set words counter word ⌝ }
 {
     if 8 <= counter {
@@ -87,7 +89,12 @@ fn with_word(words: [u64; 8], counter: u64, word: u64) -> [u64; 8]
 }
 
 // The control words with those of a request at its place.
-fn with_uses(device: Device, request: Request, place: Place, words: [u64; 8]) -> [u64; 8]
+fn with_uses(
+    device: Device,
+    request: Request,
+    place: Place,
+    words: [u64; CAPACITY],
+) -> [u64; CAPACITY]
     ensures { λ r. ⌜ r ≡ withUses (usesOf device request place) words ⌝ }
 {
     let counter = first_of(place);
@@ -184,7 +191,7 @@ fn no_settings() -> Settings
 {
     Settings {
         used: CounterSet(0),
-        words: [0; 8],
+        words: [0; CAPACITY],
         rsp0: 0,
         rsp1: 0,
         packets: false,
@@ -196,8 +203,8 @@ fn no_settings() -> Settings
 // The register values of the first requests of the array, each at the place with its number.
 pub fn settings_of(
     device: Device,
-    requests: [Request; 8],
-    places: [Given; 8],
+    requests: [Request; CAPACITY],
+    places: [Given; CAPACITY],
     count: usize,
 ) -> Settings
     ensures { λ r. ⌜ r ≡ settingsOf device (take count requests) (map (λ (g : Given). g .place) (take count places)) ⌝ }
@@ -215,7 +222,7 @@ pub fn settings_of(
 }
 
 // The register values of the requests in the first rows, each at its place in a packed plan.
-pub fn settings_in(device: Device, code: u64, rows: &[u64; 32], count: usize) -> Settings
+pub fn settings_in(device: Device, code: u64, rows: &[u64; ROW_NUMBERS], count: usize) -> Settings
     ensures { λ r. ⌜ r ≡ settingsOf device (rowsFrom (now (rows .entry)) 0 (min count capacity)) (placesFrom code 0 (rowsFrom (now (rows .entry)) 0 (min count capacity))) ⌝ }
 {
     let mut settings = no_settings();

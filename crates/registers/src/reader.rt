@@ -17,6 +17,7 @@ use requests::Opened;
 use requests::Opening;
 use requests::Refusal;
 use requests::Setup;
+use requests::devices::CAPACITY;
 use requests::devices::setup_of;
 use requests::set::has;
 ghost use mathlib.Core.Path.{_≡_};
@@ -85,7 +86,7 @@ fn reading_of(setup: Setup, values: RegisterValues) -> Reading
     let nothing = CounterRead {
         state: CounterState::NotOurs,
     };
-    let mut counters = [nothing; 8];
+    let mut counters = [nothing; CAPACITY];
     let mut counter: u64 = 0;
     while counter < 8 {
         counters[counter as usize] = tell_counter(
@@ -111,7 +112,7 @@ fn refused_reading(refusal: Refusal) -> Reading
     };
     Reading {
         answer: Answer::Refused(refusal),
-        counters: [nothing; 8],
+        counters: [nothing; CAPACITY],
     }
 }
 

@@ -13,6 +13,7 @@ use layouts::WriteAnswer;
 use requests::CounterSet;
 use requests::Device;
 use requests::Setup;
+use requests::devices::CAPACITY;
 use requests::devices::counter_count;
 use requests::set::has;
 use requests::set::size_of;
@@ -65,7 +66,7 @@ fn put_rows(
     set: CounterSet,
     base: u64,
     step: u64,
-    values: [u64; 8],
+    values: [u64; CAPACITY],
 ) -> usize
     requires { ⌜ (at + 2 * size count set ≤ length (now out)) × (count ≤ capacity) × (base ≤ 0xFFFF) × (step ≤ 2) ⌝ }
     ensures { λ r. ⌜ Appended (now (out .entry)) at (rows count set base step values) (now (out .exit)) r ⌝ }
@@ -141,7 +142,7 @@ fn put_list(out: &mut [u64], setup: Setup, settings: Settings) -> usize
     let controls = layout.control;
     let counts = layout.counter;
     let step = layout.step;
-    let zeros = [0; 8];
+    let zeros = [0; CAPACITY];
     let stopped = put(out, 0, true, layout.global, first_global(setup));
     let cleared = put_rows(out, stopped, count, usable, controls, step, zeros);
     let filtered = put_filters(out, cleared, device, settings);

@@ -9,6 +9,9 @@ ghost use mathlib.Core.Path.{_≡_};
 ghost use Rattle.requests.specs.Choice.{pick};
 ghost use Rattle.requests.specs.Devices.{counterCount, allCounters, letterOf, packetsOn, offcoreOn, pairsJudged, usableSet, setupOf, openedAs};
 
+// The number of counters that arrays have room for.
+pub const CAPACITY: usize = 8;
+
 // How many counters the device has.
 pub fn counter_count(d: Device) -> u64
     ensures { λ r. ⌜ r ≡ counterCount d ⌝ }
