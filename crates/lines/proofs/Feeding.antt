@@ -136,11 +136,10 @@ module _ {f : Feed} {block out : List ℕ} {next : Feed} {taken written : ℕ} {
         }
 
     -- the same of what the reply to the line leaves in the lent part of the output
-    module _ {parsed : Parsed} {r : Replied} {part : List ℕ} {after : Feed}
+    module _ {parsed : Parsed} {r : Replied} {part : List ℕ}
         (is : parsed ≡ keptLine ended)
         (answer : r ≡ repliedIn (next .session) parsed (length (take (length output - written) (drop written output))))
         (text : part ≡ repliedOut (next .session) parsed (take (length output - written) (drop written output)))
-        (begins : after ≡ lineStart (r .session))
       where
         roomy : replyRoom ≤ length (drop written output)
         roomy = omega (arith, length-drop written output, fed-length)
@@ -156,9 +155,9 @@ module _ {f : Feed} {block out : List ℕ} {next : Feed} {taken written : ℕ} {
             rw (drop-of-length-le (drop written output) {i = length output - written} (omega (arith, length-drop written output)), append-nil)
             (text ∙ rw (all-left output written, replied-out (next .session) parsed (drop written output) roomy, reply-is))
 
-        pub fed-reply : FedSoFar f block out after (taken + n + 1) (written + r .written)
+        pub fed-reply : FedSoFar f block out (lineStart (r .session)) (taken + n + 1) (written + r .written)
             (take written output ++ (part ++ drop (length output - written) (drop written output)))
-        fed-reply = rw (begins, answer-is, text-is) (fed-line (line-reply-length ended))
+        fed-reply = rw (answer-is, text-is) (fed-line (line-reply-length ended))
 
   -- the rest of a block without a newline
   module _ (free : NewlineFree (take (length block - taken) (drop taken block))) (h : replyRoom ≤ length out - written) where

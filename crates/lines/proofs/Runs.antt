@@ -1,5 +1,5 @@
 -- Pieces of a line as the code meets them: found byte by byte, kept byte by byte, and parsed at once where they are a whole line.
-use mathlib.Core.Bool.{true, false}
+use mathlib.Core.Bool.{Bool, true, false}
 use mathlib.Core.List.{List, _∷_, List·Memᴰ·append-cases, List·Memᴰ·eq-of-singleton}
 use mathlib.Core.Logic.{⊎-elim}
 use mathlib.Core.Path.{_≡_, sym, ap, _∙_}
@@ -11,13 +11,15 @@ use borrow.Author.Tests.{lt-ltb, ltb-false}
 use lib.Dec.{ltb}
 use lib.ListN.{length, getD, take, drop, set, length-take}
 use lib.Seq.{drop-cons, take-suc}
-use Rattle.requests.specs.Choice.{either}
+use Rattle.requests.specs.Choice.{either, pick}
 use Rattle.requests.proofs.Tests.{either-true, either-parts}
 use Rattle.records.specs.Text.{newline}
 use Rattle.records.specs.Parse.{longest, parseText}
+use Rattle.records.specs.declared.Parsed.{Parsed}
 use Rattle.answers.specs.Replies.{parsedReply}
-use Rattle.lines.specs.Pieces.{NewlineFree, keptLine}
+use Rattle.lines.specs.Pieces.{NewlineFree, keptLine, stateOf, KeptOn, EndedLine}
 use Rattle.lines.specs.Stream.{keepByte, lineReply, feedState}
+use Rattle.lines.specs.declared.Extent.{Extent}
 use Rattle.lines.specs.declared.Feed.{Feed}
 use Rattle.lines.proofs.Kept.{head-free, tail-free, not-ending, keep-fitting, afterRun, kept-run}
 use Rattle.lines.proofs.LineByLine.{front}
@@ -85,3 +87,18 @@ whole-line f bs full none free =
       sub-zero longest,
       front (take longest bs) (f .kept) (omega (arith, length-take longest bs)),
     )
+
+-- what a line is that ends with a piece: the start of what is kept of it, or of the piece
+module _ (kept : List ℕ) (used : ℕ) (long : Bool) (piece after : List ℕ) (e : Extent) {line start : List ℕ} {carried : Bool} {p : Parsed}
+    (chosen : line ≡ pick carried after piece)
+    (cut : start ≡ take (e .used) line)
+    (is : p ≡ parseText start true (e .long))
+  where
+    pub ended-carried : carried ≡ true → KeptOn kept used long piece after e → EndedLine kept used long piece p
+    unfolding keptLine
+    ended-carried given kept-on s = rw (kept-on s) (is ∙ rw (cut, chosen, given))
+
+    pub ended-whole : carried ≡ false → either long (ltb 0 used) ≡ false → length kept ≡ longest → NewlineFree piece
+        → e ≡ record { used = longest; long = ltb longest (length piece) } → EndedLine kept used long piece p
+    ended-whole given none full free extent s =
+        is ∙ rw (cut, chosen, given, extent) (sym (whole-line (stateOf s kept used long) piece full none free))

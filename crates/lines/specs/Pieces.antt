@@ -1,12 +1,15 @@
 -- A piece of a line: bytes without a newline.
 use mathlib.Core.Path.{_≡_}
-use mathlib.Core.Bool.{true}
+use mathlib.Core.Bool.{Bool, true}
 use mathlib.Core.List.{List, List·Memᴰ}
 use Prim.Native.Nat.{ℕ, _≤_, _<_}
 use lib.ListN.{length, getD, take}
 use Rattle.records.specs.Text.{newline}
 use Rattle.records.specs.Parse.{parseText}
+use Rattle.sessions.specs.declared.Session.{Session}
 use Rattle.records.specs.declared.Parsed.{Parsed}
+use Rattle.lines.specs.Stream.{feedState}
+use Rattle.lines.specs.declared.Extent.{Extent}
 use Rattle.lines.specs.declared.Feed.{Feed}
 
 -- none of the bytes is a newline
@@ -22,3 +25,15 @@ pub record FirstNewline (block : List ℕ) (at : ℕ) : Type 0 where
 -- what the kept bytes are as a line that has just ended
 unfoldable pub keptLine : Feed → Parsed
 keptLine f = parseText (take (f .used) (f .kept)) true (f .long)
+
+-- the state of a session and an unfinished line
+abbrev pub stateOf : Session → List ℕ → ℕ → Bool → Feed
+stateOf s kept used long = record { session = s; kept = kept; used = used; long = long }
+
+-- what a piece leaves of an unfinished line, whatever the session: the kept bytes, and how far the line goes
+abbrev pub KeptOn : List ℕ → ℕ → Bool → List ℕ → List ℕ → Extent → Type 0
+KeptOn kept used long piece after e = (s : Session) → feedState (stateOf s kept used long) piece ≡ stateOf s after (e .used) (e .long)
+
+-- what a line is that ends with a piece, whatever the session
+abbrev pub EndedLine : List ℕ → ℕ → Bool → List ℕ → Parsed → Type 0
+EndedLine kept used long piece p = (s : Session) → p ≡ keptLine (feedState (stateOf s kept used long) piece)

@@ -16,6 +16,12 @@ pub struct Feed {
     pub long: bool,
 }
 
+// How far an unfinished line goes: the number of its bytes that are kept, and whether it is longer.
+struct Extent {
+    pub used: usize,
+    pub long: bool,
+}
+
 // What a block leaves: the state, the number of bytes taken from the block, and the number written.
 pub struct Fed {
     pub feed: Feed,

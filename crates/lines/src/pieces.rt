@@ -1,16 +1,13 @@
 // Pieces of a line: kept until the line ends, and parsed then.
-use crate::Feed;
+use crate::Extent;
 use crate::LONGEST;
 use records::Parsed;
 use records::parse::parse_text;
-ghost use mathlib.Core.Bool.{true};
 ghost use mathlib.Core.Path.{_≡_};
 ghost use lib.Dec.{ltb};
-ghost use lib.ListN.{length, take};
-ghost use Rattle.requests.specs.Choice.{either};
-ghost use Rattle.records.specs.Parse.{longest, parseText};
-ghost use Rattle.lines.specs.Stream.{feedState};
-ghost use Rattle.lines.specs.Pieces.{NewlineFree, keptLine};
+ghost use lib.ListN.{take};
+ghost use Rattle.requests.specs.Choice.{either, pick};
+ghost use Rattle.lines.specs.Pieces.{NewlineFree, KeptOn, EndedLine};
 
 // Whether a line has begun.
 pub fn begun(used: usize, long: bool) -> bool
@@ -23,44 +20,60 @@ pub fn begun(used: usize, long: bool) -> bool
 }
 
 // Keeps a piece of an unfinished line behind what is kept of it.
-pub fn keep(feed: Feed, piece: &[u8]) -> Feed
+pub fn keep(kept: &mut [u8; LONGEST], used: usize, long: bool, piece: &[u8]) -> Extent
     requires { ⌜ NewlineFree (now piece) ⌝ }
-    ensures { λ r. ⌜ r ≡ feedState feed (now (piece .entry)) ⌝ }
+    ensures { λ r. ⌜ KeptOn (now (kept .entry)) used long (now (piece .entry)) (now (kept .exit)) r ⌝ }
 {
-    let mut next = feed;
+    let mut next = used;
     let mut i = 0;
     while i < piece.len() {
-        let used = next.used;
-        if LONGEST <= used {
-            next.long = true;
-            return next;
+        if LONGEST <= next {
+            return Extent {
+                used: next,
+                long: true,
+            };
         }
-        next.kept[used] = piece[i];
-        next.used = used + 1;
+        kept[next] = piece[i];
+        next += 1;
         i += 1;
     }
-    next
+    Extent { used: next, long }
 }
 
-// What the first bytes of a line that has ended are, at most `used` of them.
-fn parse_start(kept: &[u8], used: usize, long: bool) -> Parsed
-    ensures { λ r. ⌜ r ≡ parseText (take used (now (kept .entry))) true long ⌝ }
+// The line that a piece ends: what is kept of it where it began before, otherwise the piece.
+fn line_of<'a>(carried: bool, kept: &'a [u8], piece: &'a [u8]) -> &'a [u8]
+    ensures { λ r. ⌜ now r ≡ pick carried (now (kept .entry)) (now (piece .entry)) ⌝ }
 {
-    if used < kept.len() {
-        return parse_text(&kept[..used], true, long);
+    if carried {
+        return kept;
     }
-    parse_text(kept, true, long)
+    piece
+}
+
+// The first bytes of a text, at most n.
+fn start_of<'a>(text: &'a [u8], n: usize) -> &'a [u8]
+    ensures { λ r. ⌜ now r ≡ take n (now (text .entry)) ⌝ }
+{
+    if n < text.len() {
+        return &text[..n];
+    }
+    text
 }
 
 // What a line is that ends with a piece.
-pub fn parse_ended(feed: Feed, piece: &[u8]) -> Parsed
+// One call of `parse_text` serves a kept line and a whole one, so that it is compiled into the caller's loop.
+pub fn parse_ended(kept: &mut [u8; LONGEST], used: usize, long: bool, piece: &[u8]) -> Parsed
     requires { ⌜ NewlineFree (now piece) ⌝ }
-    ensures { λ r. ⌜ r ≡ keptLine (feedState feed (now (piece .entry))) ⌝ }
+    ensures { λ r. ⌜ EndedLine (now (kept .entry)) used long (now (piece .entry)) r ⌝ }
 {
-    if begun(feed.used, feed.long) {
-        let ended = keep(feed, piece);
-        let kept = ended.kept;
-        return parse_start(&kept, ended.used, ended.long);
+    let carried = begun(used, long);
+    let mut ended = Extent {
+        used: LONGEST,
+        long: LONGEST < piece.len(),
+    };
+    if carried {
+        ended = keep(kept, used, long, piece);
     }
-    parse_start(piece, LONGEST, LONGEST < piece.len())
+    let line = line_of(carried, kept, piece);
+    parse_text(start_of(line, ended.used), true, ended.long)
 }

@@ -15,6 +15,7 @@ ghost use mathlib.Core.Path.{_≡_};
 ghost use lib.ListN.{length};
 ghost use Rattle.answers.specs.Written.{inArray};
 ghost use Rattle.lines.specs.Stream.{lineStart, feedStart, endReply};
+ghost use Rattle.lines.specs.Pieces.{stateOf};
 ghost use Rattle.lines.specs.Blocks.{fedOf, fedOut};
 
 // The state at the beginning of a line.
@@ -36,43 +37,60 @@ pub fn start() -> Feed
     line_start(new_session())
 }
 
+// What a block leaves, of its parts.
+fn fed(
+    session: Session,
+    kept: [u8; LONGEST],
+    used: usize,
+    long: bool,
+    taken: usize,
+    written: usize,
+) -> Fed
+    ensures { λ r. ⌜ r ≡ record { feed = stateOf session kept used long; taken = taken; written = written } ⌝ }
+{
+    Fed {
+        feed: Feed {
+            session,
+            kept,
+            used,
+            long,
+        },
+        taken,
+        written,
+    }
+}
+
 // Takes bytes of a block while the output has room for any reply, and writes the replies.
+// The parts of the state are locals, since a struct is copied whole wherever it is handed on.
 pub fn feed(feed: Feed, block: &[u8], out: &mut [u8]) -> Fed
     ensures answer { λ r. ⌜ r ≡ fedOf feed (now (block .entry)) (length (now (out .entry))) ⌝ }
     ensures output { λ _. ⌜ now (out .exit) ≡ fedOut feed (now (block .entry)) (now (out .entry)) ⌝ }
 {
-    let mut next = feed;
+    let mut session = feed.session;
+    let mut kept = feed.kept;
+    let mut used = feed.used;
+    let mut long = feed.long;
     let mut taken = 0;
     let mut written = 0;
     while taken < block.len() {
         if out.len() - written < REPLY_ROOM {
-            return Fed {
-                feed: next,
-                taken,
-                written,
-            };
+            return fed(session, kept, used, long, taken, written);
         }
         let end = taken + newline_in(&block[taken..]);
         if end == block.len() {
-            return Fed {
-                feed: keep(next, &block[taken..]),
-                taken: end,
-                written,
-            };
+            let rest = keep(&mut kept, used, long, &block[taken..]);
+            return fed(session, kept, rest.used, rest.long, end, written);
         }
-        let parsed = parse_ended(next, &block[taken..end]);
-        let session = next.session;
+        let parsed = parse_ended(&mut kept, used, long, &block[taken..end]);
         let replied = reply(session, parsed, &mut out[written..]);
-        let after = replied.session;
-        next = line_start(after);
+        session = replied.session;
+        kept = [0u8; LONGEST];
+        used = 0;
+        long = false;
         written += replied.written;
         taken = end + 1;
     }
-    Fed {
-        feed: next,
-        taken,
-        written,
-    }
+    fed(session, kept, used, long, taken, written)
 }
 
 // The reply to the end of the input: a line without its newline is answered as one that is too long.
@@ -84,12 +102,12 @@ pub fn end(state: Feed) -> LineReply
     if begun(state.used, state.long) {
         let mut longer = state;
         longer.long = true;
-        let fed = feed(longer, b"\n", &mut text);
-        let next = fed.feed;
+        let last = feed(longer, b"\n", &mut text);
+        let next = last.feed;
         let session = next.session;
         return LineReply {
             text,
-            length: fed.written,
+            length: last.written,
             session,
         };
     }

@@ -1,38 +1,40 @@
 -- Each turn keeps one byte: what is left to keep gives the state that the whole piece gives. By the laws of a piece.
-use mathlib.Core.Path.{_≡_, refl, _∙_}
+use mathlib.Core.Path.{_≡_, refl, sym, _∙_}
 use Prim.Native.Nat.{_-_, _≤_}
 use native.Mathlib.Omega.{arith}
 use denote.Ref.{now}
 use lib.ListN.{length, drop}
 use lib.Seq.{drop-length}
 use Rattle.records.specs.Parse.{longest}
-use Rattle.lines.specs.Pieces.{NewlineFree}
+use Rattle.sessions.specs.declared.Session.{Session}
+use Rattle.lines.specs.Pieces.{NewlineFree, stateOf}
 use Rattle.lines.specs.Stream.{feedState}
 use Rattle.lines.proofs.Runs.{free-more, keep-more, keep-no-more}
 use Rattle.lines.proofs.pieces.keep.Statement.{statement}
 use Rattle.lines.proofs.pieces.keep.Tie as tie
 
 abbrev Inv-loop : tie.InvT-loop
-Inv-loop piece next₀ i₀ next i = (i ≤ length piece) × NewlineFree (drop i piece) × (feedState next (drop i piece) ≡ feedState next₀ piece)
+Inv-loop kept₀ used long piece next₀ i₀ kept next i =
+    (i ≤ length piece) × NewlineFree (drop i piece) × ((s : Session) → feedState (stateOf s kept next long) (drop i piece) ≡ feedState (stateOf s kept₀ next₀ long) piece)
 
 abbrev μ-loop : tie.MeasureT-loop
-μ-loop piece next₀ i₀ next i = length piece - i
+μ-loop kept₀ used long piece next₀ i₀ kept next i = length piece - i
 
 loop-holds : tie.Need-loop-holds Inv-loop μ-loop
-loop-holds c = (omega arith, c .pre, refl)
+loop-holds c = (omega arith, c .pre, λ s. refl)
 
 returns : tie.Need-returns Inv-loop μ-loop
 unfolding longest
 returns c =
     let l = c .before .before .loop in
     let a = c .before .before .before .args in
-    keep-no-more (now (a .piece)) (l .i) (omega arith) (l .inv .1) (l .next) (omega arith) ∙ l .inv .2
+    λ s. sym (keep-no-more (now (a .piece)) (l .i) (omega arith) (l .inv .1) (stateOf s (l .kept) (l .next) (a .long)) (omega arith) ∙ l .inv .2 s)
 
-shared-slice-read-next : tie.Need-shared-slice-read-next Inv-loop μ-loop
-shared-slice-read-next c = omega arith
+shared-slice-read-kept : tie.Need-shared-slice-read-kept Inv-loop μ-loop
+shared-slice-read-kept c = omega arith
 
-element-write-next : tie.Need-element-write-next Inv-loop μ-loop
-element-write-next c = omega arith
+element-write-kept : tie.Need-element-write-kept Inv-loop μ-loop
+element-write-kept c = omega arith
 
 add-next : tie.Need-add-next Inv-loop μ-loop
 add-next c = omega arith
@@ -50,7 +52,7 @@ loop-again c =
     let a = c .before .before .before .before .args in (
       omega arith,
       free-more (now (a .piece)) (l .i) (omega arith) (l .inv .1),
-      keep-more (now (a .piece)) (l .i) (omega arith) (l .inv .1) (l .next) (omega arith) ∙ l .inv .2,
+      λ s. keep-more (now (a .piece)) (l .i) (omega arith) (l .inv .1) (stateOf s (l .kept) (l .next) (a .long)) (omega arith) ∙ l .inv .2 s,
     )
 
 returns-2 : tie.Need-returns-2 Inv-loop μ-loop
@@ -59,7 +61,7 @@ returns-2 c =
     let l = c .before .loop in
     let a = c .before .before .args in
     let e : l .i ≡ length (now (a .piece)) = omega arith in
-    rw (e, drop-length) at (l .inv .2)
+    λ s. sym (rw (e, drop-length) at (l .inv .2 s))
 
 pub keep-spec : {M : Type 1} → statement M
 keep-spec =
@@ -69,8 +71,8 @@ keep-spec =
     μ-loop
     loop-holds
     returns
-    shared-slice-read-next
-    element-write-next
+    shared-slice-read-kept
+    element-write-kept
     add-next
     add-i
     loop-less

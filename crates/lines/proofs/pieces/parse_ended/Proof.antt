@@ -1,11 +1,10 @@
--- A line of which something is kept is parsed from the kept bytes, another where it lies. By the law of a whole line.
-use mathlib.Core.Path.{_≡_, sym, _∙_}
-use denote.Ref.{now}
-use lib.ListN.{length}
-use Rattle.records.specs.Parse.{longest}
-use Rattle.lines.specs.Pieces.{keptLine}
-use Rattle.lines.proofs.Runs.{whole-line}
+-- A line of which something is kept is parsed from the kept bytes, another where it lies. By the laws of a line that ends.
+use mathlib.Core.Logic.{⊎-elim}
+use mathlib.Core.Path.{sym, _∙_}
 use borrow.Author.Needs.{needs}
+use denote.Ref.{now}
+use Rattle.records.specs.Parse.{longest}
+use Rattle.lines.proofs.Runs.{ended-carried, ended-whole}
 use Rattle.lines.proofs.pieces.parse_ended.Statement.{statement}
 use Rattle.lines.proofs.pieces.parse_ended.Tie as tie
 
@@ -15,30 +14,29 @@ begun-requires c κs = search needs
 keep-requires : tie.Need-keep-requires
 keep-requires c κs = search needs
 
-slice-aggregate-parse-start : tie.Need-slice-aggregate-parse-start
-slice-aggregate-parse-start c = search needs
+line-of-requires : tie.Need-line-of-requires
+line-of-requires c κs = search needs
 
-parse-start-requires : tie.Need-parse-start-requires
-parse-start-requires c κs = search needs
+start-of-requires : tie.Need-start-of-requires
+start-of-requires c κs = search needs
+
+parse-text-requires : tie.Need-parse-text-requires
+parse-text-requires c κs = search needs
 
 returns : tie.Need-returns
-unfolding keptLine
-returns c = rw (← c .before .before .before .keep .ensures) (c .parse-start .ensures)
-
-parse-start-requires-2 : tie.Need-parse-start-requires-2
-parse-start-requires-2 c κs = search needs
-
--- the array of a state has room for the longest line
-room : (c : tie.Start) → length (c .args .feed .kept) ≡ longest
 unfolding longest
-room c = search needs
-
-returns-2 : tie.Need-returns-2
-unfolding longest
-returns-2 c =
-    let a = c .before .before .before .before .args in
-    let none = sym (c .before .before .begun .ensures) ∙ c .before .if1 .left in
-    c .parse-start2 .ensures ∙ sym (whole-line (a .feed) (now (a .piece)) (room (c .before .before .before .before)) none (c .before .before .before .before .pre))
+returns c =
+    let joined = c .before .before .before .before .before in
+    let start = joined .before .before .before in
+    let a = start .args in
+    let line = c .before .before in
+    let room = line .before .line-of-arg2 .given .0 in
+    let carried = ended-carried (now (a .kept)) (a .used) (a .long) (now (a .piece)) (joined .if1 .kept) (joined .if1 .ended) (line .line-of .ensures) (c .before .start-of .ensures) (c .parse-text .ensures) in
+    let whole = ended-whole (now (a .kept)) (a .used) (a .long) (now (a .piece)) (joined .if1 .kept) (joined .if1 .ended) (line .line-of .ensures) (c .before .start-of .ensures) (c .parse-text .ensures) in
+    ⊎-elim
+    (λ way. carried (way .0 .taken) (rw (way .3, way .4) (way .2 .ensures)))
+    (λ way. whole (way .0 .left) (sym (joined .before .begun .ensures) ∙ way .0 .left) (rw (way .1) at room) (start .pre) (way .2))
+    (joined .if1 .came)
 
 pub parse-ended-spec : {M : Type 1} → statement M
 parse-ended-spec =
@@ -46,8 +44,7 @@ parse-ended-spec =
     (tie.spec
     begun-requires
     keep-requires
-    slice-aggregate-parse-start
-    parse-start-requires
-    returns
-    parse-start-requires-2
-    returns-2)
+    line-of-requires
+    start-of-requires
+    parse-text-requires
+    returns)
