@@ -6,10 +6,10 @@ use Prim.Native.Nat.{_<_, _≤_}
 use native.Mathlib.Omega.{arith}
 use lib.ListN.{length, length-append}
 use Rattle.requests.specs.declared.Device.{Device}
-use Rattle.requests.specs.declared.Device.the-variants.{G, S}
 use Rattle.requests.specs.declared.Setup.{Setup}
 use Rattle.requests.specs.declared.Request.{Request}
 use Rattle.requests.specs.Devices.{capacity, counterCount}
+use Rattle.requests.proofs.DeviceNumbers.{numbers}
 use Rattle.plans.specs.declared.Place.{Place}
 use Rattle.plans.specs.declared.Place.the-variants.{Counter, WithRsp, Pair}
 use Rattle.plans.specs.Lists.{Each, none, and}
@@ -40,9 +40,8 @@ places-at-most [] = omega arith
 places-at-most (p ∷ ps) = omega (arith, places-at-most ps, has-counter p, length-append (countersOf p) (counters ps))
 
 device-at-most : (d : Device) → counterCount d ≤ capacity
-unfolding counterCount capacity
-device-at-most G = omega arith
-device-at-most S = omega arith
+unfolding capacity
+device-at-most d = omega (arith, numbers d .counters-few)
 
 module _ (s : Setup) where
   counters-at-most : (rs : List Request) (ps : List Place) → Legal s rs ps → length (counters ps) ≤ usableCount s

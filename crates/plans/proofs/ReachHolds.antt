@@ -13,8 +13,6 @@ use lib.Dec.{eqb}
 use lib.Pow.{shl-shr, shr-shr, pow-lt, pow-pos}
 use borrow.Author.Tests.{eqb-true, eqb-false}
 use Rattle.requests.specs.declared.CounterSet.{CounterSet}
-use Rattle.requests.specs.declared.Device.{Device}
-use Rattle.requests.specs.declared.Device.the-variants.{G, S}
 use Rattle.requests.specs.declared.Setup.{Setup}
 use Rattle.requests.specs.declared.Request.{Request}
 use Rattle.requests.specs.Choice.{both, every, pick}
@@ -22,6 +20,7 @@ use Rattle.requests.specs.Bits.{bit}
 use Rattle.requests.specs.Devices.{has, counterCount}
 use Rattle.requests.proofs.Tests.{every-at}
 use Rattle.requests.proofs.Words.{same, bit-and}
+use Rattle.requests.proofs.DeviceNumbers.{numbers}
 use Rattle.plans.specs.declared.Place.{Place}
 use Rattle.plans.specs.Lists.{All, cons, Each, none, and}
 use Rattle.plans.specs.Places.{countedOf, countersOf}
@@ -144,17 +143,12 @@ first-bit : (k : ℕ) → bit k (2 ^ k) ≡ true
 unfolding bit
 first-bit k = let e : 2 ^ k / 2 ^ k ≡ 1 = rw one-mul at (shl-shr 1 k) in rw e
 
-six : (d : Device) → counterCount d ≤ 6
-unfolding counterCount
-six G = omega arith
-six S = omega arith
-
 unplanned : (s : Setup) (rs : List Request) → s .usable .0 < 64 → leftOf s rs ≡ 0 → ¬ HasPlan s rs
 unfolding leftOf
 unplanned s rs fits z h =
     let l = h .1 in
     let n = counterCount (s .device) in
-    left-some n (six (s .device)) (l .allowed) (s .usable) fits
+    left-some n (numbers (s .device) .counters-few) (l .allowed) (s .usable) fits
     (all-takes (s .usable) (counters (h .0)) (all-imp (λ k u. u .1) (l .usable-only)) (l .differ))
     (all-imp (λ k u. u .0) (l .usable-only))
     (2 ^ s .usable .0)
@@ -171,4 +165,4 @@ unfolding leftOf
 grows s rs r = grows-from (counterCount (s .device)) (2 ^ s .usable .0) rs r
 
 pub reach : Reach
-reach = record { few = six; masks = masks; grows = grows; unplanned = unplanned }
+reach = record { few = λ d. numbers d .counters-few; masks = masks; grows = grows; unplanned = unplanned }

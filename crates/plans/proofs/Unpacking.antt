@@ -13,12 +13,12 @@ use lib.Pow.{shr-shr}
 use lib.ListN.{length}
 use borrow.Author.Tests.{ne-eqb}
 use Rattle.requests.specs.declared.Device.{Device}
-use Rattle.requests.specs.declared.Device.the-variants.{G, S}
 use Rattle.requests.specs.declared.Setup.{Setup}
 use Rattle.requests.specs.declared.Request.{Request}
 use Rattle.requests.specs.declared.Request.the-variants.{Event, Packet, Offcore, Latency}
 use Rattle.requests.specs.Choice.{isSome}
 use Rattle.requests.specs.Devices.{counterCount}
+use Rattle.requests.proofs.DeviceNumbers.{numbers}
 use Rattle.plans.specs.declared.Place.{Place}
 use Rattle.plans.specs.declared.Room.{Room}
 use Rattle.plans.specs.declared.Admission.{Admission}
@@ -49,9 +49,7 @@ place-second s (Latency t a b) k j l = refl
 
 -- a device has at least one counter, and at most as many as six bits a place allow
 pub counters-few : (d : Device) → (1 ≤ counterCount d) × (counterCount d ≤ 8)
-unfolding counterCount
-counters-few G = (omega arith, omega arith)
-counters-few S = (omega arith, omega arith)
+counters-few d = (numbers d .counters-some, omega (arith, numbers d .counters-few))
 
 width-fits : (s : Setup) (r : Request) → width s r ≤ 8
 unfolding width

@@ -12,7 +12,6 @@ use lib.ListN.{length, getD, List·getD-eq-default}
 use borrow.Author.Tests.{eq-eqb, ne-eqb}
 use Rattle.requests.specs.declared.CounterSet.{CounterSet}
 use Rattle.requests.specs.declared.Device.{Device}
-use Rattle.requests.specs.declared.Device.the-variants.{G, S}
 use Rattle.requests.specs.declared.Setup.{Setup}
 use Rattle.requests.specs.declared.Request.the-variants.{Latency}
 use Rattle.requests.specs.declared.Refusal.{Refusal}
@@ -20,7 +19,7 @@ use Rattle.requests.specs.declared.Answer.the-variants.{Accepted, Refused}
 use Rattle.requests.specs.Choice.{both, either, every, pick, isSome, firstHolding}
 use Rattle.requests.specs.Bits.{onlyBits, typeBits, outstanding}
 use Rattle.requests.specs.Masks.{typeMask}
-use Rattle.requests.specs.Devices.{has, capacity}
+use Rattle.requests.specs.Devices.{has, capacity, offcoreOn}
 use Rattle.requests.specs.Refusals.{answerFor}
 use Rattle.requests.specs.Checks.{kindNotOn, notListed, outOfRange, requestRows, requestRefusal, formed}
 use Rattle.requests.proofs.MaskTests.{only-by-mask}
@@ -57,8 +56,11 @@ both-left b = refl
 
 wide-refused : (d : Device) (u : Setup) (t : ℕ) (a b : CounterSet) → onlyBits typeBits t ≡ false → formed (on d u) (Latency t a b) ≡ false
 unfolding formed requestRefusal requestRows firstHolding kindNotOn notListed outOfRange either
-wide-refused G u t a b e = rw (e, firstHolding)
-wide-refused S u t a b e = refl
+wide-refused d u t a b e = go (offcoreOn d) refl
+  where
+    go : (x : Bool) → offcoreOn d ≡ x → formed (on d u) (Latency t a b) ≡ false
+    go true h = rw (h, e, firstHolding)
+    go false h = rw (h, firstHolding)
 
 -- .. and are no latency word's
 pub latency-wide : (s : Setup) (n0 n1 w0 w1 : ℕ) → 0xFFBF < w0 % 2 ^ outstanding → false ≡ latencyFits s n0 n1 w0 w1

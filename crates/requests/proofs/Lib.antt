@@ -2,6 +2,7 @@ pub mod Tests
 pub mod Words
 pub mod BitLists
 pub mod MaskTests
+pub mod DeviceNumbers
 pub mod Openings
 pub mod OpeningsTaken
 pub mod Lookups

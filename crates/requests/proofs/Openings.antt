@@ -3,45 +3,41 @@ use mathlib.Core.Path.{_≡_, refl, ap, sym, _∙_}
 use mathlib.Core.Bool.{Bool, true, false}
 use mathlib.Core.List.{List, [], _∷_}
 use mathlib.Core.Option.{Option, none, some, Option·none-ne-some, Option·some-injective}
-use Prim.Native.Nat.{ℕ, _<_}
+use Prim.Native.Nat.{ℕ, _+_, _<_, _≤_}
+use native.Mathlib.Numerals.{add-one}
 use native.Mathlib.Omega.{arith}
 use lib.Dec.{eqb}
+use lib.ListN.{length, getD, drop, drop-of-length-le}
+use lib.Seq.{drop-cons}
 use borrow.Author.Tests.{eqb-true, ne-eqb}
 use Rattle.requests.specs.Choice.{pick}
 use Rattle.requests.specs.Devices.{counterCount, letterOf, devices, named, deviceOf, usableSet, setupOf, openingOf, openedAs}
 use Rattle.requests.specs.declared.CounterSet.{CounterSet}
 use Rattle.requests.specs.declared.Device.{Device}
-use Rattle.requests.specs.declared.Device.the-variants.{G, S}
 use Rattle.requests.specs.declared.Opening.{Opening}
 use Rattle.requests.specs.declared.Setup.{Setup}
 use Rattle.requests.specs.declared.Opened.{Opened}
 use Rattle.requests.specs.declared.Opened.the-variants.{With, Refused}
 use Rattle.requests.specs.declared.Refusal.{Refusal}
 use Rattle.requests.specs.declared.Refusal.the-variants.{BadOpening}
+use Rattle.requests.proofs.DeviceNumbers.{numbers}
 
 -- a set of the device's counters fits 64 bits
 pub counters-fit : (d : Device) → counterCount d < 64
-unfolding counterCount
-counters-fit G = omega arith
-counters-fit S = omega arith
+counters-fit d = omega (arith, numbers d .counters-few)
 
 -- the letter of a device names it
-letter-names : (d : Device) → deviceOf (letterOf d) ≡ some d
-unfolding deviceOf named devices letterOf
-letter-names G = refl
-letter-names S = refl
-
 pub letter-named : (n : ℕ) (d : Device) → n ≡ letterOf d → deviceOf n ≡ some d
-letter-named n d e = ap deviceOf e ∙ letter-names d
+letter-named n d e = ap deviceOf e ∙ numbers d .letter-names
 
--- a number that is no device's letter names none
-pub no-letter : (n : ℕ) → ((d : Device) → n ≡ letterOf d → ⊥) → deviceOf n ≡ none
-unfolding deviceOf named
-no-letter n f = go devices
-  where
-    go : (ds : List Device) → named ds n ≡ none
-    go [] = refl
-    go (d ∷ ds) = rw (ne-eqb n (letterOf d) (f d), named) (go ds)
+-- past a device of another letter, the list names what its rest does; past all, none
+pub other-letter : (ds : List Device) (i n : ℕ) (x : Device) → i < length ds → (n ≡ letterOf (getD ds i x) → ⊥) → named (drop (i + 1) ds) n ≡ named (drop i ds) n
+unfolding named
+other-letter ds i n x l f = rw (add-one, drop-cons ds i x l, ne-eqb n (letterOf (getD ds i x)) f, named)
+
+pub no-letter : (ds : List Device) (i n : ℕ) → length ds ≤ i → named (drop i ds) n ≡ none
+unfolding named
+no-letter ds i n l = rw (drop-of-length-le ds l, named)
 
 -- what a device with a usable set opens
 abbrev pub openedOn : Device → CounterSet → Opened

@@ -5,13 +5,13 @@ use mathlib.Core.Option.{Option, none, some, Option·none-ne-some, Option·some-
 use Prim.Native.Nat.{_≤_}
 use borrow.Author.Tests.{lt-ltb, le-leb, ltb-true, leb-true}
 use Rattle.requests.specs.Refusals.{numberOf, answerNumber}
-use Rattle.requests.specs.Devices.{counterCount, allCounters, deviceOf, usableSet, setupOf, openingOf, openedAs, openedAnswer}
+use Rattle.requests.specs.Devices.{allCounters, deviceOf, usableSet, setupOf, openingOf, openedAs, openedAnswer}
 use Rattle.requests.specs.Openings.{Opens, openingNumber, Openings}
 use Rattle.requests.specs.declared.CounterSet.{CounterSet}
 use Rattle.requests.specs.declared.Device.{Device}
-use Rattle.requests.specs.declared.Device.the-variants.{G, S}
 use Rattle.requests.specs.declared.Opening.{Opening}
 use Rattle.requests.specs.declared.Setup.{Setup}
+use Rattle.requests.proofs.DeviceNumbers.{numbers}
 use Rattle.requests.proofs.Openings.{letter-named, setup-on, opening-is}
 use Rattle.requests.proofs.Tests.{both-parts, true-both}
 
@@ -68,10 +68,5 @@ three : (o : Opening) → ((s : Setup) → ¬ Opens o s) → openingNumber o ≡
 unfolding openedAs openedAnswer answerNumber numberOf
 three o none-opens = rw (refused o none-opens)
 
-fifteen : (d : Device) → allCounters d ≡ 15
-unfolding allCounters counterCount
-fifteen G = refl
-fifteen S = refl
-
 pub openings : Openings
-openings = record { taken = taken; only = only; refused = refused; accepted = accepted; three = three; fifteen = fifteen }
+openings = record { taken = taken; only = only; refused = refused; accepted = accepted; three = three; fifteen = λ d. numbers d .fifteen }

@@ -12,6 +12,9 @@ ghost use Rattle.requests.specs.Devices.{counterCount, allCounters, lett
 // The number of counters that arrays have room for.
 pub const CAPACITY: usize = 8;
 
+// All devices.
+const DEVICES: [Device; 2] = [Device::G, Device::S];
+
 // How many counters the device has.
 pub fn counter_count(d: Device) -> u64
     ensures { λ r. ⌜ r ≡ counterCount d ⌝ }
@@ -90,11 +93,13 @@ pub fn setup_of(o: Opening) -> Opened
 {
     let usable = o.usable;
     let letter = o.device;
-    if letter == letter_of(Device::G) {
-        return opened_on(Device::G, usable);
-    }
-    if letter == letter_of(Device::S) {
-        return opened_on(Device::S, usable);
+    let mut i = 0;
+    while i < DEVICES.len() {
+        let device = DEVICES[i];
+        if letter == letter_of(device) {
+            return opened_on(device, usable);
+        }
+        i += 1;
     }
     Opened::Refused(Refusal::BadOpening)
 }

@@ -1,39 +1,58 @@
--- `devices::setup_of` meets its contract: the letter's device opens what `opened_on` says, by the laws of openings.
+-- `devices::setup_of` meets its contract: the first device with the letter opens what `opened_on` says, by the laws of openings.
 -- Assumes nothing.
-use mathlib.Core.Path.{_≡_, sym, _∙_}
+use mathlib.Core.Path.{_≡_, refl, sym, _∙_}
+use Prim.Native.Nat.{_-_}
+use native.Mathlib.Omega.{arith}
+use lib.ListN.{length, drop}
 use borrow.Author.Needs.{needs}
-use Rattle.requests.specs.Devices.{letterOf}
-use Rattle.requests.proofs.Openings.{letter-named, no-letter, opened-on, opened-refused}
+use Rattle.requests.specs.Devices.{devices, named, deviceOf}
+use Rattle.requests.proofs.Openings.{letter-named, other-letter, no-letter, opened-on, opened-refused}
 use Rattle.requests.proofs.devices.setup_of.Statement.{statement}
 use Rattle.requests.proofs.devices.setup_of.Tie as tie
-use Rattle.requests.specs.declared.Device.{Device}
-use Rattle.requests.specs.declared.Device.the-variants.{G, S}
 
-returns : tie.Need-returns
+abbrev Inv-loop : tie.InvT-loop
+Inv-loop usable letter i₀ i = named (drop i devices) letter ≡ deviceOf letter
+
+abbrev μ-loop : tie.MeasureT-loop
+μ-loop usable letter i₀ i = length devices - i
+
+loop-holds : tie.Need-loop-holds Inv-loop μ-loop
+unfolding deviceOf
+loop-holds c = refl
+
+returns : tie.Need-returns Inv-loop μ-loop
 returns c =
     c .opened-on .ensures
-    ∙ sym (opened-on (c .before .before .before .before .args .o) G (letter-named _ G (c .before .if1 .taken ∙ c .before .before .letter-of .ensures)))
+    ∙ sym (opened-on (c .before .before .before .before .before .before .before .args .o) _ (letter-named _ _ (c .before .if1 .taken ∙ c .before .before .letter-of .ensures)))
 
-returns-2 : tie.Need-returns-2
+loop-again : tie.Need-loop-again Inv-loop μ-loop
+unfolding devices
+loop-again c =
+    other-letter devices (c .before .before .before .before .loop .i) _ _ (c .before .before .before .loop-test .taken)
+    (λ e. c .if1 .left (e ∙ sym (c .before .letter-of .ensures)))
+    ∙ c .before .before .before .before .loop .inv
+
+loop-less : tie.Need-loop-less Inv-loop μ-loop
+unfolding devices
+loop-less c = omega (arith, c .before .before .before .loop-test .taken)
+
+returns-2 : tie.Need-returns-2 Inv-loop μ-loop
+unfolding devices
 returns-2 c =
-    c .opened-on2 .ensures
-    ∙ sym (opened-on (c .before .before .before .before .before .before .args .o) S (letter-named _ S (c .before .if2 .taken ∙ c .before .before .letter-of2 .ensures)))
-
-returns-3 : tie.Need-returns-3
-returns-3 c = sym (opened-refused (c .before .before .before .before .before .args .o) (no-letter _ other))
-  where
-    other : (d : Device) → c .before .before .before .before .before .args .o .device ≡ letterOf d → ⊥
-    other G e = c .before .before .if1 .left (e ∙ sym (c .before .before .before .letter-of .ensures))
-    other S e = c .if2 .left (e ∙ sym (c .before .letter-of2 .ensures))
+    sym (opened-refused (c .before .before .before .args .o) (sym (c .before .loop .inv) ∙ no-letter devices (c .before .loop .i) _ (c .loop-test .left)))
 
 pub setup-of-spec : {M : Type 1} → statement M
 setup-of-spec =
     tie.close
     (tie.spec
+    Inv-loop
+    μ-loop
+    loop-holds
+    (λ c. search needs)
     (λ c κs. search needs)
     (λ c κs. search needs)
     returns
-    (λ c κs. search needs)
-    (λ c κs. search needs)
-    returns-2
-    returns-3)
+    (λ c. search needs)
+    loop-less
+    loop-again
+    returns-2)
