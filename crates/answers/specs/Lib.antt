@@ -1,13 +1,16 @@
+-- What the contracts and the statements speak of.
 pub mod Replies
 pub mod Reader
-pub mod Written
-pub mod Texts
-pub mod Examples
-pub mod NeverShort
-pub mod ReplyLength
+pub mod LineLists
+-- Statements: what is claimed of it.
 pub mod LinesAnswered
 pub mod LinesAreCalls
-pub mod LineLists
 pub mod LinesSay
 pub mod OutputSays
 pub mod Demand3OfLines
+pub mod NeverShort
+pub mod ReplyLength
+pub mod Examples
+-- The code's own: how it holds its values. No claim.
+pub mod Written
+pub mod Texts

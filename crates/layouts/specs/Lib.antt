@@ -1,17 +1,20 @@
+-- What the contracts and the statements speak of.
 pub mod Layout
 pub mod Settings
 pub mod Writes
 pub mod Read
 pub mod Told
+-- Statements: what is claimed of it.
 pub mod PermittedBits
 pub mod NoReservedBit
 pub mod OthersUntouched
 pub mod RestWhileWritten
 pub mod WriteCount
+pub mod EmptyPlan
 pub mod RoundTrip
 pub mod ExactReader
 pub mod NotLookedAt
-pub mod EmptyPlan
-pub mod Examples
-pub mod Slices
 pub mod ToldPlaces
+pub mod Examples
+-- The code's own: how it holds its values. No claim.
+pub mod Slices

@@ -1,8 +1,11 @@
+-- What the contracts and the statements speak of.
 pub mod Stream
-pub mod Pieces
-pub mod Blocks
+-- Statements: what is claimed of it.
 pub mod LineByLine
 pub mod Transcript
 pub mod Cutting
 pub mod Progress
 pub mod Tries
+-- The code's own: how it holds its values. No claim.
+pub mod Pieces
+pub mod Blocks

@@ -1,18 +1,21 @@
+-- What the contracts and the statements speak of.
 pub mod Lists
 pub mod Places
 pub mod Legal
 pub mod Order
 pub mod Search
-pub mod Found
+-- Statements: what is claimed of it.
 pub mod FirstPlan
+pub mod PlanTest
+pub mod PlanLength
 pub mod Parts
+pub mod Reach
+pub mod PlanTries
+-- The code's own: how it holds its values. No claim.
+pub mod Found
 pub mod Rows
 pub mod Counters
 pub mod Left
 pub mod Filters
 pub mod Remaining
 pub mod Packed
-pub mod PlanTest
-pub mod PlanLength
-pub mod PlanTries
-pub mod Reach

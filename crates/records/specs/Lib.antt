@@ -1,9 +1,12 @@
+-- What the contracts and the statements speak of.
 pub mod Text
 pub mod Records
 pub mod Fields
-pub mod Parts
 pub mod Numbers
 pub mod Verbs
 pub mod Parse
+-- Statements: what is claimed of it.
 pub mod Grammar
 pub mod Examples
+-- The code's own: how it holds its values. No claim.
+pub mod Parts

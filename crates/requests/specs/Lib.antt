@@ -1,12 +1,15 @@
-pub mod Choice
+-- What the contracts and the statements speak of.
 pub mod Refusals
 pub mod Bits
-pub mod Masks
 pub mod Devices
-pub mod Openings
 pub mod Catalogue
-pub mod Lookup
 pub mod Checks
-pub mod Examples
-pub mod WellFormedRequests
+-- Statements: what is claimed of it.
+pub mod Openings
 pub mod RefusedRequests
+pub mod WellFormedRequests
+pub mod Examples
+-- The code's own: how it holds its values. No claim.
+pub mod Choice
+pub mod Masks
+pub mod Lookup

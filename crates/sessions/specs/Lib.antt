@@ -1,20 +1,22 @@
+-- What the contracts and the statements speak of.
 pub mod Choose
 pub mod Turns
 pub mod Calls
 pub mod Table
 pub mod Plain
 pub mod Sessions
-pub mod RefusalTable
-pub mod Taking
-pub mod Agreement
-pub mod Unchanged
-pub mod DistinctIds
-pub mod QueueRules
+pub mod Completed
 pub mod Sound
+-- Statements: what is claimed of it.
+pub mod RefusalTable
+pub mod Unchanged
+pub mod QueueRules
+pub mod Taking
+pub mod TurnPlan
+pub mod Agreement
+pub mod DistinctIds
 pub mod WellFormed
 pub mod HeadTaken
-pub mod TurnPlan
-pub mod Completed
 pub mod Demand3
 pub mod Demand3From
 pub mod Runs
