@@ -1,0 +1,4 @@
+pub mod SignedNumbers
+pub mod CallAnswers
+pub mod Reported
+pub mod Retried

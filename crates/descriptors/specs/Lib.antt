@@ -1,0 +1,5 @@
+pub mod Failures
+pub mod Reads
+pub mod Writes
+pub mod Reports
+pub mod Retries
