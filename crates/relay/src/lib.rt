@@ -1,43 +1,46 @@
 // The line program over two descriptors: lines come from one, and the replies go to the other.
 // No contract can say what is read and written there: what is read is answered by `lines`, and `pass_block` says that all of it is.
+mod endings;
+
 use answers::replies::REPLY_ROOM;
+use descriptors::Next;
+use descriptors::Reading;
+use descriptors::Writing;
+use descriptors::read::bytes_read;
+use descriptors::read::read_some;
+use descriptors::write::is_complete;
+use descriptors::write::send;
+use endings::ending_of;
+use endings::last_of;
+pub use endings::status_of;
 use lines::Feed;
 use lines::stream::end;
 use lines::stream::feed;
 use lines::stream::start;
-ghost use mathlib.Core.Bool.{false};
+use std::num::wrapping_add_usize;
 ghost use mathlib.Core.Path.{_≡_};
-ghost use Prim.Native.Nat.{_≤_, _<_};
+ghost use Prim.Native.Nat.{_≤_};
 ghost use lib.ListN.{length};
-ghost use Rattle.io.specs.Counts.{Counts};
+ghost use Rattle.descriptors.specs.Writes.{Reached};
 ghost use Rattle.relay.specs.Passing.{Passing};
+ghost use Rattle.relay.specs.Fitness.{Unfit};
 ghost use Rattle.answers.specs.Written.{replyRoom};
 
-// What a block leaves: the state, the number of bytes answered, and whether all their replies were written.
+// What a block leaves: the state, the number of bytes answered, the number of bytes reported written, and what comes next.
 struct Passed {
     pub feed: Feed,
     pub taken: usize,
-    pub written: bool,
+    pub sent: usize,
+    pub next: Next,
 }
 
-// Reads at least one byte, and answers how many: 0 at the end of the input, and where a read fails, which is told on standard error.
-// A read that a signal interrupts is made again. A proved loop has to end, so it counts down from a number that no run uses up.
-fn read_some(input: i32, block: &mut [u8]) -> usize
-    ensures { λ r. ⌜ Counts r (now (block .exit)) ⌝ }
-{
-    let mut turns = u64::MAX;
-    while turns > 0 {
-        let got = libc::read(input, block);
-        if got >= 0 {
-            return io::count(got, block);
-        }
-        if os::errno() != libc::EINTR {
-            os::fail(b"read");
-            return 0;
-        }
-        turns -= 1;
-    }
-    0
+// How the lines of an input ended: all read and all replies written; the output closed by its reader; a read or write failed,
+// which was told on standard error; or nothing done, for want of room in the lent slices.
+pub enum Ending {
+    Complete,
+    Closed,
+    Failed,
+    Refused,
 }
 
 // Answers a block: what the output holds is written before more of the block is answered.
@@ -45,66 +48,82 @@ fn pass_block(state: Feed, block: &[u8], output: i32, out: &mut [u8]) -> Passed
     requires { ⌜ replyRoom ≤ length (now out) ⌝ }
     ensures { λ r. ⌜ Passing state (now (block .entry)) r ⌝ }
 {
-    let mut next = state;
+    let mut current = state;
     let mut taken = 0;
+    let mut sent = 0;
     while taken < block.len() {
-        let fed = feed(next, &block[taken..], out);
-        next = fed.feed;
+        let fed = feed(current, &block[taken..], out);
+        current = fed.feed;
         taken += fed.taken;
         let n = fed.written;
-        if !io::write_all(output, &out[..n]) {
+        let written = send(output, &out[..n]);
+        sent = wrapping_add_usize(sent, written.done);
+        let next = written.next;
+        if !is_complete(next) {
             return Passed {
-                feed: next,
+                feed: current,
                 taken,
-                written: false,
+                sent,
+                next,
             };
         }
     }
     Passed {
-        feed: next,
+        feed: current,
         taken,
-        written: true,
+        sent,
+        next: Next::Complete,
     }
 }
 
 // Writes the first n bytes of a text.
-fn write_start(output: i32, text: &[u8], n: usize) -> bool
+fn send_first(output: i32, text: &[u8], n: usize) -> Writing
     requires { ⌜ n ≤ length (now text) ⌝ }
+    ensures { λ r. ⌜ Reached n r ⌝ }
 {
-    io::write_all(output, &text[..n])
+    send(output, &text[..n])
 }
 
-// Answers what is read, block by block, and then the end of the input; whether all was written.
-fn answer_all(input: i32, output: i32, block: &mut [u8], out: &mut [u8]) -> bool
+// Answers what is read, block by block, and then the end of the input.
+fn answer_all(input: i32, output: i32, block: &mut [u8], out: &mut [u8]) -> Next
     requires { ⌜ replyRoom ≤ length (now out) ⌝ }
 {
     let mut state = start();
+    let mut reading = Reading::Again;
     let mut turns = u64::MAX;
     while turns > 0 {
-        let n = read_some(input, block);
+        reading = read_some(input, block);
+        let n = bytes_read(reading);
         if n == 0 {
             break;
         }
         let passed = pass_block(state, &block[..n], output, out);
-        if !passed.written {
-            return false;
+        let ended = passed.next;
+        if !is_complete(ended) {
+            return ended;
         }
         state = passed.feed;
         turns -= 1;
     }
     let last = end(state);
     let text = last.text;
-    write_start(output, &text, last.length)
+    let written = send_first(output, &text, last.length);
+    let ended = written.next;
+    last_of(reading, ended)
 }
 
-// Answers the lines that come from the input, a session of their own, until it ends or a write fails: whether all was written.
-// An output without room for a reply is not used, and the answer is then false.
-pub fn answer_input(input: i32, output: i32, block: &mut [u8], out: &mut [u8]) -> bool
-    ensures refused { λ r. ⌜ (length (now (out .entry)) < replyRoom → r ≡ false) ⌝ }
-    ensures unused { λ _. ⌜ (length (now (out .entry)) < replyRoom → now (out .exit) ≡ now (out .entry)) ⌝ }
+// Answers the lines that come from the input, a session of their own, until it ends, or a read or write fails.
+// A block without a byte is refused, and so is an output without room for a reply: neither is used then.
+pub fn answer_input(input: i32, output: i32, block: &mut [u8], out: &mut [u8]) -> Ending
+    ensures refused { λ r. ⌜ (Unfit (now (block .entry)) (now (out .entry)) → r ≡ Ending.Refused) ⌝ }
+    ensures fit { λ r. ⌜ (r ≡ Ending.Refused → Unfit (now (block .entry)) (now (out .entry))) ⌝ }
+    ensures unused { λ _. ⌜ (Unfit (now (block .entry)) (now (out .entry)) → (now (block .exit) ≡ now (block .entry)) × (now (out .exit) ≡ now (out .entry))) ⌝ }
 {
-    if out.len() < REPLY_ROOM {
-        return false;
+    if block.len() == 0 {
+        return Ending::Refused;
     }
-    answer_all(input, output, block, out)
+    if out.len() < REPLY_ROOM {
+        return Ending::Refused;
+    }
+    ending_of(answer_all(input, output, block, out))
 }

@@ -1,17 +1,40 @@
--- An output without room for a reply is left as it is; any other has the room that the loop asks for.
-use mathlib.Core.Path.{refl}
+-- Slices that are unfit are left as they are; any others have what the loop asks for, and no ending of the loop is a refusal.
+use mathlib.Core.Logic.{⊎-elim, inl, inr}
+use mathlib.Core.Path.{_≡_, refl, sym, _∙_}
+use Prim.Native.Nat.{ℕ}
 use native.Mathlib.Omega.{arith}
-use Rattle.answers.specs.Written.{replyRoom}
+use denote.Ref.{now}
 use borrow.Author.Needs.{needs}
+use Rattle.answers.specs.Written.{replyRoom}
+use Rattle.relay.specs.Endings.{endingOf}
+use Rattle.relay.specs.Fitness.{Unfit}
+use Rattle.relay.specs.declared.Ending.the-variants.{Refused}
+use Rattle.descriptors.specs.declared.Next.{Next}
+use Rattle.descriptors.specs.declared.Next.the-variants.{Go, Wait, Complete, Closed, Failed, Stuck}
 use Rattle.relay.proofs.answer_input.Statement.{statement}
 use Rattle.relay.proofs.answer_input.Tie as tie
 
+not-refused : (next : Next) → endingOf next ≡ Refused → ⊥
+not-refused Go e = let z : _≡_ {A = ℕ} 0 1 = cc in absurd (omega arith)
+not-refused Wait e = let z : _≡_ {A = ℕ} 0 1 = cc in absurd (omega arith)
+not-refused Complete e = let z : _≡_ {A = ℕ} 0 1 = cc in absurd (omega arith)
+not-refused Closed e = let z : _≡_ {A = ℕ} 0 1 = cc in absurd (omega arith)
+not-refused Failed e = let z : _≡_ {A = ℕ} 0 1 = cc in absurd (omega arith)
+not-refused Stuck e = let z : _≡_ {A = ℕ} 0 1 = cc in absurd (omega arith)
+
 returns : tie.Need-returns
-returns c = (λ h. refl, λ h. refl)
+returns c = (λ h. refl, (λ e. inl (c .if1 .taken), λ h. (refl, refl)))
+
+returns-2 : tie.Need-returns-2
+unfolding replyRoom
+returns-2 c = (λ h. refl, (λ e. inr (omega arith), λ h. (refl, refl)))
 
 answer-all-requires : tie.Need-answer-all-requires
 unfolding replyRoom
 answer-all-requires c κs = omega arith
+
+ending-of-requires : tie.Need-ending-of-requires
+ending-of-requires c κs = search needs
 
 same-length : tie.Need-same-length
 same-length c = search needs
@@ -19,10 +42,22 @@ same-length c = search needs
 same-length-2 : tie.Need-same-length-2
 same-length-2 c = search needs
 
-returns-2 : tie.Need-returns-2
+returns-3 : tie.Need-returns-3
 unfolding replyRoom
-returns-2 c = (λ h. absurd (omega arith), λ h. absurd (omega arith))
+returns-3 c =
+    let i = c .before .before .before .before .before .before .before .before in
+    let a = i .before .before .before .before .args in
+    let fit : Unfit (now (a .block)) (now (a .out)) → ⊥ = ⊎-elim (i .before .if1 .left) (λ short. absurd (omega (arith, short, i .if2 .left))) in
+    (λ h. absurd (fit h), (λ e. absurd (not-refused (c .before .before .before .before .before .answer-all .result) (sym (c .ending-of .ensures) ∙ e)), λ h. absurd (fit h)))
 
 pub answer-input-spec : {M : Type 1} → statement M
 answer-input-spec =
-    tie.close (tie.spec returns answer-all-requires same-length same-length-2 returns-2)
+    tie.close
+    (tie.spec
+    returns
+    returns-2
+    answer-all-requires
+    ending-of-requires
+    same-length
+    same-length-2
+    returns-3)
