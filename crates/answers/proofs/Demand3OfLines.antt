@@ -22,16 +22,18 @@ use Rattle.sessions.specs.Turns.{requestsOf, taken, passed, turned, assign}
 use Rattle.sessions.specs.Calls.{Call, Plain, notOpen, opened}
 use Rattle.sessions.specs.Calls as calls
 use Rattle.sessions.specs.Table.{refusal}
-use Rattle.sessions.specs.Plain.{step, run, completes, completed}
+use Rattle.sessions.specs.Plain.{turnsAsked, unlessRefused, step, run, completes, completed}
 use Rattle.sessions.specs.Sessions.{queueLimit, plainOf, refusedBy, turnOf, planOf, answerTo, nextSession, sessionAfter, queueAfter}
-use Rattle.sessions.specs.Completed.{CompletedTurn, turnIf, turnsBy, turnsOf}
+use Rattle.sessions.specs.Completed.{smallSession, CompletedTurn, turnIf, turnsBy, turnsOf}
 use Rattle.sessions.specs.Sound.{Sound}
 use Rattle.sessions.specs.DistinctIds.{Distinct}
 use Rattle.sessions.specs.Demand3.{InOneOf, Dropped}
 use Rattle.sessions.proofs.Lists.{all-joined, pairwise-right}
-use Rattle.sessions.proofs.Agreed.{answer-is, next-is, agreement}
+use Rattle.sessions.proofs.Agreed.{answer-is, next-is}
+use Rattle.sessions.proofs.SmallSession.{agreement}
+use Rattle.sessions.proofs.Given.{taken-distinct}
 use Rattle.sessions.proofs.TableAnswers.{turn-closed}
-use Rattle.sessions.proofs.SoundKept.{sound-turned, well-formed}
+use Rattle.sessions.proofs.SoundKept.{well-formed}
 use Rattle.sessions.proofs.Demand3.{demand3}
 use Rattle.records.specs.Records.{Fits}
 use Rattle.records.specs.declared.Record.{Record}
@@ -48,12 +50,12 @@ use Rattle.answers.proofs.GivenTo.{given-append, given-end, Placed, pla
 
 -- what one call completes: no turn, or one, of an open queue
 data Completing (p : Plain) (s : Session) (c : Call) : Type 0 where
-  nothing : turnsBy p s c ≡ [] → completes queueLimit p c ≡ 0 → Completing p s c
-  one : (room : ℕ) (t : CompletedTurn) → c ≡ calls.Turn room → p ≡ opened (t .setup) (t .queue) → turnsBy p s c ≡ t ∷ [] → completes queueLimit p c ≡ 1
+  nothing : turnsBy smallSession p s c ≡ [] → completes queueLimit p c ≡ 0 → Completing p s c
+  one : (room : ℕ) (t : CompletedTurn) → c ≡ calls.Turn room → p ≡ opened (t .setup) (t .queue) → turnsBy smallSession p s c ≡ t ∷ [] → completes queueLimit p c ≡ 1
       → Completing p s c
 
 completing-turn : (x : Setup) (q : List Entry) (s : Session) (room : ℕ) → plainOf s ≡ opened x q → Completing (opened x q) s (calls.Turn room)
-unfolding turnsBy completes turnIf answerTo refusedBy answerFor
+unfolding turnsBy completes turnsAsked turnIf answerTo refusedBy answerFor
 completing-turn x q s room same = go (refusal queueLimit (opened x q) (calls.Turn room)) refl
   where
     go : (y : Option Refusal) → refusal queueLimit (opened x q) (calls.Turn room) ≡ y → Completing (opened x q) s (calls.Turn room)
@@ -64,15 +66,17 @@ completing-turn x q s room same = go (refusal queueLimit (opened x q) (calls.Tur
         let rejected : turnOf s room .answer ≡ Refused y = answer-is s (calls.Turn room) ∙ rw (same, e) in
         nothing (rw rejected) (rw e)
 
+-- a call that asks for no turn completes none
+no-turns : (x : Option Refusal) → _≡_ {A = ℕ} (unlessRefused x 0 0) 0
+no-turns none = refl
+no-turns (some x) = refl
+
 completing : (p : Plain) (s : Session) (c : Call) → plainOf s ≡ p → Completing p s c
-unfolding turnsBy completes
-completing notOpen s (calls.Open o) same = nothing refl refl
-completing notOpen s (calls.Add id r) same = nothing refl refl
-completing notOpen s (calls.Drop id) same = nothing refl refl
+unfolding turnsBy completes turnsAsked
+completing p s (calls.Open o) same = nothing refl (no-turns (refusal queueLimit p (calls.Open o)))
+completing p s (calls.Add id r) same = nothing refl (no-turns (refusal queueLimit p (calls.Add id r)))
+completing p s (calls.Drop id) same = nothing refl (no-turns (refusal queueLimit p (calls.Drop id)))
 completing notOpen s (calls.Turn room) same = nothing refl (rw (turn-closed queueLimit room))
-completing (opened x q) s (calls.Open o) same = nothing refl refl
-completing (opened x q) s (calls.Add id r) same = nothing refl refl
-completing (opened x q) s (calls.Drop id) same = nothing refl refl
 completing (opened x q) s (calls.Turn room) same = completing-turn x q s room same
 
 -- the turn t among calls, after at most n others, where the plain queue has its setup and its queue
@@ -97,14 +101,14 @@ found-later p c cs n m t more f =
       there = f .there;
     }
 
-turn-found : (cs : List Call) (p : Plain) (s : Session) → plainOf s ≡ p → (n : ℕ) (t : CompletedTurn) → List·Memᴰ t (take (suc n) (turnsOf p s cs)) → Found p cs n t
+turn-found : (cs : List Call) (p : Plain) (s : Session) → plainOf s ≡ p → (n : ℕ) (t : CompletedTurn) → List·Memᴰ t (take (suc n) (turnsOf smallSession queueLimit p s cs)) → Found p cs n t
 unfolding turnsOf completed run
 turn-found [] p s same n t m = absurd (List·Memᴰ·not-nil m)
 turn-found (c ∷ cs) p s same n t m =
     go (completing p s c same) m (turn-found cs (step queueLimit p c) (nextSession s c) (next-is s c ∙ ap (λ (x : Plain). step queueLimit x c) same))
   where
     rest : List CompletedTurn
-    rest = turnsOf (step queueLimit p c) (nextSession s c) cs
+    rest = turnsOf smallSession queueLimit (step queueLimit p c) (nextSession s c) cs
 
     -- a later turn than the first
     later : completes queueLimit p c ≡ 1 → (k : ℕ) → List·Memᴰ t (take k rest)
@@ -119,7 +123,7 @@ turn-found (c ∷ cs) p s same n t m =
         record { since = []; room = room; rest = cs; split = ap (λ (x : Call). x ∷ cs) is; early = omega arith; there = rw k at }
     either-turn room u is at count (inr l) below = later count n l below
 
-    go : Completing p s c → List·Memᴰ t (take (suc n) (turnsBy p s c ++ rest))
+    go : Completing p s c → List·Memᴰ t (take (suc n) (turnsBy smallSession p s c ++ rest))
         → ((j : ℕ) (u : CompletedTurn) → List·Memᴰ u (take (suc j) rest) → Found (step queueLimit p c) cs j u) → Found p (c ∷ cs) n t
     go (nothing empty count) l below = found-later p c cs n n t (omega arith) (below n t (rw empty at l))
     go (one room u is at turns count) l below = either-turn room u is at count (List·Memᴰ·cases-cons (rw turns at l)) below
@@ -141,13 +145,6 @@ turn-only (Drop i) room e = let z : _≡_ {A = ℕ} 0 1 = cc in absurd (omega ar
 turn-only Turn room e = refl
 
 -- ---- the lines
-
--- the ids taken are distinct
-taken-distinct : (s : Setup) (q : List Entry) → Sound queueLimit s q → Distinct (taken s q)
-unfolding turned
-taken-distinct s q sound =
-    pairwise-right (map (λ (e : Entry). e .id) (passed s q))
-    (rw (map-append (λ (e : Entry). e .id) (passed s q) (taken s q)) at (sound-turned queueLimit s q sound .distinct))
 
 module _ (start : Session) (closed : start .opened ≡ false) (before after : List (List ℕ)) (p : ℕ) (e : Entry) where
   -- the plain queue between them
@@ -175,11 +172,11 @@ module _ (start : Session) (closed : start .opened ≡ false) (before after : Li
         first = rw (l .made) (d .first);
       }
 
-  taken-by : InOneOf (take (suc p) (turnsOf from (sessionAfter start (callsBy before)) (callsBy after))) e → TakenBy start before after p e
-  unfolding from counters
+  taken-by : InOneOf (take (suc p) (turnsOf smallSession queueLimit from (sessionAfter start (callsBy before)) (callsBy after))) e → TakenBy start before after p e
+  unfolding from counters sessionAfter
   taken-by o =
       let t : CompletedTurn = o .turn in
-      let f : Found from (callsBy after) p t = turn-found (callsBy after) from (sessionAfter start (callsBy before)) (agreement .stands start closed (callsBy before)) p t (o .member) in
+      let f : Found from (callsBy after) p t = turn-found (callsBy after) from (sessionAfter start (callsBy before)) (agreement start closed .stands (callsBy before)) p t (o .member) in
       let l : LineOf after (f .since) (calls.Turn (f .room)) = line-of after (f .since) (calls.Turn (f .room)) (f .rest) (f .split) in
       let is : l .asked ≡ Turn = turn-only (l .asked) (f .room) (l .is) in
       let there : queueAfter (callsBy (before ++ l .since)) ≡ opened (t .setup) (t .queue) = queue-since (l .since) (f .since) (l .made) ∙ f .there in
@@ -187,7 +184,7 @@ module _ (start : Session) (closed : start .opened ≡ false) (before after : Li
       let es : List Entry = taken (t .setup) (t .queue) in
       let plan : List Said = takesOf (assign es (told .places)) in
       let list : List Said = setsOf (writes (t .setup) (requestsOf es) (told .places)) in
-      let distinct : Distinct es = taken-distinct (t .setup) (t .queue) (well-formed (callsBy (before ++ l .since)) (t .setup) (t .queue) there) in
+      let distinct : Distinct es = taken-distinct queueLimit (t .setup) (t .queue) (well-formed queueLimit (callsBy (before ++ l .since)) (t .setup) (t .queue) there) in
       let g : Placed es (told .places) e = placed es (told .places) e (told .first .legal .allowed) distinct (o .in-plan .takes) in
       record {
         since = l .since;
@@ -207,14 +204,14 @@ module _ (start : Session) (closed : start .opened ≡ false) (before after : Li
       }
 
 pub demand3-of-lines : Demand3OfLines
-unfolding from
+unfolding from sessionAfter
 demand3-of-lines start closed before after ahead behind e waits enough = go (demand3 start closed (callsBy before) (callsBy after) ahead behind e waits enough)
   where
     p : ℕ
     p = length ahead
 
     go : Dropped queueLimit (queueAfter (callsBy before)) (callsBy after) p e
-        ⊎ InOneOf (take (suc p) (turnsOf (queueAfter (callsBy before)) (sessionAfter start (callsBy before)) (callsBy after))) e
+        ⊎ InOneOf (take (suc p) (turnsOf smallSession queueLimit (queueAfter (callsBy before)) (sessionAfter start (callsBy before)) (callsBy after))) e
         → DroppedBy start before after p e ⊎ TakenBy start before after p e
     go (inl d) = inl (dropped-by start closed before after p e d)
     go (inr o) = inr (taken-by start closed before after p e o)

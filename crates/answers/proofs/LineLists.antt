@@ -20,9 +20,9 @@ use Rattle.sessions.specs.Turns.{fits, taken, passed, turned}
 use Rattle.sessions.specs.Calls.{Call, Plain, notOpen, opened, waiting}
 use Rattle.sessions.specs.Calls as calls
 use Rattle.sessions.specs.Table.{refusal}
-use Rattle.sessions.specs.Plain.{change, step, run}
+use Rattle.sessions.specs.Plain.{onQueue, change, step, run}
 use Rattle.sessions.specs.Sessions.{queueLimit, plainOf, sessionAfter, queueAfter}
-use Rattle.sessions.proofs.Agreed.{agreement}
+use Rattle.sessions.proofs.SmallSession.{agreement}
 use Rattle.sessions.proofs.Steps.{step-accepted, step-refused}
 use Rattle.sessions.proofs.Rearranged.{all-turned}
 use Rattle.sessions.proofs.Removed.{all-removed}
@@ -53,7 +53,8 @@ session-by s (line ∷ lines) = session-by (answerLine s line .session) lines �
 
 -- it stands for the plain queue of the calls
 pub stands-after : (start : Session) → start .opened ≡ false → (lines : List (List ℕ)) → plainOf (sessionBy start lines) ≡ queueAfter (callsBy lines)
-stands-after start closed lines = ap plainOf (session-by start lines) ∙ agreement .stands start closed (callsBy lines)
+unfolding sessionAfter
+stands-after start closed lines = ap plainOf (session-by start lines) ∙ agreement start closed .stands (callsBy lines)
 
 -- ---- two lists one after the other
 
@@ -136,18 +137,17 @@ unfolding callsBy flatMap
 calls-fit [] = nil
 calls-fit (line ∷ lines) = all-append (line-fits line (parseLine line) refl) (calls-fit lines)
 
-opened-askable : (x : Option Setup) → Askable (waiting (elim x [ none ↦ notOpen | some s ↦ opened s [] ]))
+opened-askable : (p : Plain) (x : Option Setup) → Askable (waiting p) → Askable (waiting (elim x [ none ↦ p | some s ↦ opened s [] ]))
 unfolding waiting
-opened-askable none = nil
-opened-askable (some s) = nil
+opened-askable p none h = h
+opened-askable p (some s) h = nil
 
 change-askable : (p : Plain) (c : Call) → CallFits c → Askable (waiting p) → Askable (waiting (change p c))
-unfolding change waiting turned taken passed
-change-askable notOpen (calls.Open o) f h = opened-askable (setupOf o)
+unfolding change onQueue waiting turned taken passed
+change-askable p (calls.Open o) f h = opened-askable p (setupOf o) h
 change-askable notOpen (calls.Add id r) f h = h
 change-askable notOpen (calls.Drop id) f h = h
 change-askable notOpen (calls.Turn room) f h = h
-change-askable (opened s q) (calls.Open o) f h = h
 change-askable (opened s q) (calls.Add id r) f h = all-append h (cons f nil)
 change-askable (opened s q) (calls.Drop id) f h = all-removed id q h
 change-askable (opened s q) (calls.Turn room) f h = all-turned (fits s) [] q h

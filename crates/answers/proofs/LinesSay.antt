@@ -17,8 +17,8 @@ use Rattle.sessions.specs.Turns.{taken, placesOf}
 use Rattle.sessions.specs.Calls.{Plain, notOpen, opened, waiting}
 use Rattle.sessions.specs.Calls as calls
 use Rattle.sessions.specs.Table.{refusal}
-use Rattle.sessions.specs.Sessions.{queueLimit, plainOf, answerTo, queueAfter}
-use Rattle.sessions.proofs.Agreed.{agreement}
+use Rattle.sessions.specs.Sessions.{queueLimit, plainOf, answerTo, queueAfter, sessionAfter}
+use Rattle.sessions.proofs.SmallSession.{agreement}
 use Rattle.sessions.proofs.TableAnswers.{turn-closed}
 use Rattle.sessions.proofs.TakenPlan.{taken-first}
 use Rattle.records.specs.Records.{recordText, Fits}
@@ -55,10 +55,10 @@ module _ (start : Session) (closed : start .opened ≡ false) (lines : List (Lis
   -- and an open, add or drop as the table says
   answer-alone : (r : Record) → Fits r → r ≢ Turn → (x : Option Refusal) → refusal queueLimit queue (callOf r) ≡ x
       → replySays (replyAfter start lines (recordText r)) ≡ some (Answers (answerNumber (answerFor x)) ∷ [])
-  unfolding here queue
+  unfolding here queue sessionAfter
   answer-alone r h n x e =
       let answer : answerTo (sessionBy start lines) (callOf r) ≡ answerFor x =
-      rw (session-by start lines) (agreement .answers start closed (callsBy lines) (callOf r)) ∙ ap answerFor e in
+      rw (session-by start lines) (agreement start closed .answers (callsBy lines) (callOf r)) ∙ ap answerFor e in
       rw (reply-is r h) (rw answer at (lines-are-calls .alone (sessionBy start lines) r n))
 
   -- a turn is refused before open alone

@@ -25,10 +25,10 @@ use Rattle.plans.proofs.Sets.{all-append}
 use Rattle.plans.proofs.PlanLengthHolds.{plan-length}
 use Rattle.layouts.specs.Layout.{tabulate, layoutOf, controlAt, counterAt, rsp0At, rsp1At, mmCfgAt, matchAt, maskAt, mmEnable, enabled, eventWord, offcoreCode, rspMask, rspWord, packetWord}
 use Rattle.layouts.specs.Settings.{usesOf, wordAt, headOr, nonempty, settingsOf}
-use Rattle.layouts.specs.Writes.{Write, unusable, offcoreWrites, packetWrites, filterWrites, writes}
+use Rattle.layouts.specs.Writes.{Write, unusable, firstGlobal, lastGlobal, offcoreWrites, packetWrites, filterWrites, writes}
 use Rattle.layouts.proofs.ListLaws.{all-head}
 use Rattle.layouts.proofs.Tabulated.{getD-tabulate}
-use Rattle.layouts.proofs.RegisterAddresses.{in-room}
+use Rattle.layouts.proofs.DeviceFacts.{in-room}
 use Rattle.layouts.proofs.RegistersAfter.{writes-all}
 use Rattle.layouts.proofs.ControlWords.{word-at}
 use Rattle.records.specs.Records.{Hex, AddFits}
@@ -139,13 +139,17 @@ unfolding layoutOf
 global-fits G v h = (omega arith, h)
 global-fits S v h = (omega arith, h)
 
--- bits of unusable counters and of any others of the device
-enable-fits : (s : Setup) (u : ℕ) → Hex 16 (unusable s + u % 2 ^ counterCount (s .device))
-unfolding unusable allCounters capacity
-enable-fits s u =
+-- the values of the global register have bits of the device's counters alone
+last-fits : (s : Setup) (used : ℕ) → Hex 16 (lastGlobal s used)
+unfolding lastGlobal firstGlobal unusable allCounters capacity
+last-fits s used =
     let small : 2 ^ counterCount (s .device) ≤ 2 ^ 8 = pow-mono (plan-length .device-at-most (s .device)) in
     let some : 1 ≤ 2 ^ counterCount (s .device) = pow-mono {i = 0} (omega arith) in
-    omega (arith, mod-lt u {m = 2 ^ counterCount (s .device)} some)
+    omega (arith, mod-lt used {m = 2 ^ counterCount (s .device)} some)
+
+first-fits : (s : Setup) → Hex 16 (firstGlobal s)
+unfolding lastGlobal
+first-fits s = omega (arith, last-fits s 0)
 
 filter-fits : (a v : ℕ) → a < 0x10000 → Hex 16 v → WriteFits (a, v)
 filter-fits a v l h = (omega arith, h)
@@ -175,10 +179,10 @@ module _ (rs : List Request) (ps : List Place) (fit : All WordsFit rs) where
       let d = s .device in
       let us = ofAll (usesOf d) rs ps in
       writes-all s (settingsOf d rs ps) WriteFits
-      (global-fits d (unusable s) (omega (arith, enable-fits s 0)))
+      (global-fits d (firstGlobal s) (first-fits s))
       (λ k l h. control-fits d k 0 (in-room d k l) zero-fits)
       (filters-fit d)
       (λ k l h. counter-fits d k (in-room d k l))
       (λ k l h. control-fits d k (getD (tabulate capacity (wordAt us)) k 0) (in-room d k l)
       (rw (getD-tabulate capacity (wordAt us) k 0 (in-room d k l)) (word-at (Hex 16) us k zero-fits (of-all (usesOf d) (uses-fit d) fit ps))))
-      (global-fits d (unusable s + settingsOf d rs ps .used .0 % 2 ^ counterCount d) (enable-fits s (settingsOf d rs ps .used .0)))
+      (global-fits d (lastGlobal s (settingsOf d rs ps .used .0)) (last-fits s (settingsOf d rs ps .used .0)))

@@ -9,15 +9,11 @@ use lib.Dec.{eqb}
 use borrow.Author.Tests.{eqb-true, eqb-false}
 use Rattle.plans.specs.Lists.{All, nil, cons}
 use Rattle.sessions.specs.declared.Session.{Session}
-use Rattle.sessions.specs.Calls.{Call}
 use Rattle.sessions.specs.Sessions.{newSession, sessionAfter}
 use Rattle.records.specs.Text.{newline}
 use Rattle.records.specs.Parse.{parseLine}
-use Rattle.records.specs.declared.Parsed.{Parsed}
-use Rattle.records.specs.declared.Parsed.the-variants.{Line, Fault}
-use Rattle.answers.specs.Replies.{parsedReply, answerLine}
-use Rattle.answers.specs.LinesAreCalls.{callsIn}
-use Rattle.answers.proofs.LinesAreCalls.{lines-are-calls}
+use Rattle.answers.specs.Replies.{answerLine}
+use Rattle.answers.proofs.LineLists.{line-session}
 use Rattle.lines.specs.Stream.{lineStart, feedStart, feedState, feedText, endText, transcript}
 use Rattle.lines.specs.Pieces.{NewlineFree}
 use Rattle.lines.specs.Transcript.{closed, repliesTo, atEnd, callsOf, Transcript}
@@ -118,12 +114,6 @@ output s (text ∷ texts) rest (cons free fs) f =
 
 -- ---- the session
 
--- the calls of a line leave the session of its reply
-one-line : (s : Session) (p : Parsed) (calls : List Call) → sessionAfter s (callsIn p ++ calls) ≡ sessionAfter (parsedReply s p .session) calls
-unfolding callsIn parsedReply sessionAfter
-one-line s (Line r) calls = ap (λ (x : Session). sessionAfter x calls) (sym (lines-are-calls .session s r))
-one-line s (Fault k) calls = refl
-
 rest-session : (s : Session) (rest : List ℕ) → NewlineFree rest → feedState (lineStart s) rest .session ≡ s
 unfolding afterRun lineStart
 rest-session s rest free = ap (λ (f : Feed). f .session) (kept-run (lineStart s) rest free)
@@ -136,7 +126,7 @@ session s (text ∷ texts) rest (cons free fs) f =
     let more : List ℕ = flatMap closed texts ++ rest in
     let joined : (closed text ++ flatMap closed texts) ++ rest ≡ closed text ++ more = append-assoc (closed text) (flatMap closed texts) rest in
     rw (joined, state-first s text free more)
-    (session (answerLine s (closed text) .session) texts rest fs f ∙ sym (one-line s (parseLine (closed text)) (callsOf texts)))
+    (session (answerLine s (closed text) .session) texts rest fs f ∙ sym (line-session s (parseLine (closed text)) (callsOf texts)))
 
 pub transcript-holds : Transcript
 unfolding transcript feedStart

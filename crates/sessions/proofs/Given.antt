@@ -83,7 +83,7 @@ assign-gives (x ∷ es) (p ∷ ps) e (and a each) (add h d) m = go (List·Memᴰ
         }
 
 -- the ids taken are distinct
-taken-distinct : (limit : ℕ) (s : Setup) (q : List Entry) → Sound limit s q → Distinct (taken s q)
+pub taken-distinct : (limit : ℕ) (s : Setup) (q : List Entry) → Sound limit s q → Distinct (taken s q)
 unfolding turned
 taken-distinct limit s q sound =
     pairwise-right (map (λ (e : Entry). e .id) (passed s q))
