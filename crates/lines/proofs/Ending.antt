@@ -5,12 +5,12 @@ use mathlib.Core.Path.{_≡_, refl, _∙_}
 use Prim.Native.Nat.{ℕ}
 use native.Mathlib.Omega.{arith}
 use lib.ListN.{length, take, replicate, length-replicate}
-use Rattle.requests.specs.Refusals.{numberOf}
+use Rattle.requests.specs.Refusals.{numberOf, answerFor}
 use Rattle.requests.specs.declared.Refusal.the-variants.{NotInGrammar}
 use Rattle.requests.specs.declared.Answer.the-variants.{Refused}
 use Rattle.sessions.specs.declared.Session.{Session}
 use Rattle.records.specs.Fields.{fields}
-use Rattle.records.specs.Parse.{tooLong, parseText}
+use Rattle.records.specs.Parse.{tooLong, parseText, parsedRefusal}
 use Rattle.records.specs.Text.{bytes, tab, newline, decimalDigits, decimalText, lineOf}
 use Rattle.records.specs.Verbs.{recordOf}
 use Rattle.records.specs.declared.Parsed.{Parsed}
@@ -30,7 +30,7 @@ longer f = record { session = f .session; kept = f .kept; used = f .used; long =
 
 -- a line that is too long is not in the grammar
 long-fault : (s : Session) (t : List ℕ) → _≡_ {A = Reply} (parsedReply s (parseText t true true)) (record { text = answerText (Refused NotInGrammar); session = s })
-unfolding parseText parsedReply tooLong
+unfolding parseText parsedReply parsedRefusal answerFor tooLong
 long-fault s t = go (recordOf t true)
   where
     go : (p : Parsed) → _≡_ {A = Reply} (parsedReply s (tooLong p (length (fields t)))) (record { text = answerText (Refused NotInGrammar); session = s })
