@@ -1,5 +1,6 @@
 pub mod AcceptanceTests
 pub mod ReadLines
+pub mod DeviceWidths
 pub mod WriteWidths
 pub mod SliceFits
 pub mod TurnsSaid

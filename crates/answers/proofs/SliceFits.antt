@@ -6,8 +6,6 @@ use Prim.Native.Nat.{ℕ, _*_, _≤_}
 use native.Mathlib.Omega.{arith}
 use lib.ListN.{length}
 use borrow.Author.Tests.{le-ltb}
-use Rattle.requests.specs.declared.Device.{Device}
-use Rattle.requests.specs.declared.Device.the-variants.{G, S}
 use Rattle.requests.specs.declared.Opening.{Opening}
 use Rattle.requests.specs.declared.Setup.{Setup}
 use Rattle.requests.specs.declared.Request.{Request}
@@ -15,7 +13,6 @@ use Rattle.requests.specs.declared.Entry.{Entry}
 use Rattle.requests.specs.declared.Refusal.the-variants.{SliceTooShort}
 use Rattle.requests.specs.declared.Answer.the-variants.{Refused}
 use Rattle.requests.specs.Refusals.{numberOf}
-use Rattle.layouts.specs.WriteCount.{writeLimit}
 use Rattle.layouts.proofs.WriteCount.{write-count}
 use Rattle.sessions.specs.Calls.{Call, Open, Add, Drop, Turn, Plain, notOpen, opened}
 use Rattle.sessions.specs.Turns.{taken, writesOf}
@@ -28,17 +25,13 @@ use Rattle.sessions.proofs.Rows.{refusal-table}
 use Rattle.sessions.proofs.TableAnswers.{turn-accepted, answer-some}
 use Rattle.sessions.proofs.TakenPlan.{taken-first}
 use Rattle.answers.specs.Replies.{turnRoom}
-
-limit-small : (d : Device) → writeLimit d ≤ 18
-unfolding writeLimit
-limit-small G = omega arith
-limit-small S = omega arith
+use Rattle.answers.proofs.DeviceWidths.{widths}
 
 -- in no state does the row apply to a turn with that room, or to another call
 turn-not : (p : Plain) → ¬ Applies queueLimit p (Turn turnRoom) 14
 unfolding turnRoom
 turn-not notOpen a = elim a [ ]
-turn-not (opened s q) (short first l) = omega (arith, write-count .at-most s _ _ (first .legal), limit-small (s .device))
+turn-not (opened s q) (short first l) = omega (arith, write-count .at-most s _ _ (first .legal), widths (s .device) .writes)
 
 open-not : (p : Plain) (o : Opening) → ¬ Applies queueLimit p (Open o) 14
 open-not p o a = elim a [ ]
@@ -61,7 +54,7 @@ pub turn-goes : (t : Setup) (q : List Entry) → refusal queueLimit (opened t q)
 unfolding turnRoom writesOf
 turn-goes t q =
     turn-accepted queueLimit t q turnRoom
-    (le-ltb turnRoom (2 * length (writesOf t (taken t q))) (omega (arith, write-count .at-most t _ _ (taken-first t q .legal), limit-small (t .device))))
+    (le-ltb turnRoom (2 * length (writesOf t (taken t q))) (omega (arith, write-count .at-most t _ _ (taken-first t q .legal), widths (t .device) .writes)))
 
 module _ (s : Session) where
   pub open-fits : (o : Opening) → ¬ (openOf s o .answer ≡ Refused SliceTooShort)

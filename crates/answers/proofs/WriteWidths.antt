@@ -23,7 +23,7 @@ use Rattle.plans.specs.Places.{second}
 use Rattle.plans.specs.Legal.{wordsOf, packetsOf, ofAll}
 use Rattle.plans.proofs.Sets.{all-append}
 use Rattle.plans.proofs.PlanLengthHolds.{plan-length}
-use Rattle.layouts.specs.Layout.{tabulate, layoutOf, controlAt, counterAt, rsp0At, rsp1At, mmCfgAt, matchAt, maskAt, mmEnable, enabled, eventWord, offcoreCode, rspMask, rspWord, packetWord}
+use Rattle.layouts.specs.Layout.{tabulate, rsp0At, rsp1At, mmCfgAt, matchAt, maskAt, mmEnable, eventWord, offcoreCode, rspMask, rspWord, packetWord}
 use Rattle.layouts.specs.Settings.{usesOf, wordAt, headOr, nonempty, settingsOf}
 use Rattle.layouts.specs.Writes.{Write, unusable, firstGlobal, lastGlobal, offcoreWrites, packetWrites, filterWrites, writes}
 use Rattle.layouts.proofs.ListLaws.{all-head}
@@ -32,6 +32,7 @@ use Rattle.layouts.proofs.DeviceFacts.{in-room}
 use Rattle.layouts.proofs.RegistersAfter.{writes-all}
 use Rattle.layouts.proofs.ControlWords.{word-at}
 use Rattle.records.specs.Records.{Hex, AddFits}
+use Rattle.answers.proofs.DeviceWidths.{widths}
 
 -- the words of a request fit their fields
 abbrev pub WordsFit : Request → Type 0
@@ -60,24 +61,19 @@ of-all f h nil ps = nil
 of-all f h (cons w ws) [] = nil
 of-all f h (cons {a = r} w ws) (p ∷ ps) = all-append (h r p w) (of-all f h ws ps)
 
-event-fits : (d : Device) (c m : ℕ) → Hex 2 c → Hex 2 m → Hex 16 (eventWord d c m)
-unfolding eventWord enabled
-event-fits G c m h k = omega arith
-event-fits S c m h k = omega arith
-
 rsp-fits : (d : Device) (i : ℕ) → Hex 16 (rspWord d i)
 unfolding rspWord rspMask offcoreCode
 rsp-fits d i = go (eqb i 0)
   where
     go : (b : Bool) → Hex 16 (eventWord d offcoreCode (pick b 1 2))
-    go true = event-fits d offcoreCode 1 (omega arith) (omega arith)
-    go false = event-fits d offcoreCode 2 (omega arith) (omega arith)
+    go true = widths d .event offcoreCode 1 (omega arith) (omega arith)
+    go false = widths d .event offcoreCode 2 (omega arith) (omega arith)
 
 -- control words
 uses-fit : (d : Device) (r : Request) (p : Place) → WordsFit r → All (λ (u : ℕ × ℕ). Hex 16 (u .1)) (usesOf d r p)
 unfolding usesOf packetWord
-uses-fit d (Event c m a) p h = cons (event-fits d c m (h .0) (h .1)) nil
-uses-fit d (Packet x y a) p h = cons (event-fits d 0 0 (omega arith) (omega arith)) nil
+uses-fit d (Event c m a) p h = cons (widths d .event c m (h .0) (h .1)) nil
+uses-fit d (Packet x y a) p h = cons (widths d .event 0 0 (omega arith) (omega arith)) nil
 uses-fit d (Offcore w a) p h = cons (rsp-fits d (second p)) nil
 uses-fit d (Latency t a b) p h = cons (rsp-fits d 0) (cons (rsp-fits d 1) nil)
 
@@ -124,21 +120,6 @@ packets-fit (cons {a = r} h hs) = all-append (packet-fits r h) (packets-fit hs)
 zero-fits : Hex 16 0
 zero-fits = omega arith
 
-control-fits : (d : Device) (k v : ℕ) → k < capacity → Hex 16 v → WriteFits (controlAt d k, v)
-unfolding controlAt layoutOf capacity
-control-fits G k v l h = (omega arith, h)
-control-fits S k v l h = (omega arith, h)
-
-counter-fits : (d : Device) (k : ℕ) → k < capacity → WriteFits (counterAt d k, 0)
-unfolding counterAt layoutOf capacity
-counter-fits G k l = (omega arith, zero-fits)
-counter-fits S k l = (omega arith, zero-fits)
-
-global-fits : (d : Device) (v : ℕ) → Hex 16 v → WriteFits (layoutOf d .global, v)
-unfolding layoutOf
-global-fits G v h = (omega arith, h)
-global-fits S v h = (omega arith, h)
-
 -- the values of the global register have bits of the device's counters alone
 last-fits : (s : Setup) (used : ℕ) → Hex 16 (lastGlobal s used)
 unfolding lastGlobal firstGlobal unusable allCounters capacity
@@ -179,10 +160,12 @@ module _ (rs : List Request) (ps : List Place) (fit : All WordsFit rs) where
       let d = s .device in
       let us = ofAll (usesOf d) rs ps in
       writes-all s (settingsOf d rs ps) WriteFits
-      (global-fits d (firstGlobal s) (first-fits s))
-      (λ k l h. control-fits d k 0 (in-room d k l) zero-fits)
+      (widths d .global, first-fits s)
+      (λ k l h. (widths d .control k (in-room d k l), zero-fits))
       (filters-fit d)
-      (λ k l h. counter-fits d k (in-room d k l))
-      (λ k l h. control-fits d k (getD (tabulate capacity (wordAt us)) k 0) (in-room d k l)
-      (rw (getD-tabulate capacity (wordAt us) k 0 (in-room d k l)) (word-at (Hex 16) us k zero-fits (of-all (usesOf d) (uses-fit d) fit ps))))
-      (global-fits d (lastGlobal s (settingsOf d rs ps .used .0)) (last-fits s (settingsOf d rs ps .used .0)))
+      (λ k l h. (widths d .counter k (in-room d k l), zero-fits))
+      (λ k l h. (
+        widths d .control k (in-room d k l),
+        rw (getD-tabulate capacity (wordAt us) k 0 (in-room d k l)) (word-at (Hex 16) us k zero-fits (of-all (usesOf d) (uses-fit d) fit ps)),
+      ))
+      (widths d .global, last-fits s (settingsOf d rs ps .used .0))
