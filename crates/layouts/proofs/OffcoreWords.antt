@@ -6,10 +6,10 @@
 use mathlib.Core.Path.{_≡_, refl, sym, ap, _∙_}
 use mathlib.Core.Logic.{inl, inr, ⊎-elim}
 use mathlib.Core.Bool.{true, false, not}
-use mathlib.Core.List.{List, [], _∷_, _++_}
+use mathlib.Core.List.{List, [], _∷_, _++_, List·Memᴰ}
 use Prim.Native.Nat.{ℕ, suc, _+_, _^_, _≤_, _<_}
 use native.Mathlib.Nat.{pow-succ'}
-use native.Mathlib.Decide.{ℕ-discrete}
+use native.Mathlib.Decide.{ℕ-discrete, decLt}
 use native.Mathlib.Omega.{arith}
 use borrow.Author.Tests.{ne-eqb, ltb-true, not-true}
 use lib.Dec.{ltb}
@@ -21,8 +21,9 @@ use Rattle.requests.specs.declared.Setup.{Setup}
 use Rattle.requests.specs.declared.Request.the-variants.{Offcore}
 use Rattle.requests.specs.Bits.{bit, inList, anyBit, onlyBits, typeBits, anyResponse, answerBits, outstanding, rsp0Bits, rsp1Bits, latencyWord}
 use Rattle.requests.specs.WellFormedRequests.{CountersOf, Described, offcore}
-use Rattle.requests.proofs.Tests.{every-at, either-false, either-cases, either-left, either-right}
+use Rattle.requests.proofs.Tests.{both-ways, every-at, either-false, either-cases, either-left, either-right}
 use Rattle.requests.proofs.BitLists.{in-append, reserved}
+use Rattle.requests.proofs.BitMembers.{member-in, none-of-has}
 use Rattle.layouts.proofs.WordBits.{bit-above, bit-more, below-bits, only-below, only-cases, bits-only, only-more, any-more}
 
 -- a longer list has more
@@ -50,6 +51,17 @@ types-below t h =
     (λ k l b. reserved typeBits k t b
     (⊎-elim (λ e. absurd (omega (arith, ltb-true k 16 e))) (λ e. not-true _ e) (either-cases _ _ (every-at 64 (λ j. either (ltb j 16) (not (inList typeBits j))) types-low k b))) h)
 
+-- no answer stands below bit 17
+answers-high : every 17 (λ k. not (inList answerBits k)) ≡ true
+unfolding every both either inList answerBits
+answers-high = refl
+
+answers-above : (k : ℕ) → List·Memᴰ k answerBits → 17 ≤ k
+answers-above k m = elim (decLt k 17) [
+  | yes l ↦ absurd (both-ways (member-in answerBits k m) (not-true _ (every-at 17 (λ j. not (inList answerBits j)) answers-high k l)))
+  | no g ↦ omega arith
+]
+
 -- ---- offcore words
 
 pub offcore-clean : (w : ℕ) → onlyBits rsp1Bits w ≡ true → onlyBits rsp0Bits w ≡ true
@@ -75,10 +87,10 @@ module _ (t : ℕ) (types : onlyBits typeBits t ≡ true) where
       only-with typeBits rsp1Bits 16 t (types-below t types) (omega arith) (λ k e. listed-left typeBits (anyResponse ∷ answerBits) k e) refl types
 
   no-answer : anyBit answerBits (t + 2 ^ 16) ≡ false
-  unfolding anyBit answerBits either
   no-answer =
-      let low = types-below t types in
-      rw (bit-above 33 (t + 2 ^ 16) (omega arith), bit-above 34 (t + 2 ^ 16) (omega arith), bit-above 36 (t + 2 ^ 16) (omega arith), bit-above 37 (t + 2 ^ 16) (omega arith))
+      none-of-has answerBits (t + 2 ^ 16) (λ k m.
+      let above : 2 ^ 17 ≤ 2 ^ k = pow-mono (answers-above k m) in
+      bit-above k (t + 2 ^ 16) (omega (arith, types-below t types, above)))
 
   -- "the type and bit 16 only" is a word that add takes
   pub second-described : (s : Setup) (a : CounterSet) → s .device ≡ G → anyBit typeBits t ≡ true → CountersOf s a → Described s (Offcore (latencyWord 1 t) a)
