@@ -184,6 +184,11 @@ acceptances =
       given = record { letter = 71; usable = 15; values = onG (0x4302B7 ∷ 0x4301B7 ∷ 0x4302B7 ∷ 0 ∷ []) 0x4000000001 0x10001 7 };
       tells = counting 0xB7 0x02 (some 1) (0x10001 ∷ []) ∷ counting 0xB7 0x01 (some 0) (0x4000000001 ∷ []) ∷ counting 0xB7 0x02 (some 1) (0x10001 ∷ []) ∷ off ∷ [];
     }
+    -- order 1: L2_HIT in RSP0
+    ∷ record {
+      given = record { letter = 71; usable = 15; values = onG (0x4301B7 ∷ 0 ∷ 0 ∷ 0 ∷ []) 0x40001 0 1 };
+      tells = counting 0xB7 0x01 (some 0) (0x40001 ∷ []) ∷ off ∷ off ∷ off ∷ [];
+    }
     -- usable 14 on S: "An unusable counter is told as not ours", and its control value is not looked at
     ∷ record {
       given = record { letter = 83; usable = 14; values = onS (0xFFFF ∷ 0x400000 ∷ 0x400351 ∷ 0 ∷ []) 0x8000000000000000 0x0123456789ABCDEF 0xFFFFFFFF00000000 7 };
@@ -223,6 +228,9 @@ refusals =
     ∷ refusedAs 15 71 15 (onG (0x4300C0 ∷ 0 ∷ 0 ∷ 0 ∷ []) 0 0x10001 1)
     -- bit 31 is reserved
     ∷ refusedAs 15 71 15 (onG (0x4301B7 ∷ 0 ∷ 0 ∷ 0 ∷ []) 0x80010001 0 1)
+    -- order 1: L2_HIT beside bit 16, and the reserved bit 17
+    ∷ refusedAs 15 71 15 (onG (0x4301B7 ∷ 0 ∷ 0 ∷ 0 ∷ []) 0x50001 0 1)
+    ∷ refusedAs 15 71 15 (onG (0x4301B7 ∷ 0 ∷ 0 ∷ 0 ∷ []) 0x20001 0 1)
     -- the event word has the user, OS and enable bits
     ∷ refusedAs 15 71 15 (onG (0x4100C0 ∷ 0 ∷ 0 ∷ 0 ∷ []) 0 0 1)
     -- the global value has unusable and used bits, and no others

@@ -13,9 +13,9 @@ unfoldable pub permittedOf : Device → List (ℕ × ℕ)
 permittedOf G =
     -- IA32_PERF_GLOBAL_CTRL: 3:0 and 34:32
     (0x038F, 0x000000070000000F)
-    -- document 01: "The permitted bits together are 000000760001FFBF", on RSP1 without bit 38
-    ∷ (0x01A6, 0x000000760001FFBF)
-    ∷ (0x01A7, 0x000000360001FFBF)
+    -- document 01: "The permitted bits together are 000000760001FFBF", and order 1's bit 18; on RSP1 without bit 38
+    ∷ (0x01A6, 0x000000760005FFBF)
+    ∷ (0x01A7, 0x000000360005FFBF)
     -- IA32_PERFEVTSELk: 31:0 "except bit 21" (000), which is AnyThread
     ∷ (0x0186, 0x00000000FFDFFFFF)
     ∷ (0x0187, 0x00000000FFDFFFFF)

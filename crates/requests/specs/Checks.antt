@@ -48,7 +48,7 @@ incomplete d (Packet x y a) = false
 incomplete d (Offcore w a) = either (not (anyBit typeBits w)) (not (anyBit ((anyResponse ∷ answerBits) ++ (outstanding ∷ [])) w))
 incomplete d (Latency t a b) = not (anyBit typeBits t)
 
--- 11: offcore with bit 38, or bit 16 with a snoop answer
+-- 11: offcore with bit 38, or bit 16 with an answer
 unfoldable pub conflicting : Device → Request → Bool
 conflicting d (Event c m a) = false
 conflicting d (Packet x y a) = false

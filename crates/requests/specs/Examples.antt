@@ -1,4 +1,4 @@
--- Document 01, tries H and I, and the cases beside them: requests, and the numbers that refuse them.
+-- Document 01, tries H and I, the cases beside them, and order 1: requests, and the numbers that refuse them.
 use mathlib.Core.Path.{_≡_}
 use mathlib.Core.List.{List, [], _∷_, map}
 use mathlib.Core.Option.{Option, none, some}
@@ -50,6 +50,20 @@ examples =
     ∷ example G (Offcore 0x10000 all) (some 9)
     ∷ example G (Offcore 0x200010000 all) (some 9)
     ∷ example G (Latency 0x0000 all all) (some 9)
+    -- order 1: L2_HIT "satisfies the response rule, may stand with" the snoop answers
+    ∷ example G (Offcore 0x40001 all) none
+    ∷ example G (Offcore 0x200040001 all) none
+    ∷ example G (Offcore 0x360004FFBF all) none
+    -- "and is refused with 11 beside bit 16"; so is every word with bit 38
+    ∷ example G (Offcore 0x50001 all) (some 11)
+    ∷ example G (Offcore 0x4000040001 all) (some 11)
+    -- it is no request type
+    ∷ example G (Offcore 0x40000 all) (some 9)
+    -- bits 17 and 19 are reserved, which is checked before 11
+    ∷ example G (Offcore 0x20001 all) (some 10)
+    ∷ example G (Offcore 0x60001 all) (some 10)
+    ∷ example G (Offcore 0x70001 all) (some 10)
+    ∷ example G (Offcore 0x80001 all) (some 10)
     -- bit 6 is no request type
     ∷ example G (Latency 0x0040 all all) (some 10)
     ∷ example G (Latency 0x0001 all all) none

@@ -1,7 +1,7 @@
 -- Masks: a word that stands for the list of its bits.
 use mathlib.Core.Path.{_≡_, refl}
 use mathlib.Core.List.{List, [], _∷_, _++_}
-use Prim.Native.Nat.{ℕ, zero, suc}
+use Prim.Native.Nat.{ℕ, zero, suc, _+_}
 use Rattle.requests.specs.Choice.{pick}
 use Rattle.requests.specs.Bits.{bit, typeBits, anyResponse, answerBits, outstanding, rsp0Bits, rsp1Bits}
 
@@ -23,7 +23,10 @@ pub anyResponseMask : bitsOf 0x0000_0000_0001_0000 ≡ anyResponse ∷ []
 unfolding bitsOf bitsBelow bit anyResponse
 anyResponseMask = refl
 
-pub answerMask : bitsOf 0x0000_0036_0000_0000 ≡ answerBits
+abbrev answers : ℕ
+answers = 0x0000_0036_0004_0000
+
+pub answerMask : bitsOf answers ≡ answerBits
 unfolding bitsOf bitsBelow bit answerBits
 answerMask = refl
 
@@ -32,10 +35,10 @@ unfolding bitsOf bitsBelow bit outstanding
 outstandingMask = refl
 
 -- a response bit or bit 38
-pub responseMask : bitsOf 0x0000_0076_0001_0000 ≡ (anyResponse ∷ answerBits) ++ (outstanding ∷ [])
+pub responseMask : bitsOf (answers + 0x0000_0040_0001_0000) ≡ (anyResponse ∷ answerBits) ++ (outstanding ∷ [])
 unfolding bitsOf bitsBelow bit anyResponse answerBits outstanding
 responseMask = refl
 
-pub permittedMask : bitsOf 0x0000_0076_0001_FFBF ≡ rsp0Bits
+pub permittedMask : bitsOf (answers + 0x0000_0040_0001_FFBF) ≡ rsp0Bits
 unfolding bitsOf bitsBelow bit rsp0Bits rsp1Bits typeBits anyResponse answerBits outstanding
 permittedMask = refl

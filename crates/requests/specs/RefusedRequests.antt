@@ -100,7 +100,7 @@ pub data OutOfRange : Device → Request → Type 0 where
 pub data Conflicting : Device → Request → Type 0 where
   -- "offcore with bit 38"
   bit-38 : {d : Device} {w : ℕ} {a : CounterSet} → bit outstanding w ≡ true → Conflicting d (Offcore w a)
-  -- "bit 16 with a snoop answer"
+  -- "bit 16 with a snoop answer", or with order 1's "one more answer"
   bit-16 : {d : Device} {w : ℕ} {a : CounterSet} → bit anyResponse w ≡ true → HasBit answerBits w → Conflicting d (Offcore w a)
 
 pub record RefusedRequests : Type 0 where

@@ -17,7 +17,7 @@ use Rattle.requests.specs.declared.Request.the-variants.{Event, Packet, 
 abbrev pub CountersOf : Setup → CounterSet → Type 0
 CountersOf s a = a .0 ≤ allCounters (s .device)
 
--- "either bit 16 or one or more snoop answers, not both"
+-- "either bit 16 or one or more snoop answers, not both"; L2_HIT is "one more answer" (order 1)
 abbrev pub OneResponse : ℕ → Type 0
 OneResponse w =
     ((bit anyResponse w ≡ true) × (anyBit answerBits w ≡ false))

@@ -9,17 +9,18 @@ pub const TYPES: u64 = 0x0000_0000_0000_FFBF;
 // ANY_RESPONSE (000, 18.6.3): 16.
 pub const ANY_RESPONSE: u64 = 0x0000_0000_0001_0000;
 
-// Snoop answers (002, Table 18-22): L2_MISS.SNOOP_MISS_OR_NO_SNOOP_NEEDED 33, HIT_OTHER_CORE_NO_FWD 34, HITM_OTHER_CORE 36, NON_DRAM 37.
-pub const ANSWERS: u64 = 0x0000_0036_0000_0000;
+// Answers: L2_HIT 18 (Table 18-16), and the snoop answers (002, Table 18-22): L2_MISS.SNOOP_MISS_OR_NO_SNOOP_NEEDED 33, HIT_OTHER_CORE_NO_FWD 34,
+// HITM_OTHER_CORE 36, NON_DRAM 37.
+pub const ANSWERS: u64 = 0x0000_0036_0004_0000;
 
 // OUTSTANDING (002, Table 18-22): 38.
 pub const OUTSTANDING: u64 = 0x0000_0040_0000_0000;
 
 // A response bit or OUTSTANDING.
-pub const RESPONSES_OR_OUTSTANDING: u64 = 0x0000_0076_0001_0000;
+pub const RESPONSES_OR_OUTSTANDING: u64 = ANY_RESPONSE | ANSWERS | OUTSTANDING;
 
 // All permitted bits.
-pub const PERMITTED: u64 = 0x0000_0076_0001_FFBF;
+pub const PERMITTED: u64 = TYPES | RESPONSES_OR_OUTSTANDING;
 
 // Whether the word has a bit of the mask.
 pub fn any_bit(mask: u64, word: u64) -> bool

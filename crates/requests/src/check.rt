@@ -156,7 +156,7 @@ pub fn incomplete(device: Device, request: Request) -> bool
     }
 }
 
-// Whether the word has bit 38, or bit 16 with a snoop answer.
+// Whether the word has bit 38, or bit 16 with an answer.
 fn offcore_conflicting(word: u64) -> bool
     ensures { λ r. ⌜ r ≡ either (anyBit (outstanding ∷ []) word) (both (anyBit (anyResponse ∷ []) word) (anyBit answerBits word)) ⌝ }
 {
