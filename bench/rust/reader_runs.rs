@@ -120,6 +120,7 @@ fn main() {
     run(71, 15, &[offcore(0x10001), latency(1)]);
     run(71, 15, &[latency(0x8001), latency(0x8001)]);
     run(71, 14, &[offcore(0x1200000002), offcore(0x10002), event(0x3C, 0)]);
+    run(71, 15, &[offcore(0x40001), offcore(0x200040001), event(0x3C, 0)]);
     run(83, 9, &[]);
     run(83, 15, &[event(0x51, 1), event(0x31, 2), event(0x52, 0), event(0x2F, 0)]);
     run(83, 15, &[packet, packet, event(0x51, 3)]);

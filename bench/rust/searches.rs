@@ -103,7 +103,10 @@ pub fn random_request(numbers: &mut Numbers) -> Request {
         0 | 1 => Request::Event { code: numbers.below(256) as u8, mask: numbers.below(256) as u8, allowed: random_set(numbers) },
         2 => Request::Packet { match_word: numbers.below(2), mask_word: numbers.below(2), allowed: random_set(numbers) },
         3 => Request::Latency { types: numbers.below(3) as u16, first: random_set(numbers), second: random_set(numbers) },
-        _ => Request::Offcore { word: numbers.pick(&[0, 1 << 16, 1 << 38]) + numbers.below(3), allowed: random_set(numbers) },
+        _ => Request::Offcore {
+            word: numbers.pick(&[0, 1 << 16, 1 << 18, 1 << 38]) + numbers.below(3),
+            allowed: random_set(numbers),
+        },
     }
 }
 

@@ -73,7 +73,7 @@ fn proved_answers(calls: &[u64]) -> Vec<u64> {
 fn likely_request(numbers: &mut Numbers) -> Request {
     let set = |numbers: &mut Numbers| numbers.pick(&[15, 15, 1, 2, 6, 12, 16]);
     let codes = [(0xC0, 0), (0x3C, 0), (0x2E, 0x41), (0x51, 3), (0x31, 1), (0x52, 0), (0x51, 4), (0x31, 0), (0xB7, 1)];
-    let words = [0x10001, 0x10002, 0x10004, 0x1_2000_0001, 0x10040, 1, 0x2_0001_0001, 0x8001_0001];
+    let words = [0x10001, 0x10002, 0x10004, 0x1_2000_0001, 0x10040, 1, 0x2_0001_0001, 0x8001_0001, 0x40001, 0x50001, 0x60001];
     match numbers.below(10) {
         0 => random_request(numbers),
         1..=4 => {

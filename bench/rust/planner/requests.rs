@@ -28,9 +28,10 @@ pub const VACANT: Entry = Entry { id: 0, request: Request::Event { code: 0, mask
 
 const TYPES: u64 = 0xFFBF;
 const ANY_RESPONSE: u64 = 1 << 16;
-const SNOOP_ANSWERS: u64 = 1 << 33 | 1 << 34 | 1 << 36 | 1 << 37;
+/// The answers that can stand together but not beside ANY_RESPONSE: L2_HIT (Table 18-16, order 1) and the snoop answers.
+const ANSWERS: u64 = 1 << 18 | 1 << 33 | 1 << 34 | 1 << 36 | 1 << 37;
 pub const OUTSTANDING: u64 = 1 << 38;
-const PERMITTED: u64 = TYPES | ANY_RESPONSE | SNOOP_ANSWERS | OUTSTANDING;
+const PERMITTED: u64 = TYPES | ANY_RESPONSE | ANSWERS | OUTSTANDING;
 
 /// The words of a latency request: RSP0's and RSP1's.
 pub fn latency_words(types: u16) -> [u64; 2] {
@@ -56,11 +57,11 @@ fn event_refusal(device: &Device, code: u8, mask: u8, allowed: u64) -> Option<u6
 }
 
 fn offcore_refusal(device: &Device, word: u64, allowed: u64) -> Option<u64> {
-    let (any, snoop, outstanding) = (word & ANY_RESPONSE != 0, word & SNOOP_ANSWERS != 0, word & OUTSTANDING != 0);
+    let (any, answered, outstanding) = (word & ANY_RESPONSE != 0, word & ANSWERS != 0, word & OUTSTANDING != 0);
     first_of(
         word & !PERMITTED != 0 || allowed > device.all(),
-        word & TYPES == 0 || !(any || snoop || outstanding),
-        outstanding || any && snoop,
+        word & TYPES == 0 || !(any || answered || outstanding),
+        outstanding || any && answered,
     )
 }
 

@@ -29,11 +29,24 @@ const ODD_PAIRS: [(u8, u8); 12] = [
     (0xFF, 0xFF),
     (0x2B, 3),
 ];
-const WORDS: [u64; 8] = [0x10001, 0x10001, 0x10002, 0x18000, 0x2_0000_0001, 0x12_0000_0002, 0x36_0000_FFBF, 0x1FFBF];
-/// Two words that latency requests of the types 1 and 2 have in RSP1, and one that none has.
-const TIGHT_WORDS: [u64; 4] = [0x10001, 0x10001, 0x10002, 0x2_0000_0001];
-/// Words with a reserved bit, no type, no response bit, bit 38, or bit 16 with a snoop answer.
-const ODD_WORDS: [u64; 12] = [
+const WORDS: [u64; 12] = [
+    0x10001,
+    0x10001,
+    0x10002,
+    0x18000,
+    0x2_0000_0001,
+    0x12_0000_0002,
+    0x36_0000_FFBF,
+    0x1FFBF,
+    0x40001,
+    0x40001,
+    0x2_0004_0001,
+    0x36_0004_FFBF,
+];
+/// Two words that latency requests of the types 1 and 2 have in RSP1, and two that none has.
+const TIGHT_WORDS: [u64; 5] = [0x10001, 0x10001, 0x10002, 0x2_0000_0001, 0x40001];
+/// Words with a reserved bit, no type, no response bit, bit 38, or bit 16 with an L2 hit or a snoop answer.
+const ODD_WORDS: [u64; 19] = [
     0x10040,
     1,
     0,
@@ -46,6 +59,13 @@ const ODD_WORDS: [u64; 12] = [
     0x8_0000_0001,
     0x8000_0000_0001_0001,
     u64::MAX,
+    0x50001,
+    0x36_0005_FFBF,
+    0x40_0004_0001,
+    0x40000,
+    0x40040,
+    0x60001,
+    0xC0001,
 ];
 
 impl Bench {

@@ -28,11 +28,13 @@ fn on_g() {
     let shared = four(offcore(0x1_0001), latency(0x0001), halted, halted);
     let pairs = four(latency(0x8001), latency(0x8001), halted, halted);
     let words = four(offcore(0x12_0000_0002), offcore(0x1_0002), halted, halted);
+    let hits = four(offcore(0x4_0001), offcore(0x2_0004_0001), halted, halted);
     run(g, 15, events, 0);
     run(g, 15, events, 4);
     run(g, 15, shared, 2);
     run(g, 15, pairs, 2);
     run(g, 14, words, 3);
+    run(g, 15, hits, 3);
 }
 
 fn on_s() {
