@@ -2,8 +2,8 @@
 use crate::formats::Numbers;
 use crate::formats::numbers_in;
 use crate::words::Words;
-use crate::words::same;
 use crate::words::word;
+use records::words::same;
 use requests::CounterSet;
 use requests::Request;
 

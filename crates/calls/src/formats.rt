@@ -5,8 +5,8 @@ use crate::numbers::decimal;
 use crate::numbers::hex;
 use crate::numbers::wide;
 use crate::words::Words;
-use crate::words::same;
 use crate::words::word;
+use records::words::same;
 
 // The number of a word that has to be the text: 0.
 fn exactly(word: &[u8], text: &[u8]) -> Number {

@@ -83,18 +83,3 @@ pub fn word<'a>(line: &'a [u8], words: Words, k: usize) -> &'a [u8] {
     }
     &line[..0]
 }
-
-// Whether two texts are the same.
-pub fn same(a: &[u8], b: &[u8]) -> bool {
-    if a.len() != b.len() {
-        return false;
-    }
-    let mut i = 0;
-    while i < a.len() {
-        if a[i] != b[i] {
-            return false;
-        }
-        i += 1;
-    }
-    true
-}

@@ -4,6 +4,7 @@ use crate::Number;
 use crate::Parts;
 use crate::numbers::decimal;
 use crate::numbers::hex;
+use crate::words::same;
 ghost use mathlib.Core.Path.{_≡_};
 ghost use Prim.Native.Nat.{_≤_, _<_};
 ghost use Rattle.records.specs.Fields.{fieldAt, sameBytes};
@@ -46,23 +47,6 @@ fn field(text: &[u8], parts: Parts, k: usize) -> &[u8]
     }
     let begin = parts.ends[k - 1] + 1;
     &text[begin..end]
-}
-
-// Whether two runs of bytes are equal.
-fn same(a: &[u8], b: &[u8]) -> bool
-    ensures { λ r. ⌜ r ≡ sameBytes (now (a .entry)) (now (b .entry)) ⌝ }
-{
-    if a.len() != b.len() {
-        return false;
-    }
-    let mut i = 0;
-    while i < a.len() {
-        if a[i] != b[i] {
-            return false;
-        }
-        i += 1;
-    }
-    true
 }
 
 // Whether field k is the word.

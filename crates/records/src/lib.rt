@@ -7,6 +7,7 @@ mod fields;
 mod numbers;
 pub mod parse;
 mod verbs;
+pub mod words;
 
 // What a line asks for.
 pub enum Record {

@@ -2,27 +2,9 @@
 // A program has no exit status of its own: where its first argument asks for it, it writes the number on descriptor 3 as it ends.
 use libc::STDIN_FILENO;
 use libc::STDOUT_FILENO;
-ghost use mathlib.Core.Path.{_≡_};
-ghost use Rattle.records.specs.Fields.{sameBytes};
+use records::words::same;
 
 const STATUS_FILENO: i32 = 3;
-
-// Whether two words are equal.
-fn same(a: &[u8], b: &[u8]) -> bool
-    ensures { λ r. ⌜ r ≡ sameBytes (now (a .entry)) (now (b .entry)) ⌝ }
-{
-    if a.len() != b.len() {
-        return false;
-    }
-    let mut i = 0;
-    while i < a.len() {
-        if a[i] != b[i] {
-            return false;
-        }
-        i += 1;
-    }
-    true
-}
 
 // Whether the first argument asks for the status.
 fn is_status_asked() -> bool {

@@ -5,10 +5,10 @@ use mathlib.Core.Path.{_≡_, refl, sym, _∙_}
 use native.Mathlib.Omega.{arith}
 use lib.ListN.{length, drop}
 use denote.Ref.{now}
 use Rattle.records.specs.Fields.{sameBytes}
 use Rattle.records.proofs.WordLoops.{same-here, differ-here, same-end, differ-length}
-use Rattle.tuner.proofs.same.Statement.{statement}
-use Rattle.tuner.proofs.same.Tie as tie
+use Rattle.records.proofs.words.same.Statement.{statement}
+use Rattle.records.proofs.words.same.Tie as tie
 
 abbrev Inv-loop : tie.InvT-loop
 Inv-loop a b i₀ i = (i ≤ length a) × (sameBytes (drop i a) (drop i b) ≡ sameBytes a b)
