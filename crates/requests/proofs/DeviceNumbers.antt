@@ -3,7 +3,8 @@ use mathlib.Core.Path.{_≡_, refl}
 use mathlib.Core.Option.{some}
 use Prim.Native.Nat.{_≤_}
 use native.Mathlib.Omega.{arith}
-use Rattle.requests.specs.Devices.{counterCount, allCounters, letterOf, devices, named, deviceOf}
+use Rattle.requests.specs.Devices.{counterCount, allCounters, fixedCount, allFixed, letterOf, devices, named, deviceOf}
+use Rattle.requests.specs.Openings.{mostFixed}
 use Rattle.requests.specs.declared.Device.{Device}
 use Rattle.requests.specs.declared.Device.the-variants.{G, S}
 
@@ -13,10 +14,13 @@ pub record DeviceNumbers (d : Device) : Type 0 where
   pub counters-few : counterCount d ≤ 6
   -- "usable set 1..15"
   pub fifteen : allCounters d ≡ 15
+  -- "0 to 7 .. (0 on S)"
+  pub fixed-few : fixedCount d ≤ 3
+  pub fixed-most : allFixed d ≡ mostFixed d
   -- its letter names it
   pub letter-names : deviceOf (letterOf d) ≡ some d
 
 pub numbers : (d : Device) → DeviceNumbers d
-unfolding counterCount allCounters letterOf devices named deviceOf
-numbers G = record { counters-some = omega arith; counters-few = omega arith; fifteen = refl; letter-names = refl }
-numbers S = record { counters-some = omega arith; counters-few = omega arith; fifteen = refl; letter-names = refl }
+unfolding counterCount allCounters fixedCount allFixed letterOf devices named deviceOf
+numbers G = record { counters-some = omega arith; counters-few = omega arith; fifteen = refl; fixed-few = omega arith; fixed-most = refl; letter-names = refl }
+numbers S = record { counters-some = omega arith; counters-few = omega arith; fifteen = refl; fixed-few = omega arith; fixed-most = refl; letter-names = refl }

@@ -1,5 +1,5 @@
 -- What an opening opens, by the device of its letter. Assumes nothing.
-use mathlib.Core.Path.{_≡_, refl, ap, sym, _∙_}
+use mathlib.Core.Path.{_≡_, refl, ap, sym, subst, _∙_}
 use mathlib.Core.Bool.{Bool, true, false}
 use mathlib.Core.List.{List, [], _∷_}
 use mathlib.Core.Option.{Option, none, some, Option·none-ne-some, Option·some-injective}
@@ -11,8 +11,7 @@ use lib.ListN.{length, getD, drop, drop-of-length-le}
 use lib.Seq.{drop-cons}
 use borrow.Author.Tests.{eqb-true, ne-eqb}
 use Rattle.requests.specs.Choice.{pick}
-use Rattle.requests.specs.Devices.{counterCount, letterOf, devices, named, deviceOf, usableSet, setupOf, openingOf, openedAs}
-use Rattle.requests.specs.declared.CounterSet.{CounterSet}
+use Rattle.requests.specs.Devices.{counterCount, letterOf, devices, named, deviceOf, opens, setupOn, setupOf, openingOf, openedAs}
 use Rattle.requests.specs.declared.Device.{Device}
 use Rattle.requests.specs.declared.Opening.{Opening}
 use Rattle.requests.specs.declared.Setup.{Setup}
@@ -39,28 +38,24 @@ pub no-letter : (ds : List Device) (i n : ℕ) → length ds ≤ i → named (dr
 unfolding named
 no-letter ds i n l = rw (drop-of-length-le ds l, named)
 
--- what a device with a usable set opens
-abbrev pub openedOn : Device → CounterSet → Opened
-openedOn d u = pick (usableSet d u) (With (record { device = d; usable = u })) (Refused BadOpening)
+-- the setup of a device with what is given beside its letter
+abbrev pub setupWhere : Device → Opening → Bool → Option Setup
+setupWhere d o b = pick {A = Option Setup} b (some (setupOn d o)) none
 
--- the setup of a device with a usable set
-abbrev pub setupOn : Device → CounterSet → Bool → Option Setup
-setupOn d u b = pick {A = Option Setup} b (some (record { device = d; usable = u })) none
-
-pub setup-on : (o : Opening) (d : Device) → deviceOf (o .device) ≡ some d → setupOf o ≡ setupOn d (o .usable) (usableSet d (o .usable))
+pub setup-on : (o : Opening) (d : Device) → deviceOf (o .device) ≡ some d → setupOf o ≡ setupWhere d o (opens d o)
 unfolding setupOf
-setup-on o d e = rw (e, setupOf) (go (usableSet d (o .usable)))
+setup-on o d e = rw (e, setupOf) (go (opens d o))
   where
-    go : (b : Bool) → elim b [ true ↦ some (record { device = d; usable = o .usable }) | false ↦ none ] ≡ setupOn d (o .usable) b
+    go : (b : Bool) → elim b [ true ↦ some (setupOn d o) | false ↦ none ] ≡ setupWhere d o b
     go true = refl
     go false = refl
 
 -- what an opening with a device's letter opens
-pub opened-on : (o : Opening) (d : Device) → deviceOf (o .device) ≡ some d → openedAs (setupOf o) ≡ openedOn d (o .usable)
+pub opened-on : (o : Opening) (d : Device) → deviceOf (o .device) ≡ some d → openedAs (setupOf o) ≡ pick (opens d o) (With (setupOn d o)) (Refused BadOpening)
 unfolding openedAs
-opened-on o d e = ap openedAs (setup-on o d e) ∙ go (usableSet d (o .usable))
+opened-on o d e = ap openedAs (setup-on o d e) ∙ go (opens d o)
   where
-    go : (b : Bool) → openedAs (setupOn d (o .usable) b) ≡ pick b (With (record { device = d; usable = o .usable })) (Refused BadOpening)
+    go : (b : Bool) → openedAs (setupWhere d o b) ≡ pick b (With (setupOn d o)) (Refused BadOpening)
     go true = refl
     go false = refl
 
@@ -96,18 +91,27 @@ letter-is letter d e = go devices e
     go [] k = absurd (Option·none-ne-some d k)
     go (x ∷ ds) k = here x ds (go ds) (eqb letter (letterOf x)) refl k
 
+-- an opening that is taken: its letter names the device, which opens with the rest
+pub taken-parts : (o : Opening) (s : Setup) → setupOf o ≡ some s → (letterOf (s .device) ≡ o .device) × (opens (s .device) o ≡ true) × (setupOn (s .device) o ≡ s)
+unfolding setupOf setupOn
+taken-parts o s e = go (deviceOf (o .device)) refl
+  where
+    Parts : Setup → Type 0
+    Parts t = (letterOf (t .device) ≡ o .device) × (opens (t .device) o ≡ true) × (setupOn (t .device) o ≡ t)
+
+    opened : (d : Device) → deviceOf (o .device) ≡ some d → (b : Bool) → opens d o ≡ b → Parts s
+    opened d h true k =
+        let is : setupOn d o ≡ s = Option·some-injective (setupOn d o) s (rw (h, k, setupOf) at e) in
+        subst Parts is (letter-is (o .device) d h, k, refl)
+    opened d h false k = absurd (Option·none-ne-some s (rw (h, k, setupOf) at e))
+
+    go : (x : Option Device) → deviceOf (o .device) ≡ x → Parts s
+    go none h = absurd (Option·none-ne-some s (rw (h, setupOf) at e))
+    go (some d) h = opened d h (opens d o) refl
+
 -- the setup of an opening is what it was given, as it was given
 pub opening-is : (o : Opening) (s : Setup) → setupOf o ≡ some s → openingOf s ≡ o
-unfolding setupOf openingOf
-opening-is o s e = go (deviceOf (o .device)) refl
-  where
-    given : (d : Device) → letterOf d ≡ o .device → record { device = d; usable = o .usable } ≡ s → openingOf s ≡ o
-    given d l k = ap openingOf (sym k) ∙ ap (λ (n : ℕ). record { device = n; usable = o .usable }) l
-
-    usable : (d : Device) → deviceOf (o .device) ≡ some d → (b : Bool) → usableSet d (o .usable) ≡ b → openingOf s ≡ o
-    usable d h true k = given d (letter-is (o .device) d h) (Option·some-injective (record { device = d; usable = o .usable }) s (rw (h, k, setupOf) at e))
-    usable d h false k = absurd (Option·none-ne-some s (rw (h, k, setupOf) at e))
-
-    go : (x : Option Device) → deviceOf (o .device) ≡ x → openingOf s ≡ o
-    go none h = absurd (Option·none-ne-some s (rw (h, setupOf) at e))
-    go (some d) h = usable d h (usableSet d (o .usable)) refl
+unfolding setupOn openingOf
+opening-is o s e =
+    let parts = taken-parts o s e in
+    ap openingOf (sym (parts .2)) ∙ ap (λ (n : ℕ). record { device = n; usable = o .usable; fixed = o .fixed }) (parts .0)

@@ -1,18 +1,19 @@
--- Which openings are taken: those of a device's letter with a set of its counters, by the cases of the letter and of the test of the set.
-use mathlib.Core.Path.{_≡_, refl, _∙_}
+-- Which openings are taken: those of a device's letter with a set of its counters, by the cases of the letter and of the tests of the rest.
+use mathlib.Core.Path.{_≡_, refl, ap, sym, _∙_}
 use mathlib.Core.Bool.{Bool, true, false}
-use mathlib.Core.Option.{Option, none, some, Option·none-ne-some, Option·some-injective}
+use mathlib.Core.Option.{Option, none, some}
 use Prim.Native.Nat.{_≤_}
+use lib.Dec.{leb}
 use borrow.Author.Tests.{lt-ltb, le-leb, ltb-true, leb-true}
 use Rattle.requests.specs.Refusals.{numberOf, answerNumber}
-use Rattle.requests.specs.Devices.{allCounters, deviceOf, usableSet, setupOf, openingOf, openedAs, openedAnswer}
-use Rattle.requests.specs.Openings.{Opens, openingNumber, Openings}
+use Rattle.requests.specs.Devices.{allCounters, allFixed, deviceOf, usableSet, opens, setupOn, setupOf, openedAs, openedAnswer}
+use Rattle.requests.specs.Openings.{mostFixed, Opens, openingNumber, Openings}
 use Rattle.requests.specs.declared.CounterSet.{CounterSet}
 use Rattle.requests.specs.declared.Device.{Device}
 use Rattle.requests.specs.declared.Opening.{Opening}
 use Rattle.requests.specs.declared.Setup.{Setup}
 use Rattle.requests.proofs.DeviceNumbers.{numbers}
-use Rattle.requests.proofs.Openings.{letter-named, setup-on, opening-is}
+use Rattle.requests.proofs.Openings.{letter-named, setup-on, taken-parts}
 use Rattle.requests.proofs.Tests.{both-parts, true-both}
 
 -- the test of a usable set, both ways
@@ -26,32 +27,46 @@ set-tested : (d : Device) (u : CounterSet) → 1 ≤ u .0 → u .0 ≤ allCounte
 unfolding usableSet
 set-tested d u h k = true-both _ _ (lt-ltb 0 (u .0) h) (le-leb (u .0) (allCounters d) k)
 
+-- the test of the number of fixed enables, both ways
+fixed-bounds : (d : Device) (o : Opening) → leb (o .fixed) (allFixed d) ≡ true → o .fixed ≤ mostFixed d
+fixed-bounds d o h = rw (← numbers d .fixed-most) (leb-true (o .fixed) (allFixed d) h)
+
+fixed-tested : (d : Device) (o : Opening) → o .fixed ≤ mostFixed d → leb (o .fixed) (allFixed d) ≡ true
+fixed-tested d o h = le-leb (o .fixed) (allFixed d) (rw (numbers d .fixed-most) h)
+
+-- an opening that is taken gives what its device opens with
+opened-with : (o : Opening) (s : Setup) → Opens o s → (opens (s .device) o ≡ true) × (setupOn (s .device) o ≡ s)
+unfolding opens setupOn
+opened-with o s h =
+    (true-both _ _ (set-tested (s .device) (o .usable) (h .at-least) (h .at-most)) (fixed-tested (s .device) o (h .fixed-at-most)), rw (h .usable, h .fixed))
+
 taken : (o : Opening) (s : Setup) → Opens o s → setupOf o ≡ some s
 taken o s h =
     let named : deviceOf (o .device) ≡ some (s .device) = letter-named (o .device) (s .device) (h .device) in
-    setup-on o (s .device) named ∙ rw (set-tested (s .device) (o .usable) (h .at-least) (h .at-most), h .usable)
+    let with = opened-with o s h in
+    setup-on o (s .device) named ∙ rw (with .0, with .1)
+
+only : (o : Opening) (s : Setup) → setupOf o ≡ some s → Opens o s
+unfolding opens setupOn
+only o s e =
+    let parts = taken-parts o s e in
+    let tests = both-parts _ _ (parts .1) in
+    let set = set-bounds (s .device) (o .usable) (tests .0) in
+    let is : setupOn (s .device) o ≡ s = parts .2 in
+    record {
+      device = sym (parts .0);
+      usable = ap (λ (t : Setup). t .usable) is;
+      at-least = set .0;
+      at-most = set .1;
+      fixed = ap (λ (t : Setup). t .fixed) is;
+      fixed-at-most = fixed-bounds (s .device) o (tests .1);
+    }
 
 -- an opening that is taken has a set of the device's counters
 pub usable-bounds : (o : Opening) (s : Setup) → setupOf o ≡ some s → (1 ≤ s .usable .0) × (s .usable .0 ≤ allCounters (s .device))
-unfolding setupOf
-usable-bounds o s e = go (deviceOf (o .device)) refl
-  where
-    tested : (d : Device) → deviceOf (o .device) ≡ some d → (b : Bool) → usableSet d (o .usable) ≡ b → (1 ≤ s .usable .0) × (s .usable .0 ≤ allCounters (s .device))
-    tested d h true k =
-        let is : record { device = d; usable = o .usable } ≡ s = Option·some-injective (record { device = d; usable = o .usable }) s (rw (h, k, setupOf) at e) in
-        rw (← is) (set-bounds d (o .usable) k)
-    tested d h false k = absurd (Option·none-ne-some s (rw (h, k, setupOf) at e))
-
-    go : (x : Option Device) → deviceOf (o .device) ≡ x → (1 ≤ s .usable .0) × (s .usable .0 ≤ allCounters (s .device))
-    go none h = absurd (Option·none-ne-some s (rw (h, setupOf) at e))
-    go (some d) h = tested d h (usableSet d (o .usable)) refl
-
-only : (o : Opening) (s : Setup) → setupOf o ≡ some s → Opens o s
-unfolding openingOf
-only o s e =
-    let is = opening-is o s e in
-    let within = usable-bounds o s e in
-    rw (← is) (record { device = refl; usable = refl; at-least = within .0; at-most = within .1 })
+usable-bounds o s e =
+    let h = only o s e in
+    (rw (← h .usable) (h .at-least), rw (← h .usable) (h .at-most))
 
 refused : (o : Opening) → ((s : Setup) → ¬ Opens o s) → setupOf o ≡ none
 refused o none-opens = go (setupOf o) refl

@@ -39,6 +39,15 @@ counterCount S = 4
 unfoldable pub allCounters : Device → ℕ
 allCounters d = 2 ^ counterCount d - 1
 
+-- fixed counters, which always count one event: three on G
+unfoldable pub fixedCount : Device → ℕ
+fixedCount G = 3
+fixedCount S = 0
+
+-- the enables of all fixed counters of the device
+unfoldable pub allFixed : Device → ℕ
+allFixed d = 2 ^ fixedCount d - 1
+
 -- the code of the device's letter
 unfoldable pub letterOf : Device → ℕ
 letterOf G = 71
@@ -76,17 +85,25 @@ pairsJudged S = false
 unfoldable pub usableSet : Device → CounterSet → Bool
 usableSet d u = both (ltb 0 (u .0)) (leb (u .0) (allCounters d))
 
--- what open takes; none is refusal 3, "device unknown, or usable set 0 or above 15"
+-- whether the device opens with what is given beside its letter
+unfoldable pub opens : Device → Opening → Bool
+opens d o = both (usableSet d (o .usable)) (leb (o .fixed) (allFixed d))
+
+-- the device with what is given beside its letter
+unfoldable pub setupOn : Device → Opening → Setup
+setupOn d o = record { device = d; usable = o .usable; fixed = o .fixed }
+
+-- what open takes; none is refusal 3, "device unknown, or usable set 0 or above 15", or a number of fixed enables above 7, on S above 0
 unfoldable pub setupOf : Opening → Option Setup
 setupOf o =
     elim (deviceOf (o .device)) [
       | none ↦ none
-      | some d ↦ elim (usableSet d (o .usable)) [ true ↦ some (record { device = d; usable = o .usable }) | false ↦ none ]
+      | some d ↦ elim (opens d o) [ true ↦ some (setupOn d o) | false ↦ none ]
     ]
 
 -- what an accepted open was given, as it was given
 unfoldable pub openingOf : Setup → Opening
-openingOf s = record { device = letterOf (s .device); usable = s .usable }
+openingOf s = record { device = letterOf (s .device); usable = s .usable; fixed = s .fixed }
 
 -- what an opening opens, or 3
 unfoldable pub openedAs : Option Setup → Opened

@@ -81,7 +81,7 @@ examples =
 
 -- the number that refuses the request of an example
 unfoldable pub numberFor : Example → Option ℕ
-numberFor e = answerNumber (answerFor (requestRefusal (record { device = e .device; usable = all }) (e .request)))
+numberFor e = answerNumber (answerFor (requestRefusal (record { device = e .device; usable = all; fixed = 0 }) (e .request)))
 
 -- each request is answered by its number
 abbrev pub Examples : Type 0

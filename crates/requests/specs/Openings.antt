@@ -1,19 +1,28 @@
--- "open: device, usable set 1..15", and 3 everywhere else: "device unknown, or usable set 0 or above 15".
+-- "open: device, usable set 1..15" and "a third number, 0 to 7, for those three bits (0 on S)", and 3 everywhere else: "device unknown, or
+-- usable set 0 or above 15", and "anything else is refused with 3".
 use mathlib.Core.Path.{_≡_}
 use mathlib.Core.Option.{Option, none, some}
 use Prim.Native.Nat.{ℕ, _≤_}
 use Rattle.requests.specs.Refusals.{answerNumber}
 use Rattle.requests.specs.Devices.{allCounters, letterOf, setupOf, openedAs, openedAnswer}
 use Rattle.requests.specs.declared.Device.{Device}
+use Rattle.requests.specs.declared.Device.the-variants.{G, S}
 use Rattle.requests.specs.declared.Opening.{Opening}
 use Rattle.requests.specs.declared.Setup.{Setup}
 
--- the opening has the letter of the setup's device, and its usable set, neither 0 nor above all counters
+-- the largest number of fixed enables: bits 32 to 34 on G, none on S
+abbrev pub mostFixed : Device → ℕ
+mostFixed G = 7
+mostFixed S = 0
+
+-- the opening has the letter of the setup's device, its usable set, neither 0 nor above all counters, and its fixed enables
 pub record Opens (o : Opening) (s : Setup) : Type 0 where
   pub device : o .device ≡ letterOf (s .device)
   pub usable : o .usable ≡ s .usable
   pub at-least : 1 ≤ o .usable .0
   pub at-most : o .usable .0 ≤ allCounters (s .device)
+  pub fixed : o .fixed ≡ s .fixed
+  pub fixed-at-most : o .fixed ≤ mostFixed (s .device)
 
 -- the number of what `setup_of` answers: none where it opens a session
 abbrev pub openingNumber : Opening → Option ℕ

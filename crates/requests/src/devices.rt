@@ -7,7 +7,7 @@ use crate::Refusal;
 use crate::Setup;
 ghost use mathlib.Core.Path.{_≡_};
 ghost use Rattle.requests.specs.Choice.{pick};
-ghost use Rattle.requests.specs.Devices.{counterCount, allCounters, letterOf, packetsOn, offcoreOn, pairsJudged, usableSet, setupOf, openedAs};
+ghost use Rattle.requests.specs.Devices.{counterCount, allCounters, fixedCount, allFixed, letterOf, packetsOn, offcoreOn, pairsJudged, usableSet, opens, setupOn, setupOf, openedAs};
 
 // The number of counters that arrays have room for.
 pub const CAPACITY: usize = 8;
@@ -31,6 +31,24 @@ pub fn all_counters(d: Device) -> CounterSet
 {
     let count = counter_count(d);
     CounterSet((1 << count) - 1)
+}
+
+// How many fixed counters the device has.
+pub fn fixed_count(d: Device) -> u64
+    ensures { λ r. ⌜ r ≡ fixedCount d ⌝ }
+{
+    match d {
+        Device::G => 3,
+        Device::S => 0,
+    }
+}
+
+// The enables of all fixed counters of the device.
+pub fn all_fixed(d: Device) -> u64
+    ensures { λ r. ⌜ r ≡ allFixed d ⌝ }
+{
+    let count = fixed_count(d);
+    (1 << count) - 1
 }
 
 // The code of the device's letter.
@@ -73,16 +91,40 @@ pub fn pairs_judged(d: Device) -> bool
     }
 }
 
-// The setup of a device with a usable set, where that has a counter and none past the device's.
-fn opened_on(device: Device, usable: CounterSet) -> Opened
-    ensures { λ r. ⌜ r ≡ pick (usableSet device usable) (Opened.With (record { device = device; usable = usable })) (Opened.Refused Refusal.BadOpening) ⌝ }
+// Whether a usable set has a counter, and none past the device's.
+fn usable_set(d: Device, usable: CounterSet) -> bool
+    ensures { λ r. ⌜ r ≡ usableSet d usable ⌝ }
 {
     let counters = usable.0;
     if 0 < counters {
-        let all = all_counters(device);
-        if counters <= all.0 {
-            return Opened::With(Setup { device, usable });
-        }
+        let all = all_counters(d);
+        return counters <= all.0;
+    }
+    false
+}
+
+// Whether the device opens with what is given beside its letter.
+fn opens(d: Device, o: Opening) -> bool
+    ensures { λ r. ⌜ r ≡ opens d o ⌝ }
+{
+    let usable = o.usable;
+    if usable_set(d, usable) {
+        return o.fixed <= all_fixed(d);
+    }
+    false
+}
+
+// What a device opens with what is given beside its letter.
+fn opened_on(d: Device, o: Opening) -> Opened
+    ensures { λ r. ⌜ r ≡ pick (opens d o) (Opened.With (setupOn d o)) (Opened.Refused Refusal.BadOpening) ⌝ }
+{
+    if opens(d, o) {
+        let usable = o.usable;
+        return Opened::With(Setup {
+            device: d,
+            usable: usable,
+            fixed: o.fixed,
+        });
     }
     Opened::Refused(Refusal::BadOpening)
 }
@@ -91,13 +133,12 @@ fn opened_on(device: Device, usable: CounterSet) -> Opened
 pub fn setup_of(o: Opening) -> Opened
     ensures { λ r. ⌜ r ≡ openedAs (setupOf o) ⌝ }
 {
-    let usable = o.usable;
     let letter = o.device;
     let mut i = 0;
     while i < DEVICES.len() {
         let device = DEVICES[i];
         if letter == letter_of(device) {
-            return opened_on(device, usable);
+            return opened_on(device, o);
         }
         i += 1;
     }

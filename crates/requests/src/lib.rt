@@ -15,16 +15,18 @@ pub enum Device {
     S,
 }
 
-// What open is given: the letter of a device, as a number, and the usable counters.
+// What open is given: the letter of a device, as a number, the usable counters, and the enables of the fixed counters.
 pub struct Opening {
     pub device: u64,
     pub usable: CounterSet,
+    pub fixed: u64,
 }
 
 // What an accepted open was given.
 pub struct Setup {
     pub device: Device,
     pub usable: CounterSet,
+    pub fixed: u64,
 }
 
 // What an opening opens: a session with a setup, or why none.

@@ -1,29 +1,17 @@
--- `devices::opened_on` meets its contract, by its two tests.
+-- `devices::opened_on` meets its contract, by its test.
 -- Assumes nothing.
-use mathlib.Core.Path.{_≡_, ap}
+use mathlib.Core.Path.{sym, _∙_}
 use borrow.Author.Needs.{needs}
-use borrow.Author.Tests.{lt-ltb, le-ltb, le-leb, lt-leb}
-use Rattle.requests.specs.Choice.{both}
-use Rattle.requests.specs.Devices.{allCounters, usableSet}
-use Rattle.requests.specs.declared.CounterSet.{CounterSet}
+use Rattle.requests.specs.Devices.{setupOn}
 use Rattle.requests.proofs.devices.opened_on.Statement.{statement}
 use Rattle.requests.proofs.devices.opened_on.Tie as tie
 
--- the set that the code compares with
-all-counters : (c : tie.After-all-counters) → c .all-counters .result .0 ≡ allCounters (c .before .before .args .device)
-all-counters c = ap (λ (x : CounterSet). x .0) (c .all-counters .ensures)
-
 returns : tie.Need-returns
-unfolding usableSet both
-returns c = simp (lt-ltb _ _ (c .before .before .before .if1 .taken), ← all-counters (c .before .before), le-leb _ _ (c .if2 .taken))
+unfolding setupOn
+returns c = rw (sym (c .before .before .opens .ensures) ∙ c .before .if1 .taken)
 
 returns-2 : tie.Need-returns-2
-unfolding usableSet both
-returns-2 c = simp (lt-ltb _ _ (c .before .before .before .if1 .taken), ← all-counters (c .before .before), lt-leb _ _ (c .if2 .left))
-
-returns-3 : tie.Need-returns-3
-unfolding usableSet both
-returns-3 c = simp (le-ltb _ _ (c .if1 .left))
+returns-2 c = rw (sym (c .before .opens .ensures) ∙ c .if1 .left)
 
 pub opened-on-spec : {M : Type 1} → statement M
-opened-on-spec = tie.close (tie.spec (λ c κs. search needs) returns returns-2 returns-3)
+opened-on-spec = tie.close (tie.spec (λ c κs. search needs) returns returns-2)

@@ -11,10 +11,10 @@ use Rattle.requests.proofs.devices.setup_of.Statement.{statement}
 use Rattle.requests.proofs.devices.setup_of.Tie as tie
 
 abbrev Inv-loop : tie.InvT-loop
-Inv-loop usable letter i₀ i = named (drop i devices) letter ≡ deviceOf letter
+Inv-loop o letter i₀ i = named (drop i devices) letter ≡ deviceOf letter
 
 abbrev μ-loop : tie.MeasureT-loop
-μ-loop usable letter i₀ i = length devices - i
+μ-loop o letter i₀ i = length devices - i
 
 loop-holds : tie.Need-loop-holds Inv-loop μ-loop
 unfolding deviceOf
@@ -23,7 +23,7 @@ loop-holds c = refl
 returns : tie.Need-returns Inv-loop μ-loop
 returns c =
     c .opened-on .ensures
-    ∙ sym (opened-on (c .before .before .before .before .before .before .before .args .o) _ (letter-named _ _ (c .before .if1 .taken ∙ c .before .before .letter-of .ensures)))
+    ∙ sym (opened-on (c .before .before .before .before .before .before .args .o) _ (letter-named _ _ (c .before .if1 .taken ∙ c .before .before .letter-of .ensures)))
 
 loop-again : tie.Need-loop-again Inv-loop μ-loop
 unfolding devices
@@ -39,7 +39,7 @@ loop-less c = omega (arith, c .before .before .before .loop-test .taken)
 returns-2 : tie.Need-returns-2 Inv-loop μ-loop
 unfolding devices
 returns-2 c =
-    sym (opened-refused (c .before .before .before .args .o) (sym (c .before .loop .inv) ∙ no-letter devices (c .before .loop .i) _ (c .loop-test .left)))
+    sym (opened-refused (c .before .before .args .o) (sym (c .before .loop .inv) ∙ no-letter devices (c .before .loop .i) _ (c .loop-test .left)))
 
 pub setup-of-spec : {M : Type 1} → statement M
 setup-of-spec =

@@ -1,0 +1,17 @@
+-- `devices::fixed_count` meets its contract, by the definition at each device.
+-- Assumes nothing.
+use borrow.Author.Needs.{needs}
+use Rattle.requests.specs.Devices.{fixedCount}
+use Rattle.requests.proofs.devices.fixed_count.Statement.{statement}
+use Rattle.requests.proofs.devices.fixed_count.Tie as tie
+
+returns : tie.Need-returns
+unfolding fixedCount
+returns c = rw (c .enum-told .given .1)
+
+returns-2 : tie.Need-returns-2
+unfolding fixedCount
+returns-2 c = rw (c .enum-told2 .given .1)
+
+pub fixed-count-spec : {M : Type 1} → statement M
+fixed-count-spec = tie.close (tie.spec (λ c. search needs) (λ c. search needs) returns returns-2)
