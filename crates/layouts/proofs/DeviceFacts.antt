@@ -11,7 +11,7 @@ use Rattle.requests.specs.declared.Device.{Device}
 use Rattle.requests.specs.declared.Device.the-variants.{G, S}
 use Rattle.requests.specs.Bits.{bit, inList, onlyBits}
 use Rattle.requests.specs.Catalogue.{eventsOf}
-use Rattle.requests.specs.Devices.{capacity, counterCount}
+use Rattle.requests.specs.Devices.{capacity, counterCount, fixedCount}
 use Rattle.plans.specs.Lists.{All, nil, cons}
 use Rattle.plans.proofs.PlanLengthHolds.{plan-length}
 use Rattle.layouts.specs.Layout.{tabulate, field, globalBits, controlBits, enabled, offcoreCode, layoutOf, controlAt, counterAt, filtersAt, rsp0At, rsp1At, mmCfgAt, matchAt, maskAt}
@@ -47,8 +47,9 @@ pub record DeviceFacts (d : Device) : Type 0 where
   -- a control register has them, and the 16 bits of code and unit mask
   pub enabled-permitted : onlyBits (controlBits d) (enabled d) ≡ true
   pub low-permitted : every 16 (inList (controlBits d)) ≡ true
-  -- the global register has a bit for each counter
+  -- the global register has a bit for each counter, and from bit 32 on for each fixed counter
   pub enables : every (counterCount d) (inList (globalBits d)) ≡ true
+  pub fixed-enables : every (fixedCount d) (λ k. inList (globalBits d) (32 + k)) ≡ true
   -- listed codes and masks have 8 bits, and no listed code is that of a filter event
   pub events : table (filterCode d) (eventsOf d) ≡ true
   -- the writes of all counters and of the filter registers are within the limit
@@ -61,7 +62,7 @@ pub record DeviceFacts (d : Device) : Type 0 where
   pub apart : Apart d
 
 pub facts : (d : Device) → DeviceFacts d
-unfolding capacity counterCount layoutOf controlAt counterAt filtersAt rsp0At rsp1At mmCfgAt matchAt maskAt enabled controlBits globalBits field tabulate inList bit onlyBits every both either belowMask table eventsOf filterCode offcoreCode filterRoom writeLimit
+unfolding capacity counterCount fixedCount layoutOf controlAt counterAt filtersAt rsp0At rsp1At mmCfgAt matchAt maskAt enabled controlBits globalBits field tabulate inList bit onlyBits every both either belowMask table eventsOf filterCode offcoreCode filterRoom writeLimit
 facts G =
     record {
       enabled-some = omega arith;
@@ -70,6 +71,7 @@ facts G =
       enabled-permitted = refl;
       low-permitted = refl;
       enables = refl;
+      fixed-enables = refl;
       events = refl;
       filter-small = omega arith;
       write-room = omega arith;
@@ -95,6 +97,7 @@ facts S =
       enabled-permitted = refl;
       low-permitted = refl;
       enables = refl;
+      fixed-enables = refl;
       events = refl;
       filter-small = omega arith;
       write-room = omega arith;

@@ -1,28 +1,24 @@
 -- The writes of the empty plan turn the usable counters off: `EmptyPlan`, by the round trip of a plan without requests.
 use mathlib.Core.Path.{_≡_, refl, ap, _∙_}
-use mathlib.Core.Bool.{Bool, false, not}
+use mathlib.Core.Bool.{false, not}
 use mathlib.Core.List.{[], flatMap}
-use Prim.Native.Nat.{ℕ, zero, suc, _^_, _≤_}
-use native.Mathlib.Nat.{zero-add}
+use Prim.Native.Nat.{ℕ, zero, suc, _+_, _≤_, _<_}
 use native.Mathlib.Decide.{decLt}
 use native.Mathlib.Omega.{arith}
 use borrow.Author.Tests.{lt-ltb, le-ltb}
 use lib.Dec.{ltb}
-use lib.Pow.{pow-mono}
 use Rattle.requests.specs.Choice.{both}
 use Rattle.requests.specs.declared.Setup.{Setup}
 use Rattle.requests.specs.Bits.{bit, inList}
-use Rattle.requests.specs.Devices.{has, counterCount}
+use Rattle.requests.specs.Devices.{has, counterCount, fixedCount}
 use Rattle.plans.specs.Lists.{nil, empty, none}
 use Rattle.plans.specs.Legal.{Usable, Legal, ofAll, counters}
 use Rattle.layouts.specs.Layout.{layoutOf, controlAt}
 use Rattle.layouts.specs.Settings.{setFrom}
-use Rattle.layouts.specs.Writes.{lastGlobal}
+use Rattle.layouts.specs.Writes.{firstGlobal, lastGlobal}
 use Rattle.layouts.specs.Told.{toldAt, toldPlan}
 use Rattle.layouts.specs.EmptyPlan.{allOff, turnedOff, EmptyPlan}
-use Rattle.layouts.proofs.WordBits.{bit-above}
-use Rattle.layouts.proofs.CounterSets.{bit-set, set-below}
-use Rattle.layouts.proofs.GlobalValues.{first-set, last-unused}
+use Rattle.layouts.proofs.GlobalValues.{first-bit, first-none, first-fixed, last-unused}
 use Rattle.layouts.proofs.PlanWords.{control-left, global-left}
 use Rattle.layouts.proofs.RoundTrip.{round-trip}
 
@@ -39,29 +35,29 @@ unfolding setFrom
 none-used zero j = refl
 none-used (suc n) j = omega (arith, none-used n (suc j))
 
--- the global value is the set of the counters that are not usable
-global-value : (s : Setup) (registers : ℕ → ℕ) → turnedOff s registers (layoutOf (s .device) .global) ≡ setFrom (counterCount (s .device)) 0 (λ k. not (has (s .usable) k))
+-- the global value is the first one
+global-value : (s : Setup) (registers : ℕ → ℕ) → turnedOff s registers (layoutOf (s .device) .global) ≡ firstGlobal s
 unfolding counters flatMap inList
 global-value s registers =
     global-left s [] [] registers
     ∙ ap (lastGlobal s) (none-used (counterCount (s .device)) 0)
     ∙ last-unused s
-    ∙ first-set s
 
-global : (s : Setup) (registers : ℕ → ℕ) (k : ℕ)
+global : (s : Setup) (registers : ℕ → ℕ) (k : ℕ) → k < 32
     → bit k (turnedOff s registers (layoutOf (s .device) .global)) ≡ both (ltb k (counterCount (s .device))) (not (has (s .usable) k))
 unfolding both
-global s registers k =
-    let n = counterCount (s .device) in
-    let others : ℕ → Bool = λ j. not (has (s .usable) j) in
+global s registers k low =
     ap (bit k) (global-value s registers)
     ∙ elim (decLt k (counterCount (s .device))) [
-      | yes l ↦ rw (lt-ltb k n l) (bit-set n 0 k others l ∙ ap others (zero-add k))
+      | yes l ↦ rw (lt-ltb k (counterCount (s .device)) l) (first-bit s k l)
       | no o ↦
-          let past : n ≤ k = let y = o in omega arith in
-          let more : 2 ^ n ≤ 2 ^ k = pow-mono past in
-          rw (le-ltb k n past) (bit-above k (setFrom n 0 others) (omega (arith, set-below n 0 others)))
+          let past : counterCount (s .device) ≤ k = let y = o in omega arith in
+          rw (le-ltb k (counterCount (s .device)) past) (first-none s k past low)
     ]
+
+fixed : (s : Setup) (registers : ℕ → ℕ) (k : ℕ)
+    → bit (32 + k) (turnedOff s registers (layoutOf (s .device) .global)) ≡ both (ltb k (fixedCount (s .device))) (bit k (s .fixed))
+fixed s registers k = ap (bit (32 + k)) (global-value s registers) ∙ first-fixed s k
 
 told-off : (s : Setup) → toldPlan s [] [] ≡ allOff s
 unfolding toldPlan allOff ofAll toldAt
@@ -72,6 +68,7 @@ empty-plan =
     record {
       controls = controls;
       global = global;
+      fixed = fixed;
       accepted = λ s registers opened. round-trip s [] [] opened nil (empty-legal s) registers .accepted;
       told-off = λ s registers opened. round-trip s [] [] opened nil (empty-legal s) registers .plan ∙ told-off s;
     }

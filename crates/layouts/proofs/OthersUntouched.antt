@@ -1,24 +1,29 @@
--- What belongs to somebody else is left alone: `OthersUntouched`, by `writes-all` and the values of the global register. Assumes nothing.
+-- What belongs to somebody else is left alone: `OthersUntouched` and `FixedEnables`, by `writes-all` and the values of the global register. Assumes nothing.
 use mathlib.Core.Path.{_≡_, refl, sym, ap, subst, _∙_}
 use mathlib.Core.Bool.{true, false, not}
 use mathlib.Core.List.{List, List·Memᴰ}
-use Prim.Native.Nat.{ℕ, _<_}
+use Prim.Native.Nat.{ℕ, _+_, _≤_, _<_}
+use lib.Dec.{ltb}
+use Rattle.requests.specs.Choice.{both}
 use Rattle.requests.specs.declared.Setup.{Setup}
 use Rattle.requests.specs.declared.Request.{Request}
 use Rattle.requests.specs.Bits.{bit}
-use Rattle.requests.specs.Devices.{has, counterCount}
+use Rattle.requests.specs.Devices.{has, counterCount, allCounters, fixedCount, allFixed}
+use Rattle.requests.proofs.DeviceNumbers.{numbers}
+use Rattle.requests.proofs.OpeningsTaken.{openings}
 use Rattle.requests.proofs.Tests.{either-left}
 use Rattle.plans.specs.declared.Place.{Place}
 use Rattle.plans.specs.Legal.{Legal}
 use Rattle.plans.proofs.Sets.{all-imp}
 use Rattle.layouts.specs.Layout.{layoutOf}
 use Rattle.layouts.specs.Settings.{settingsOf}
-use Rattle.layouts.specs.Writes.{writes, apply}
+use Rattle.layouts.specs.Writes.{firstGlobal, lastGlobal, writes, apply}
+use Rattle.layouts.specs.FixedEnables.{Carries, FixedEnables}
 use Rattle.layouts.specs.OthersUntouched.{Ours, global, filter, control, counter, OthersUntouched}
 use Rattle.layouts.proofs.ListLaws.{all-member}
 use Rattle.layouts.proofs.DeviceFacts.{in-room, apart}
 use Rattle.layouts.proofs.RegistersAfter.{apply-after, after-other, filter-addresses, writes-all}
-use Rattle.layouts.proofs.GlobalValues.{used-usable, first-bit, last-bit}
+use Rattle.layouts.proofs.GlobalValues.{used-usable, first-bit, first-fixed, first-carries, last-bit, last-fixed, last-carries}
 
 kept : (s : Setup) (rs : List Request) (ps : List Place) → Legal s rs ps
     → (registers : ℕ → ℕ) (a : ℕ) → ¬ Ours s a → apply (writes s rs ps) registers a ≡ registers a
@@ -35,21 +40,40 @@ kept s rs ps legal registers a others =
     (λ k l h. control (used-usable s rs ps legal k l h))
     global))
 
-enabled : (s : Setup) (rs : List Request) (ps : List Place) → Legal s rs ps
-    → (v k : ℕ) → List·Memᴰ (layoutOf (s .device) .global, v) (writes s rs ps) → k < counterCount (s .device) → has (s .usable) k ≡ false → bit k v ≡ true
+-- what holds of both values of the global register holds of each that the list writes to it
+global-all : (s : Setup) (rs : List Request) (ps : List Place) (P : ℕ → Type 0) → P (firstGlobal s) → P (lastGlobal s (settingsOf (s .device) rs ps .used .0))
+    → (v : ℕ) → List·Memᴰ (layoutOf (s .device) .global, v) (writes s rs ps) → P v
 unfolding writes
-enabled s rs ps legal v k m l h =
+global-all s rs ps P first last v m =
     let d = s .device in
-    let off : not (has (s .usable) k) ≡ true = ap not h in
     all-member
-    (writes-all s (settingsOf d rs ps) (λ w. w .0 ≡ layoutOf d .global → bit k (w .1) ≡ true)
-    (λ e. first-bit s k l ∙ off)
+    (writes-all s (settingsOf d rs ps) (λ w. w .0 ≡ layoutOf d .global → P (w .1))
+    (λ e. first)
     (λ j b g e. absurd (apart d .global-control j (in-room d j b) (sym e)))
     (all-imp (λ w a e. absurd (all-member (apart d .filter-global) a e)) (filter-addresses d (settingsOf d rs ps)))
     (λ j b g e. absurd (apart d .global-counter j (in-room d j b) (sym e)))
     (λ j b g e. absurd (apart d .global-control j (in-room d j b) (sym e)))
-    (λ e. last-bit s rs ps legal k l ∙ either-left _ _ off))
+    (λ e. last))
     m refl
 
+enabled : (s : Setup) (rs : List Request) (ps : List Place) → Legal s rs ps
+    → (v k : ℕ) → List·Memᴰ (layoutOf (s .device) .global, v) (writes s rs ps) → k < counterCount (s .device) → has (s .usable) k ≡ false → bit k v ≡ true
+enabled s rs ps legal v k m l h =
+    let off : not (has (s .usable) k) ≡ true = ap not h in
+    global-all s rs ps (λ x. bit k x ≡ true) (first-bit s k l ∙ off) (last-bit s rs ps legal k l ∙ either-left _ _ off) v m
+
+fixed : (s : Setup) (rs : List Request) (ps : List Place) → Legal s rs ps
+    → (v k : ℕ) → List·Memᴰ (layoutOf (s .device) .global, v) (writes s rs ps) → bit (32 + k) v ≡ both (ltb k (fixedCount (s .device))) (bit k (s .fixed))
+fixed s rs ps legal v k m =
+    global-all s rs ps (λ x. bit (32 + k) x ≡ both (ltb k (fixedCount (s .device))) (bit k (s .fixed))) (first-fixed s k) (last-fixed s rs ps legal k) v m
+
 pub others-untouched : OthersUntouched
-others-untouched = record { kept = kept; enabled = enabled }
+others-untouched = record { kept = kept; enabled = enabled; fixed = fixed }
+
+-- each carries the number of an accepted open
+pub fixed-enables : FixedEnables
+fixed-enables o s opened rs ps legal v m =
+    let given = openings .only o s opened in
+    let number : o .fixed ≡ s .fixed = given .fixed in
+    let few : s .fixed ≤ allFixed (s .device) = rw (← number, numbers (s .device) .fixed-most) (given .fixed-at-most) in
+    rw number (global-all s rs ps (Carries (s .fixed) (allCounters (s .device))) (first-carries s few) (last-carries s rs ps legal few) v m)

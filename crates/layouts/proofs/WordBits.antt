@@ -1,15 +1,16 @@
--- Laws of the bits of a word: of words that agree in their high part, of a word with one bit more, and of words with bits of a list only. Assumes nothing.
-use mathlib.Core.Path.{_≡_, refl, ap, sym}
+-- Laws of the bits of a word: of words that agree in their high part, of a word with one bit more, of a word made of two parts, and of words with bits of a list only. Assumes nothing.
+use mathlib.Core.Path.{_≡_, refl, ap, sym, _∙_}
 use mathlib.Core.Logic.{_⊎_, inl, inr, ⊎-elim}
 use mathlib.Core.Bool.{Bool, true, false, not}
 use mathlib.Core.List.{List, [], _∷_}
 use Prim.Native.Nat.{ℕ, zero, suc, _+_, _*_, _-_, _/_, _%_, _^_, _≤_, _<_}
-use native.Mathlib.Nat.{pow-succ', div-eq-of-lt, zero-div, div-lt-iff-lt-mul, div-one, zero-add, suc-add}
+use native.Mathlib.Nat.{pow-succ', div-eq-of-lt, zero-div, div-lt-iff-lt-mul, div-one, zero-add, suc-add, add-zero, mul-comm, mul-assoc, mul-add-div-right, mod-lt, div-add-mod'}
+use native.Mathlib.Decide.{decLt}
 use native.Mathlib.Omega.{arith}
-use lib.Dec.{eqb, eqb·suc-suc}
-use lib.Pow.{pow-pos, shr-shr}
-use borrow.Author.Tests.{eqb-false, ne-eqb, ltb-true, lt-ltb}
-use Rattle.requests.specs.Choice.{either}
+use lib.Dec.{eqb, ltb, eqb·suc-suc}
+use lib.Pow.{pow-pos, pow-mono, shr-shr}
+use borrow.Author.Tests.{eqb-false, ne-eqb, ltb-true, lt-ltb, le-ltb}
+use Rattle.requests.specs.Choice.{both, either}
 use Rattle.requests.specs.Bits.{bit, inList, anyBit, onlyBits}
 use Rattle.requests.proofs.Tests.{either-false, both-parts, either-cases, true-both, either-left, either-right, every-true}
 use Rattle.requests.proofs.BitLists.{reserved}
@@ -45,6 +46,40 @@ bit-more zero (suc k) w l =
 bit-more (suc j) (suc k) w l =
     let e : (w + 2 ^ suc j) / 2 ≡ w / 2 + 2 ^ j = omega (arith, pow-succ' 2 j) in
     rw (half-div k (w + 2 ^ suc j), half-div k w, e, eqb·suc-suc j k) (bit-more j k (w / 2) (omega (arith, pow-succ' 2 j)))
+
+-- a word made of two parts, the high one from bit n on: below n its bits are those of the low part, from there on those of the high one
+doubled : (n f : ℕ) → f * 2 ^ suc n ≡ f * 2 ^ n * 2
+doubled n f = ap (λ (x : ℕ). f * x) (pow-succ' 2 n ∙ mul-comm 2 (2 ^ n)) ∙ sym (mul-assoc f (2 ^ n) 2)
+
+pub bit-low-part : (n k f w : ℕ) → k < n → bit k (f * 2 ^ n + w) ≡ bit k w
+unfolding bit
+bit-low-part zero k f w l = absurd (omega arith)
+bit-low-part (suc n) zero f w l =
+    let e : (f * 2 ^ suc n + w) / 1 % 2 ≡ w / 1 % 2 = rw (div-one (f * 2 ^ suc n + w), div-one w) (omega (arith, doubled n f)) in
+    rw e
+bit-low-part (suc n) (suc k) f w l =
+    let half : (f * 2 ^ suc n + w) / 2 ≡ f * 2 ^ n + w / 2 = omega (arith, doubled n f) in
+    rw (half-div k (f * 2 ^ suc n + w), half-div k w, half) (bit-low-part n k f (w / 2) (omega arith))
+
+pub bit-high-part : (n k f w : ℕ) → w < 2 ^ n → bit (n + k) (f * 2 ^ n + w) ≡ bit k f
+unfolding bit
+bit-high-part n k f w l =
+    let above : (f * 2 ^ n + w) / 2 ^ n ≡ f = mul-add-div-right (pow-pos n) f w ∙ rw (div-eq-of-lt l, add-zero) in
+    rw (← shr-shr (f * 2 ^ n + w) n k, above)
+
+-- the last n bits of a word
+pub bit-part : (n k w : ℕ) → bit k (w % 2 ^ n) ≡ both (ltb k n) (bit k w)
+unfolding both
+bit-part n k w =
+    elim (decLt k n) [
+      | yes l ↦
+          let whole : w / 2 ^ n * 2 ^ n + w % 2 ^ n ≡ w = div-add-mod' w (2 ^ n) in
+          rw (lt-ltb k n l) (sym (bit-low-part n k (w / 2 ^ n) (w % 2 ^ n) l) ∙ ap (bit k) whole)
+      | no o ↦
+          let past : n ≤ k = let y = o in omega arith in
+          let more : 2 ^ n ≤ 2 ^ k = pow-mono past in
+          rw (le-ltb k n past) (bit-above k (w % 2 ^ n) (omega (arith, mod-lt w (pow-pos n))))
+    ]
 
 -- a word whose bits from n on are 0 is below 2^n
 pub below-bits : (n m w : ℕ) → w < 2 ^ (m + n) → ((k : ℕ) → n ≤ k → k < m + n → bit k w ≡ false) → w < 2 ^ n

@@ -74,7 +74,7 @@ places : List Place
 places = Counter 0 ∷ Counter 1 ∷ Counter 2 ∷ Counter 3 ∷ []
 
 setup : Device → Setup
-setup d = record { device = d; usable = all d }
+setup d = record { device = d; usable = all d; fixed = 0 }
 
 apart : Pairwise _≢_ (counters places)
 unfolding places counters countersOf countedOf flatMap

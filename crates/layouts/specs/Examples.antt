@@ -7,6 +7,8 @@ use Rattle.requests.specs.Refusals.{answerNumber}
 use Rattle.requests.specs.declared.CounterSet.{CounterSet}
 use Rattle.requests.specs.declared.Device.{Device}
 use Rattle.requests.specs.declared.Device.the-variants.{G, S}
+use Rattle.requests.specs.declared.Opening.{Opening}
+use Rattle.requests.specs.declared.Setup.{Setup}
 use Rattle.requests.specs.declared.Request.{Request}
 use Rattle.requests.specs.declared.Request.the-variants.{Event, Packet, Offcore, Latency}
 use Rattle.plans.specs.declared.Place.{Place}
@@ -25,12 +27,15 @@ all = record { 0 = 15 }
 abbrev set : ℕ → CounterSet
 set n = record { 0 = n }
 
+-- a device with a usable set and fixed enables
+abbrev opened : Device → ℕ → ℕ → Setup
+opened d usable fixed = record { device = d; usable = set usable; fixed = fixed }
+
 -- ---- write lists
 
 -- a plan, and its whole write list
 pub record Plan : Type 0 where
-  pub device : Device
-  pub usable : CounterSet
+  pub setup : Setup
   pub requests : List Request
   pub places : List Place
   pub written : List Write
@@ -40,8 +45,7 @@ unfoldable pub plans : List Plan
 plans =
     -- A. "event 1 C0 00 1" takes counter 0, "latency 2 0001 15 15" takes counter 1 with RSP0 and counter 2 with RSP1
     record {
-      device = G;
-      usable = all;
+      setup = opened G 15 0;
       requests = Event 0xC0 0x00 (set 1) ∷ Latency 0x0001 all all ∷ [];
       places = Counter 0 ∷ Pair 1 2 ∷ [];
       written =
@@ -63,8 +67,7 @@ plans =
     }
     -- usable 14 on S: a packet request takes counter 1, and 51/3 ("400351") counter 2
     ∷ record {
-      device = S;
-      usable = set 14;
+      setup = opened S 14 0;
       requests = Packet 0x0123456789ABCDEF 0xFFFFFFFF00000000 all ∷ Event 0x51 0x03 all ∷ [];
       places = Counter 1 ∷ Counter 2 ∷ [];
       written =
@@ -85,8 +88,7 @@ plans =
     }
     -- F. "Usable 14: 038F gets 1 first". C0/00 takes counter 1; both RSP registers are unused
     ∷ record {
-      device = G;
-      usable = set 14;
+      setup = opened G 14 0;
       requests = Event 0xC0 0x00 all ∷ [];
       places = Counter 1 ∷ [];
       written =
@@ -103,8 +105,7 @@ plans =
     }
     -- C. "Offcore 10001, latency 0001: RSP1 is shared": the offcore request takes counter 0 with RSP1
     ∷ record {
-      device = G;
-      usable = all;
+      setup = opened G 15 0;
       requests = Offcore 0x10001 all ∷ Latency 0x0001 all all ∷ [];
       places = WithRsp 0 1 ∷ Pair 1 2 ∷ [];
       written =
@@ -126,8 +127,7 @@ plans =
     }
     -- "An empty queue gives an empty plan and a write list that turns the usable counters off"
     ∷ record {
-      device = S;
-      usable = set 6;
+      setup = opened S 6 0;
       requests = [];
       places = [];
       written =
@@ -138,11 +138,28 @@ plans =
           ∷ (0x0C40, 0x0000000000000009)
           ∷ [];
     }
+    -- order 2: "every write to 038F carries it", beside the bits of unusable and used counters
+    ∷ record {
+      setup = opened G 14 2;
+      requests = Event 0x3C 0x00 all ∷ [];
+      places = Counter 1 ∷ [];
+      written =
+          (0x038F, 0x0000000200000001)
+          ∷ (0x0187, 0x0000000000000000)
+          ∷ (0x0188, 0x0000000000000000)
+          ∷ (0x0189, 0x0000000000000000)
+          ∷ (0x01A6, 0x0000000000000000)
+          ∷ (0x01A7, 0x0000000000000000)
+          ∷ (0x00C2, 0x0000000000000000)
+          ∷ (0x0187, 0x000000000043003C)
+          ∷ (0x038F, 0x0000000200000003)
+          ∷ [];
+    }
     ∷ []
 
 -- the write list of a plan
 unfoldable pub writesOf : Plan → List Write
-writesOf p = writes (record { device = p .device; usable = p .usable }) (p .requests) (p .places)
+writesOf p = writes (p .setup) (p .requests) (p .places)
 
 -- ---- readings
 
@@ -156,15 +173,18 @@ abbrev onS : List ℕ → ℕ → ℕ → ℕ → ℕ → RegisterValues
 onS control c x y g =
     record { control = control ++ 0 ∷ 0 ∷ 0 ∷ 0 ∷ []; filters = record { rsp0 = 0; rsp1 = 0; «mm_cfg» = c; «match_word» = x; «mask_word» = y }; global = g }
 
--- the letter of a device and a usable set, with register values
+-- an opening, with register values
 pub record Given : Type 0 where
-  pub letter : ℕ
-  pub usable : ℕ
+  pub opening : Opening
   pub values : RegisterValues
+
+-- the letter of a device, a usable set and fixed enables
+abbrev given : ℕ → ℕ → ℕ → RegisterValues → Given
+given letter usable fixed v = record { opening = record { device = letter; usable = set usable; fixed = fixed }; values = v }
 
 -- what the reader answers
 unfoldable pub readingFor : Given → Reading
-readingFor e = readOf (record { device = e .letter; usable = set (e .usable) }) (e .values)
+readingFor e = readOf (e .opening) (e .values)
 
 -- what is given, and what is told of counters 0 to 3
 pub record AcceptedAs : Type 0 where
@@ -176,26 +196,28 @@ unfoldable pub acceptances : List AcceptedAs
 acceptances =
     -- try A's values: "off, or event with its filter register and words"
     record {
-      given = record { letter = 71; usable = 15; values = onG (0x4300C0 ∷ 0x4301B7 ∷ 0x4302B7 ∷ 0 ∷ []) 0x4000000001 0x10001 7 };
+      given = given 71 15 0 (onG (0x4300C0 ∷ 0x4301B7 ∷ 0x4302B7 ∷ 0 ∷ []) 0x4000000001 0x10001 7);
       tells = counting 0xC0 0x00 none [] ∷ counting 0xB7 0x01 (some 0) (0x4000000001 ∷ []) ∷ counting 0xB7 0x02 (some 1) (0x10001 ∷ []) ∷ off ∷ [];
     }
     -- try C's: two counters on RSP1 and one on RSP0
     ∷ record {
-      given = record { letter = 71; usable = 15; values = onG (0x4302B7 ∷ 0x4301B7 ∷ 0x4302B7 ∷ 0 ∷ []) 0x4000000001 0x10001 7 };
+      given = given 71 15 0 (onG (0x4302B7 ∷ 0x4301B7 ∷ 0x4302B7 ∷ 0 ∷ []) 0x4000000001 0x10001 7);
       tells = counting 0xB7 0x02 (some 1) (0x10001 ∷ []) ∷ counting 0xB7 0x01 (some 0) (0x4000000001 ∷ []) ∷ counting 0xB7 0x02 (some 1) (0x10001 ∷ []) ∷ off ∷ [];
     }
     -- order 1: L2_HIT in RSP0
     ∷ record {
-      given = record { letter = 71; usable = 15; values = onG (0x4301B7 ∷ 0 ∷ 0 ∷ 0 ∷ []) 0x40001 0 1 };
+      given = given 71 15 0 (onG (0x4301B7 ∷ 0 ∷ 0 ∷ 0 ∷ []) 0x40001 0 1);
       tells = counting 0xB7 0x01 (some 0) (0x40001 ∷ []) ∷ off ∷ off ∷ off ∷ [];
     }
     -- usable 14 on S: "An unusable counter is told as not ours", and its control value is not looked at
     ∷ record {
-      given = record { letter = 83; usable = 14; values = onS (0xFFFF ∷ 0x400000 ∷ 0x400351 ∷ 0 ∷ []) 0x8000000000000000 0x0123456789ABCDEF 0xFFFFFFFF00000000 7 };
+      given = given 83 14 0 (onS (0xFFFF ∷ 0x400000 ∷ 0x400351 ∷ 0 ∷ []) 0x8000000000000000 0x0123456789ABCDEF 0xFFFFFFFF00000000 7);
       tells = notOurs ∷ counting 0x00 0x00 none (0x0123456789ABCDEF ∷ 0xFFFFFFFF00000000 ∷ []) ∷ counting 0x51 0x03 none [] ∷ off ∷ [];
     }
     -- all off; "nor are MATCH and MASK where MM_CFG is 0"
-    ∷ record { given = record { letter = 83; usable = 15; values = onS (0 ∷ 0 ∷ 0 ∷ 0 ∷ []) 0 5 6 0 }; tells = off ∷ off ∷ off ∷ off ∷ [] }
+    ∷ record { given = given 83 15 0 (onS (0 ∷ 0 ∷ 0 ∷ 0 ∷ []) 0 5 6 0); tells = off ∷ off ∷ off ∷ off ∷ [] }
+    -- order 2: the number that the reader is given stands in bits 34:32
+    ∷ record { given = given 71 15 5 (onG (0 ∷ 0 ∷ 0 ∷ 0 ∷ []) 0 0 0x500000000); tells = off ∷ off ∷ off ∷ off ∷ [] }
     ∷ []
 
 -- what is told of an example; counters 4 to 7 are on neither device
@@ -207,38 +229,43 @@ pub record RefusedAs : Type 0 where
   pub number : ℕ
   pub given : Given
 
--- a number, a letter, a usable set and register values
-abbrev refusedAs : ℕ → ℕ → ℕ → RegisterValues → RefusedAs
-refusedAs n letter usable v = record { number = n; given = record { letter = letter; usable = usable; values = v } }
+-- a number, with what is given
+abbrev refusedAs : ℕ → Given → RefusedAs
+refusedAs n g = record { number = n; given = g }
 
 -- values that no plan leaves, and openings that open refuses
 unfoldable pub refusals : List RefusedAs
 refusals =
     -- 3: "device unknown, or usable set 0 or above 15", also where the values would be 15
-    refusedAs 3 72 15 (onG (0 ∷ 0 ∷ 0 ∷ 0 ∷ []) 0 0 0)
-    ∷ refusedAs 3 71 0 (onG (0 ∷ 0 ∷ 0 ∷ 0 ∷ []) 0 0 15)
-    ∷ refusedAs 3 83 16 (onS (1 ∷ 0 ∷ 0 ∷ 0 ∷ []) 1 0 0 0)
+    refusedAs 3 (given 72 15 0 (onG (0 ∷ 0 ∷ 0 ∷ 0 ∷ []) 0 0 0))
+    ∷ refusedAs 3 (given 71 0 0 (onG (0 ∷ 0 ∷ 0 ∷ 0 ∷ []) 0 0 15))
+    ∷ refusedAs 3 (given 83 16 0 (onS (1 ∷ 0 ∷ 0 ∷ 0 ∷ []) 1 0 0 0))
     -- "at least as many counters on RSP1 as on RSP0"
-    ∷ refusedAs 15 71 15 (onG (0x4301B7 ∷ 0x4301B7 ∷ 0x4302B7 ∷ 0 ∷ []) 0x4000000001 0x10001 7)
+    ∷ refusedAs 15 (given 71 15 0 (onG (0x4301B7 ∷ 0x4301B7 ∷ 0x4302B7 ∷ 0 ∷ []) 0x4000000001 0x10001 7))
     -- "a latency word needs the matching type with bit 16 in RSP1"
-    ∷ refusedAs 15 71 15 (onG (0x4301B7 ∷ 0x4302B7 ∷ 0 ∷ 0 ∷ []) 0x4000000001 0x10002 3)
+    ∷ refusedAs 15 (given 71 15 0 (onG (0x4301B7 ∷ 0x4302B7 ∷ 0 ∷ 0 ∷ []) 0x4000000001 0x10002 3))
     -- a type is bits 15:0, so that 41FFFF0001 is no latency word though 41FFFF0001 - 2^38 + 2^16 = 200000001
-    ∷ refusedAs 15 71 15 (onG (0x4301B7 ∷ 0x4302B7 ∷ 0 ∷ 0 ∷ []) 0x41FFFF0001 0x200000001 3)
+    ∷ refusedAs 15 (given 71 15 0 (onG (0x4301B7 ∷ 0x4302B7 ∷ 0 ∷ 0 ∷ []) 0x41FFFF0001 0x200000001 3))
     -- "on G an unused RSP must be 0"
-    ∷ refusedAs 15 71 15 (onG (0x4300C0 ∷ 0 ∷ 0 ∷ 0 ∷ []) 0 0x10001 1)
+    ∷ refusedAs 15 (given 71 15 0 (onG (0x4300C0 ∷ 0 ∷ 0 ∷ 0 ∷ []) 0 0x10001 1))
     -- bit 31 is reserved
-    ∷ refusedAs 15 71 15 (onG (0x4301B7 ∷ 0 ∷ 0 ∷ 0 ∷ []) 0x80010001 0 1)
+    ∷ refusedAs 15 (given 71 15 0 (onG (0x4301B7 ∷ 0 ∷ 0 ∷ 0 ∷ []) 0x80010001 0 1))
     -- order 1: L2_HIT beside bit 16, and the reserved bit 17
-    ∷ refusedAs 15 71 15 (onG (0x4301B7 ∷ 0 ∷ 0 ∷ 0 ∷ []) 0x50001 0 1)
-    ∷ refusedAs 15 71 15 (onG (0x4301B7 ∷ 0 ∷ 0 ∷ 0 ∷ []) 0x20001 0 1)
+    ∷ refusedAs 15 (given 71 15 0 (onG (0x4301B7 ∷ 0 ∷ 0 ∷ 0 ∷ []) 0x50001 0 1))
+    ∷ refusedAs 15 (given 71 15 0 (onG (0x4301B7 ∷ 0 ∷ 0 ∷ 0 ∷ []) 0x20001 0 1))
     -- the event word has the user, OS and enable bits
-    ∷ refusedAs 15 71 15 (onG (0x4100C0 ∷ 0 ∷ 0 ∷ 0 ∷ []) 0 0 1)
+    ∷ refusedAs 15 (given 71 15 0 (onG (0x4100C0 ∷ 0 ∷ 0 ∷ 0 ∷ []) 0 0 1))
     -- the global value has unusable and used bits, and no others
-    ∷ refusedAs 15 71 14 (onG (0 ∷ 0x4300C0 ∷ 0 ∷ 0 ∷ []) 0 0 2)
-    ∷ refusedAs 15 71 15 (onG (0x4300C0 ∷ 0 ∷ 0 ∷ 0 ∷ []) 0 0 0x100000001)
+    ∷ refusedAs 15 (given 71 14 0 (onG (0 ∷ 0x4300C0 ∷ 0 ∷ 0 ∷ []) 0 0 2))
+    ∷ refusedAs 15 (given 71 15 0 (onG (0x4300C0 ∷ 0 ∷ 0 ∷ 0 ∷ []) 0 0 0x100000001))
+    -- order 2: the reader "accepts only that value", and "refuses it with 3 where open would"
+    ∷ refusedAs 15 (given 71 15 5 (onG (0 ∷ 0 ∷ 0 ∷ 0 ∷ []) 0 0 0))
+    ∷ refusedAs 15 (given 71 15 5 (onG (0 ∷ 0 ∷ 0 ∷ 0 ∷ []) 0 0 0x700000000))
+    ∷ refusedAs 3 (given 71 15 8 (onG (0 ∷ 0 ∷ 0 ∷ 0 ∷ []) 0 0 0x800000000))
+    ∷ refusedAs 3 (given 83 15 1 (onS (0 ∷ 0 ∷ 0 ∷ 0 ∷ []) 0 0 0 0x100000000))
     -- MM_CFG is 2^63 where a counter counts packets, and otherwise 0
-    ∷ refusedAs 15 83 15 (onS (0x400351 ∷ 0 ∷ 0 ∷ 0 ∷ []) 0x8000000000000000 5 6 1)
-    ∷ refusedAs 15 83 15 (onS (0x400000 ∷ 0 ∷ 0 ∷ 0 ∷ []) 0 5 6 1)
+    ∷ refusedAs 15 (given 83 15 0 (onS (0x400351 ∷ 0 ∷ 0 ∷ 0 ∷ []) 0x8000000000000000 5 6 1))
+    ∷ refusedAs 15 (given 83 15 0 (onS (0x400000 ∷ 0 ∷ 0 ∷ 0 ∷ []) 0 5 6 1))
     ∷ []
 
 pub record Examples : Type 0 where

@@ -8,6 +8,7 @@ pub mod Told
 pub mod PermittedBits
 pub mod NoReservedBit
 pub mod OthersUntouched
+pub mod FixedEnables
 pub mod RestWhileWritten
 pub mod WriteCount
 pub mod EmptyPlan

@@ -1,12 +1,15 @@
--- "Every other counter belongs to somebody else. The filter registers belong wholly to the session."
+-- "Every other counter belongs to somebody else. The filter registers belong wholly to the session." And order 2: "every write to 038F
+-- carries" the enables of the fixed counters.
 use mathlib.Core.Path.{_≡_}
 use mathlib.Core.List.{List, List·Memᴰ}
 use mathlib.Core.Bool.{true, false}
-use Prim.Native.Nat.{ℕ, _<_}
+use Prim.Native.Nat.{ℕ, _+_, _<_}
+use lib.Dec.{ltb}
+use Rattle.requests.specs.Choice.{both}
 use Rattle.requests.specs.declared.Setup.{Setup}
 use Rattle.requests.specs.declared.Request.{Request}
 use Rattle.requests.specs.Bits.{bit}
-use Rattle.requests.specs.Devices.{has, counterCount}
+use Rattle.requests.specs.Devices.{has, counterCount, fixedCount}
 use Rattle.plans.specs.declared.Place.{Place}
 use Rattle.plans.specs.Legal.{Legal, Usable}
 use Rattle.layouts.specs.Layout.{layoutOf, controlAt, counterAt, filtersAt}
@@ -26,3 +29,6 @@ pub record OthersUntouched : Type 0 where
   -- "with the bits of unusable counters": every value for the global control register has them
   pub enabled : (s : Setup) (rs : List Request) (ps : List Place) → Legal s rs ps
       → (v k : ℕ) → List·Memᴰ (layoutOf (s .device) .global, v) (writes s rs ps) → k < counterCount (s .device) → has (s .usable) k ≡ false → bit k v ≡ true
+  -- from bit 32 on, every such value has the fixed enables of the session, and no others
+  pub fixed : (s : Setup) (rs : List Request) (ps : List Place) → Legal s rs ps
+      → (v k : ℕ) → List·Memᴰ (layoutOf (s .device) .global, v) (writes s rs ps) → bit (32 + k) v ≡ both (ltb k (fixedCount (s .device))) (bit k (s .fixed))

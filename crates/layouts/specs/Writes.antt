@@ -10,7 +10,7 @@ use Rattle.requests.specs.declared.Device.the-variants.{G, S}
 use Rattle.requests.specs.declared.Setup.{Setup}
 use Rattle.requests.specs.declared.Request.{Request}
 use Rattle.requests.specs.Choice.{pick}
-use Rattle.requests.specs.Devices.{has, counterCount, allCounters, capacity}
+use Rattle.requests.specs.Devices.{has, counterCount, allCounters, fixedCount, capacity}
 use Rattle.plans.specs.declared.Place.{Place}
 use Rattle.layouts.specs.Layout.{layoutOf, rsp0At, rsp1At, mmCfgAt, matchAt, maskAt, mmEnable}
 use Rattle.layouts.specs.Settings.{settingsOf}
@@ -38,9 +38,17 @@ zeros = replicate capacity 0
 unfoldable pub unusable : Setup → ℕ
 unusable s = allCounters (s .device) - s .usable .0 % 2 ^ counterCount (s .device)
 
--- the first value of the global control register: "with the bits of unusable counters"
+-- where the enables of the fixed counters begin: "bits 32 to 34 of 038F"
+unfoldable pub fixedAt : ℕ
+fixedAt = 32
+
+-- the enables of the fixed counters, as the session was opened with them
+unfoldable pub fixedEnables : Setup → ℕ
+fixedEnables s = s .fixed % 2 ^ fixedCount (s .device) * 2 ^ fixedAt
+
+-- the first value of the global control register: "with the bits of unusable counters", and with the fixed enables
 unfoldable pub firstGlobal : Setup → ℕ
-firstGlobal s = unusable s
+firstGlobal s = fixedEnables s + unusable s
 
 -- the last one, for a set of used counters: "with unusable and used bits"
 unfoldable pub lastGlobal : Setup → ℕ → ℕ

@@ -23,6 +23,7 @@ pub fn new_session() -> Session
     let setup = Setup {
         device: Device::G,
         usable: usable,
+        fixed: 0,
     };
     let places = [vacant(); QUEUE_LIMIT];
     Session {

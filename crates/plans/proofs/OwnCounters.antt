@@ -29,7 +29,7 @@ ownSet d set = setOf (set .0 % 2 ^ counterCount d)
 
 -- the setup without the usable counters that the device does not have
 abbrev pub own : Setup → Setup
-own s = record { device = s .device; usable = ownSet (s .device) (s .usable) }
+own s = record { device = s .device; usable = ownSet (s .device) (s .usable); fixed = s .fixed }
 
 -- the mask of all counters leaves the device's
 pub masked : (d : Device) (set all : CounterSet) → all ≡ record { 0 = allCounters d } → bitAnd (set .0) (all .0) ≡ ownSet d set .0
@@ -49,11 +49,11 @@ has-own d set k l =
     ap (λ (y : ℕ). eqb (y % 2) 1) digits ∙ ap (λ (y : ℕ). eqb y 1) (mod-mod-pow (x / 2 ^ k) (n - k - 1) 1)
 
 -- two setups of a device whose usable sets have the same counters of the device
-legal-as : (d : Device) (u v : CounterSet) (rs : List Request) (ps : List Place) → ((k : ℕ) → k < counterCount d → has u k ≡ has v k)
-    → Legal (record { device = d; usable = u }) rs ps → Legal (record { device = d; usable = v }) rs ps
-legal-as d u v rs ps same l = record {
+legal-as : (s t : Setup) (rs : List Request) (ps : List Place) → s .device ≡ t .device → ((k : ℕ) → k < counterCount (s .device) → has (s .usable) k ≡ has (t .usable) k)
+    → Legal s rs ps → Legal t rs ps
+legal-as s t rs ps one same l = record {
   differ = l .differ;
-  usable-only = all-imp (λ k usable. (usable .0, sym (same k (usable .0)) ∙ usable .1)) (l .usable-only);
+  usable-only = all-imp (λ k usable. (rw (← one) (usable .0), sym (same k (usable .0)) ∙ usable .1)) (l .usable-only);
   allowed = l .allowed;
   one-word = l .one-word;
   one-packet = l .one-packet;
@@ -61,10 +61,10 @@ legal-as d u v rs ps same l = record {
 
 module _ (s : Setup) (rs : List Request) where
   legal-own : (ps : List Place) → Legal s rs ps → Legal (own s) rs ps
-  legal-own ps = legal-as (s .device) (s .usable) _ rs ps (λ k l. sym (has-own (s .device) (s .usable) k l))
+  legal-own ps = legal-as s (own s) rs ps refl (λ k l. sym (has-own (s .device) (s .usable) k l))
 
   own-legal : (ps : List Place) → Legal (own s) rs ps → Legal s rs ps
-  own-legal ps = legal-as (s .device) _ (s .usable) rs ps (has-own (s .device) (s .usable))
+  own-legal ps = legal-as (own s) s rs ps refl (has-own (s .device) (s .usable))
 
   first-own : (ps : List Place) → First s rs ps → First (own s) rs ps
   first-own ps f = record { legal = legal-own ps (f .legal); earliest = λ qs l. f .earliest qs (own-legal qs l) }

@@ -31,7 +31,7 @@ set n = record { 0 = n }
 
 -- a row: the device, its usable set, the requests, what is expected
 abbrev row : Device → ℕ → List Request → Option Taken → Try
-row d usable rs plan = record { setup = record { device = d; usable = set usable }; requests = rs; plan = plan }
+row d usable rs plan = record { setup = record { device = d; usable = set usable; fixed = 0 }; requests = rs; plan = plan }
 
 -- Instruction Retired with an allowed set
 abbrev instructions : ℕ → Request
@@ -135,7 +135,7 @@ pub record LeftTry : Type 0 where
 
 -- a row: the device, its usable set, the requests, what is expected
 abbrev leaves : Device → ℕ → List Request → ℕ → LeftTry
-leaves d usable rs sets = record { setup = record { device = d; usable = set usable }; requests = rs; sets = sets }
+leaves d usable rs sets = record { setup = record { device = d; usable = set usable; fixed = 0 }; requests = rs; sets = sets }
 
 -- the table
 unfoldable pub leftTries : List LeftTry

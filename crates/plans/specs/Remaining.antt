@@ -16,7 +16,7 @@ use Rattle.plans.specs.Rows.{setOf, rowsFrom}
 
 -- a setup of the device: where the room is given, the usable set is not looked at
 abbrev pub on : Device → Setup
-on d = record { device = d; usable = setOf 0 }
+on d = record { device = d; usable = setOf 0; fixed = 0 }
 
 -- the first plan of the requests from row `at` to row `count`, in the room
 abbrev pub planFrom : Device → List ℕ → ℕ → ℕ → Room → Option (List Place)

@@ -1,11 +1,24 @@
-// The two values of the global control register: others' bits stay set.
+// The two values of the global control register: others' bits stay set, and the fixed enables stand as the session was opened with them.
 use requests::CounterSet;
 use requests::Setup;
 use requests::devices::all_counters;
+use requests::devices::all_fixed;
 ghost use mathlib.Core.Path.{_≡_};
-ghost use Rattle.layouts.specs.Writes.{firstGlobal, lastGlobal};
+ghost use Rattle.layouts.specs.Writes.{fixedEnables, firstGlobal, lastGlobal};
 
-// The first value: the bits of the unusable counters.
+// The enable of the first fixed counter: bit 32.
+const FIXED_0: u64 = 0x1_0000_0000;
+
+// The enables of the fixed counters.
+fn fixed_enables(setup: Setup) -> u64
+    ensures { λ r. ⌜ r ≡ fixedEnables setup ⌝ }
+{
+    let device = setup.device;
+    let all = all_fixed(device);
+    setup.fixed % (all + 1) * FIXED_0
+}
+
+// The first value: the fixed enables and the bits of the unusable counters.
 pub fn first_global(setup: Setup) -> u64
     ensures { λ r. ⌜ r ≡ firstGlobal setup ⌝ }
 {
@@ -13,7 +26,7 @@ pub fn first_global(setup: Setup) -> u64
     let counters = all_counters(device);
     let all = counters.0;
     let ours = setup.usable.0 % (all + 1);
-    all - ours
+    fixed_enables(setup) + (all - ours)
 }
 
 // The last value: those and the bits of the used ones.

@@ -5,14 +5,14 @@ use Rattle.requests.specs.Bits.{bit, inList, anyBit, onlyBits, typeBits, anyRes
 use Rattle.requests.specs.Catalogue.{allows, eventsOf, codeIn, pairIn, maskNotListed}
 use Rattle.requests.specs.Checks.{kindNotOn, notListed, tooWide, outOfRange, incomplete, conflicting, requestRows}
 use Rattle.requests.specs.Choice.{both, either, every, firstHolding}
-use Rattle.requests.specs.Devices.{has, capacity, counterCount, allCounters, letterOf, devices, named, deviceOf, packetsOn, offcoreOn, pairsJudged, usableSet, setupOf}
+use Rattle.requests.specs.Devices.{has, capacity, counterCount, allCounters, fixedCount, allFixed, letterOf, devices, named, deviceOf, packetsOn, offcoreOn, pairsJudged, usableSet, opens, setupOn, setupOf}
 use Rattle.requests.specs.Refusals.{numberOf, answerFor, answerNumber}
 use Rattle.plans.specs.Legal.{wordsOf, packetsOf, ofAll, counters}
 use Rattle.plans.specs.Places.{countedOf, countersOf, first, second}
 use Rattle.plans.specs.Search.{takeCounter, takeWord, takePacket, placeOf, admit, width, firstFrom, putFirst, thenRest, tryNumber, planIn, firstPlan, hasPlan}
 use Rattle.layouts.specs.Layout.{tabulate, layoutOf, rsp0At, rsp1At, mmCfgAt, matchAt, maskAt, mmEnable, enabled, eventWord, offcoreCode, rspMask, rspWord, packetWord}
 use Rattle.layouts.specs.Settings.{usesOf, wordAt, setFrom, settingsOf}
-use Rattle.layouts.specs.Writes.{rows, zeros, unusable, firstGlobal, lastGlobal, offcoreWrites, packetWrites, filterWrites, writesFor, writes}
+use Rattle.layouts.specs.Writes.{rows, zeros, unusable, fixedAt, fixedEnables, firstGlobal, lastGlobal, offcoreWrites, packetWrites, filterWrites, writesFor, writes}
 use Rattle.sessions.specs.Calls.{waits}
 use Rattle.sessions.specs.Choose.{takenAfter, passedAfter}
 use Rattle.sessions.specs.Completed.{turnIf, turnsBy, turnsOf}
@@ -23,5 +23,5 @@ use Rattle.sessions.specs.Table.{openRows, outsideIds, addRows, dropRows
 use Rattle.sessions.specs.Turns.{requestsOf, fits, taken, passed, turned, placesOf, assign, writesOf}
 
 pub runs-hold : Runs
-unfolding flatMap bit inList anyBit onlyBits typeBits anyResponse answerBits outstanding rsp1Bits rsp0Bits latencyWord allows eventsOf codeIn pairIn maskNotListed kindNotOn notListed tooWide outOfRange incomplete conflicting requestRows both either every firstHolding has capacity counterCount allCounters letterOf devices named deviceOf packetsOn offcoreOn pairsJudged usableSet setupOf numberOf answerFor answerNumber wordsOf packetsOf ofAll counters countedOf countersOf first second takeCounter takeWord takePacket placeOf admit width firstFrom putFirst thenRest tryNumber planIn firstPlan hasPlan tabulate layoutOf rsp0At rsp1At mmCfgAt matchAt maskAt mmEnable enabled eventWord offcoreCode rspMask rspWord packetWord usesOf wordAt setFrom settingsOf rows zeros unusable firstGlobal lastGlobal offcoreWrites packetWrites filterWrites writesFor writes waits takenAfter passedAfter turnIf turnsBy turnsOf removed onQueue change step numbersOf outcomeOf upTo runs queueLimit vacant queued padded sessionOf newSession plainOf refusedBy answered openOf addOf dropOf unassigned turnAnswer turnOf planOf answerTo nextSession sessionAfter openRows outsideIds addRows dropRows turnRows beforeOpen onceOpen table refusal requestsOf fits taken passed turned placesOf assign writesOf
+unfolding flatMap bit inList anyBit onlyBits typeBits anyResponse answerBits outstanding rsp1Bits rsp0Bits latencyWord allows eventsOf codeIn pairIn maskNotListed kindNotOn notListed tooWide outOfRange incomplete conflicting requestRows both either every firstHolding has capacity counterCount allCounters fixedCount allFixed letterOf devices named deviceOf packetsOn offcoreOn pairsJudged usableSet opens setupOn setupOf numberOf answerFor answerNumber wordsOf packetsOf ofAll counters countedOf countersOf first second takeCounter takeWord takePacket placeOf admit width firstFrom putFirst thenRest tryNumber planIn firstPlan hasPlan tabulate layoutOf rsp0At rsp1At mmCfgAt matchAt maskAt mmEnable enabled eventWord offcoreCode rspMask rspWord packetWord usesOf wordAt setFrom settingsOf rows zeros unusable fixedAt fixedEnables firstGlobal lastGlobal offcoreWrites packetWrites filterWrites writesFor writes waits takenAfter passedAfter turnIf turnsBy turnsOf removed onQueue change step numbersOf outcomeOf upTo runs queueLimit vacant queued padded sessionOf newSession plainOf refusedBy answered openOf addOf dropOf unassigned turnAnswer turnOf planOf answerTo nextSession sessionAfter openRows outsideIds addRows dropRows turnRows beforeOpen onceOpen table refusal requestsOf fits taken passed turned placesOf assign writesOf
 runs-hold = refl

@@ -9,9 +9,10 @@ use lib.ListN.{length}
 use Rattle.requests.specs.declared.Setup.{Setup}
 use Rattle.requests.specs.declared.Entry.{Entry}
 use Rattle.requests.specs.Checks.{Formed}
+use Rattle.requests.specs.Devices.{openingOf}
 use Rattle.plans.specs.Lists.{All}
 use Rattle.layouts.proofs.NoReservedBit.{no-reserved-bit}
-use Rattle.layouts.proofs.OthersUntouched.{others-untouched}
+use Rattle.layouts.proofs.OthersUntouched.{others-untouched, fixed-enables}
 use Rattle.layouts.proofs.RestWhileWritten.{rest-while-written}
 use Rattle.layouts.proofs.RoundTrip.{round-trip}
 use Rattle.sessions.specs.Turns.{requestsOf, taken, passed, turned, placesOf, writesOf}
@@ -34,7 +35,7 @@ taken-formed limit s q sound = all-map (λ (e : Entry). e .request) (all-right (
 
 turn-done : (s : Setup) (q : List Entry) (session : Session) (slice : List ℕ) → plainOf session ≡ opened s q → Sound queueLimit s q
     → refusal queueLimit (opened s q) (Turn (length slice)) ≡ none → TurnDone s q session slice
-unfolding writesOf
+unfolding writesOf openingOf
 turn-done s q session slice same sound accepted =
     let first = taken-first s q in
     let formed = taken-formed queueLimit s q sound in
@@ -48,6 +49,7 @@ turn-done s q session slice same sound accepted =
       clean = no-reserved-bit .clean s _ _ formed (first .legal);
       others = others-untouched .kept s _ _ (first .legal);
       enabled = others-untouched .enabled s _ _ (first .legal);
+      fixed = fixed-enables (openingOf s) s (sound .setup) _ _ (first .legal);
       rests = rest-while-written s _ _ (first .legal);
       read = round-trip s _ _ (sound .setup) formed (first .legal);
       next = turn-next-is session s q same (length slice) accepted;

@@ -52,9 +52,13 @@ setOf n = record { 0 = n }
 abbrev gets : ℕ → Place → Assigned
 gets id p = record { id = id; place = p }
 
--- document 01: `open G 15`
+-- the letter of a device, a usable set and fixed enables
+abbrev opening : ℕ → ℕ → ℕ → Call
+opening letter usable fixed = Open (record { device = letter; usable = setOf usable; fixed = fixed })
+
+-- document 01: `open G 15`, with no fixed enables
 abbrev openAll : Call
-openAll = Open (record { device = 71; usable = setOf 15 })
+openAll = opening 71 15 0
 
 -- an instruction count on counter 0 alone
 abbrev pinned : Request
@@ -121,12 +125,14 @@ openOnce =
       calls =
           Turn 36
           ∷ Add 1 pinned
-          ∷ Open (record { device = 71; usable = setOf 16 })
+          ∷ opening 71 16 0
+          ∷ opening 71 15 8
+          ∷ opening 83 15 1
           ∷ openAll
           ∷ openAll
-          ∷ Open (record { device = 0; usable = setOf 0 })
+          ∷ opening 0 0 0
           ∷ [];
-      outcome = record { numbers = some 2 ∷ some 2 ∷ some 3 ∷ none ∷ some 2 ∷ some 2 ∷ []; plans = []; ids = [] };
+      outcome = record { numbers = some 2 ∷ some 2 ∷ some 3 ∷ some 3 ∷ some 3 ∷ none ∷ some 2 ∷ some 2 ∷ []; plans = []; ids = [] };
     }
 
 -- ids: 65535 is one, 65536 and 0 are none; a waiting id is refused, a dropped one may be used again and then stands at the back

@@ -49,7 +49,7 @@ sessionOf t q = record { opened = true; setup = t; queue = padded q; len = lengt
 
 -- the session before open
 unfoldable pub newSession : Session
-newSession = record { opened = false; setup = record { device = G; usable = record { 0 = 0 } }; queue = padded []; len = 0 }
+newSession = record { opened = false; setup = record { device = G; usable = record { 0 = 0 }; fixed = 0 }; queue = padded []; len = 0 }
 
 -- the plain queue that a session stands for
 unfoldable pub plainOf : Session → Plain

@@ -8,7 +8,7 @@ use Rattle.requests.specs.declared.Setup.{Setup}
 use Rattle.requests.specs.declared.Entry.{Entry}
 use Rattle.requests.specs.declared.Answer.the-variants.{Accepted}
 use Rattle.requests.specs.Bits.{bit}
-use Rattle.requests.specs.Devices.{has, counterCount}
+use Rattle.requests.specs.Devices.{has, counterCount, allCounters}
 use Rattle.plans.specs.declared.Place.{Place}
 use Rattle.plans.specs.Lists.{All}
 use Rattle.plans.specs.Order.{First}
@@ -16,6 +16,7 @@ use Rattle.layouts.specs.Layout.{layoutOf}
 use Rattle.layouts.specs.Writes.{writes, filled, apply}
 use Rattle.layouts.specs.NoReservedBit.{Clean}
 use Rattle.layouts.specs.OthersUntouched.{Ours}
+use Rattle.layouts.specs.FixedEnables.{Carries}
 use Rattle.layouts.specs.RestWhileWritten.{Rests}
 use Rattle.layouts.specs.RoundTrip.{ReadBack}
 use Rattle.sessions.specs.Turns.{requestsOf, taken, turned, assign}
@@ -39,6 +40,8 @@ pub record TurnDone (s : Setup) (q : List Entry) (before : Session) (slice : Lis
   pub others : (registers : ℕ → ℕ) (a : ℕ) → ¬ Ours s a → apply (writes s (requestsOf (taken s q)) places) registers a ≡ registers a
   pub enabled : (v k : ℕ) → List·Memᴰ (layoutOf (s .device) .global, v) (writes s (requestsOf (taken s q)) places) → k < counterCount (s .device)
       → has (s .usable) k ≡ false → bit k v ≡ true
+  -- order 2: "every write to 038F carries" the fixed enables of the session
+  pub fixed : (v : ℕ) → List·Memᴰ (layoutOf (s .device) .global, v) (writes s (requestsOf (taken s q)) places) → Carries (s .fixed) (allCounters (s .device)) v
   -- counters rest while their registers are written, and are enabled by the last write
   pub rests : Rests s (requestsOf (taken s q)) (writes s (requestsOf (taken s q)) places)
   -- "applied to any registers and read, give that turn's plan counter by counter"
