@@ -101,7 +101,7 @@ setupOf o =
       | some d ↦ elim (opens d o) [ true ↦ some (setupOn d o) | false ↦ none ]
     ]
 
--- what an accepted open was given, as it was given
+-- the opening that a setup is of: of an accepted open, what it was given, as it was given
 unfoldable pub openingOf : Setup → Opening
 openingOf s = record { device = letterOf (s .device); usable = s .usable; fixed = s .fixed }
 

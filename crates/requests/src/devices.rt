@@ -7,13 +7,13 @@ use crate::Refusal;
 use crate::Setup;
 ghost use mathlib.Core.Path.{_≡_};
 ghost use Rattle.requests.specs.Choice.{pick};
-ghost use Rattle.requests.specs.Devices.{counterCount, allCounters, fixedCount, allFixed, letterOf, packetsOn, offcoreOn, pairsJudged, usableSet, opens, setupOn, setupOf, openedAs};
+ghost use Rattle.requests.specs.Devices.{counterCount, allCounters, fixedCount, allFixed, letterOf, packetsOn, offcoreOn, pairsJudged, usableSet, opens, setupOn, setupOf, openingOf, openedAs};
 
 // The number of counters that arrays have room for.
 pub const CAPACITY: usize = 8;
 
 // All devices.
-const DEVICES: [Device; 2] = [Device::G, Device::S];
+pub const DEVICES: [Device; 2] = [Device::G, Device::S];
 
 // How many counters the device has.
 pub fn counter_count(d: Device) -> u64
@@ -143,4 +143,17 @@ pub fn setup_of(o: Opening) -> Opened
         i += 1;
     }
     Opened::Refused(Refusal::BadOpening)
+}
+
+// The opening that a setup is of: its device by its letter, and the rest as it stands.
+pub fn opening_of(s: Setup) -> Opening
+    ensures { λ r. ⌜ r ≡ openingOf s ⌝ }
+{
+    let device = s.device;
+    let usable = s.usable;
+    Opening {
+        device: letter_of(device),
+        usable: usable,
+        fixed: s.fixed,
+    }
 }

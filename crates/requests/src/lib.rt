@@ -22,7 +22,7 @@ pub struct Opening {
     pub fixed: u64,
 }
 
-// What an accepted open was given.
+// What a session is opened with, its device known by its letter. A session keeps that of its accepted open.
 pub struct Setup {
     pub device: Device,
     pub usable: CounterSet,
