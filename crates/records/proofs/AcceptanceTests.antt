@@ -1,14 +1,14 @@
 -- The examples, by computation: every definition that they reach is unfolded.
 use mathlib.Core.Path.{refl}
 use Rattle.requests.specs.Choice.{both, firstHolding}
-use Rattle.requests.specs.Devices.{letterOf}
+use Rattle.requests.specs.Devices.{letterOf, devices, named, deviceOf}
 use Rattle.records.specs.Examples.{tabbed, Examples}
 use Rattle.records.specs.Fields.{fields, sameBytes}
 use Rattle.records.specs.Numbers.{digitOf, numberFrom, decimalOf, hexOf}
 use Rattle.records.specs.Parse.{longest, tooLong, parseText, isClosed, textLength, parseLine}
 use Rattle.records.specs.Text.{bytes, tab, newline}
-use Rattle.records.specs.Verbs.{openLine, eventLine, packetLine, offcoreLine, latencyLine, dropLine, turnLine, hasVerb, verbs, recordOf}
+use Rattle.records.specs.Verbs.{lineFrom, lettered, openFormats, openOn, openLine, eventLine, packetLine, offcoreLine, latencyLine, dropLine, turnLine, hasVerb, verbs, recordOf}
 
 pub examples-hold : Examples
-unfolding both firstHolding letterOf tabbed fields sameBytes digitOf numberFrom decimalOf hexOf longest tooLong parseText isClosed textLength parseLine bytes tab newline openLine eventLine packetLine offcoreLine latencyLine dropLine turnLine hasVerb verbs recordOf
+unfolding both firstHolding letterOf devices named deviceOf tabbed fields sameBytes digitOf numberFrom decimalOf hexOf longest tooLong parseText isClosed textLength parseLine bytes tab newline lineFrom lettered openFormats openOn openLine eventLine packetLine offcoreLine latencyLine dropLine turnLine hasVerb verbs recordOf
 examples-hold = refl

@@ -8,16 +8,13 @@ use lib.Dec.{eqb}
 use lib.ListN.{length, drop, drop-of-length-le}
 use lib.Seq.{drop-cons}
 use borrow.Author.Tests.{eqb-true}
-use Rattle.requests.specs.declared.Device.{Device}
-use Rattle.requests.specs.declared.Device.the-variants.{G, S}
 use Rattle.requests.specs.Choice.{pick, both}
-use Rattle.requests.specs.Devices.{letterOf}
 use Rattle.requests.proofs.Tests.{both-parts}
 use Rattle.records.specs.Text.{hexText, decimalText}
 use Rattle.records.specs.Records.{Decimal, Hex}
 use Rattle.records.specs.Fields.{fields, fieldAt, sameBytes}
 use Rattle.records.specs.Numbers.{decimalOf, hexOf}
-use Rattle.records.specs.Verbs.{withNumber, withDevice, ended}
+use Rattle.records.specs.Verbs.{withNumber, ended}
 use Rattle.records.specs.declared.Number.{Number}
 use Rattle.records.specs.declared.Number.the-variants.{Value, Bad}
 use Rattle.records.specs.declared.Record.{Record}
@@ -31,36 +28,26 @@ use Rattle.records.proofs.Hexes.{hex-only}
 pub data Format : Type 0 where
   decimal : Format
   hex : ℕ → Format
-  letter : Format
 
--- what it holds
-abbrev pub Held : Format → Type 0
-Held decimal = ℕ
-Held (hex w) = ℕ
-Held letter = Device
-
--- what fits it
-abbrev pub Fit : (f : Format) → Held f → Type 0
+-- what number fits it
+abbrev pub Fit : Format → ℕ → Type 0
 Fit decimal n = Decimal n
 Fit (hex w) n = Hex w n
-Fit letter d = Unit {0}
 
--- its text
-abbrev pub spelled : (f : Format) → Held f → List ℕ
+-- the number's text
+abbrev pub spelled : Format → ℕ → List ℕ
 spelled decimal n = decimalText n
 spelled (hex w) n = hexText w n
-spelled letter d = letterOf d ∷ []
 
 -- what follows it, or the field at fault
-abbrev pub given : (f : Format) → List ℕ → ℕ → (Held f → Parsed) → Parsed
+abbrev pub given : Format → List ℕ → ℕ → (ℕ → Parsed) → Parsed
 given decimal x k next = withNumber (decimalOf x) k next
 given (hex w) x k next = withNumber (hexOf w x) k next
-given letter x k next = withDevice x k next
 
 -- what fields of these formats hold
 abbrev pub Values : List Format → Type 0
 Values [] = Unit {0}
-Values (f ∷ fs) = Held f × Values fs
+Values (f ∷ fs) = ℕ × Values fs
 
 -- all of it fits
 abbrev pub AllFit : (fs : List Format) → Values fs → Type 0
@@ -94,20 +81,9 @@ number-only : (x : Number) (k : ℕ) (next : ℕ → Parsed) (r : Record) → wi
 number-only (Value n) k next r e = (n, refl, e)
 number-only Bad k next r e = absurd (fault-not-line k r e)
 
--- a letter was there
-letter-only : (x : List ℕ) (k : ℕ) (next : Device → Parsed) (r : Record) → withDevice x k next ≡ Line r
-    → (d : Device) × (x ≡ letterOf d ∷ []) × (next d ≡ Line r)
-letter-only x k next r e = go (sameBytes x (letterOf G ∷ [])) refl (sameBytes x (letterOf S ∷ [])) refl e
-  where
-    go : (g : Bool) → sameBytes x (letterOf G ∷ []) ≡ g → (s : Bool) → sameBytes x (letterOf S ∷ []) ≡ s
-        → pick g (next G) (pick s (next S) (Fault k)) ≡ Line r → (d : Device) × (x ≡ letterOf d ∷ []) × (next d ≡ Line r)
-    go true p s q e = (G, same-bytes x (letterOf G ∷ []) p, e)
-    go false p true q e = (S, same-bytes x (letterOf S ∷ []) q, e)
-    go false p false q e = absurd (fault-not-line k r e)
-
 -- a field that is read is the text of what it holds
-given-only : (f : Format) (x : List ℕ) (k : ℕ) (next : Held f → Parsed) (r : Record) → given f x k next ≡ Line r
-    → (v : Held f) × Fit f v × (x ≡ spelled f v) × (next v ≡ Line r)
+given-only : (f : Format) (x : List ℕ) (k : ℕ) (next : ℕ → Parsed) (r : Record) → given f x k next ≡ Line r
+    → (v : ℕ) × Fit f v × (x ≡ spelled f v) × (next v ≡ Line r)
 given-only decimal x k next r e =
     let (n, value, rest) = number-only (decimalOf x) k next r e in
     let told = decimal-only x n value in
@@ -116,7 +92,6 @@ given-only (hex w) x k next r e =
     let (n, value, rest) = number-only (hexOf w x) k next r e in
     let told = hex-only w x n value in
     (n, told .0, told .1, rest)
-given-only letter x k next r e = let (d, is, rest) = letter-only x k next r e in (d, tt, is, rest)
 
 -- nothing follows
 ended-only : (t : List ℕ) (closed : Bool) (n : ℕ) (s r : Record) → ended t closed n s ≡ Line r → (closed ≡ true) × (length (fields t) ≡ n) × (r ≡ s)

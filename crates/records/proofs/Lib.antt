@@ -7,6 +7,7 @@ pub mod Hexes
 pub mod Tabs
 pub mod Closings
 pub mod Formats
+pub mod Letters
 pub mod Texts
 pub mod Reading
 pub mod ReadBack

@@ -15,7 +15,7 @@ use Rattle.requests.specs.declared.Request.the-variants.{Event, Packet, Offcore
 use Rattle.records.specs.Records.{Fits}
 use Rattle.records.specs.Fields.{fields, fieldAt}
 use Rattle.records.specs.Numbers.{numberOf}
-use Rattle.records.specs.Verbs.{setOf, eventLine, packetLine, offcoreLine, latencyLine, Narrow, Made, lineFrom, madeOf, Numbered}
+use Rattle.records.specs.Verbs.{setOf, eventLine, packetLine, offcoreLine, latencyLine, Narrow, Made, lineFrom, numberLine, madeOf, Numbered}
 use Rattle.records.specs.declared.LineNumbers.{LineNumbers}
 use Rattle.records.specs.declared.LineNumbers.the-variants.{Read, Fault}
 use Rattle.records.specs.declared.Number.the-variants.{Value, Bad}
@@ -31,43 +31,44 @@ narrow-at (w ∷ ws) h zero = h .0
 narrow-at (w ∷ ws) h (suc i) = narrow-at ws (h .1) i
 
 -- the first i numbers are read: the line is what they and those that are left make
-pub record ReadTo (ws t : List ℕ) (closed : Bool) (values : List ℕ) (i : ℕ) : Type 0 where
+pub record ReadTo (first : ℕ) (ws t : List ℕ) (closed : Bool) (values : List ℕ) (i : ℕ) : Type 0 where
   pub within : i ≤ length ws
-  pub keeps : (made : Made) → lineFrom ws t closed 0 (0 ∷ 0 ∷ 0 ∷ 0 ∷ []) made ≡ lineFrom (drop i ws) t closed i values made
+  pub keeps : (made : Made) → numberLine first ws t closed made ≡ lineFrom (drop i ws) t closed first i values made
 
-module _ {ws t : List ℕ} {closed : Bool} {values : List ℕ} {i : ℕ} (s : ReadTo ws t closed values i) where
+module _ {first : ℕ} {ws t : List ℕ} {closed : Bool} {values : List ℕ} {i : ℕ} (s : ReadTo first ws t closed values i) where
   -- the next one is read
-  pub number-next : {n : ℕ} → i < length ws → numberOf (getD ws i 0) (fieldAt t (i + 1)) ≡ Value n → ReadTo ws t closed (set values i n) (i + 1)
+  pub number-next : {n : ℕ} → i < length ws → numberOf (getD ws i 0) (fieldAt t (first + i)) ≡ Value n → ReadTo first ws t closed (set values i n) (i + 1)
   unfolding lineFrom
   number-next h e = record { within = omega arith; keeps = λ made. s .keeps made ∙ rw (drop-cons ws i 0 h, e, add-one) }
 
   -- or is none
-  pub number-bad : i < length ws → numberOf (getD ws i 0) (fieldAt t (i + 1)) ≡ Bad → Numbered ws t closed (Fault (i + 1))
+  pub number-bad : i < length ws → numberOf (getD ws i 0) (fieldAt t (first + i)) ≡ Bad → Numbered first ws t closed (Fault (first + i))
   unfolding lineFrom
   number-bad h e = record { tells = λ made. s .keeps made ∙ rw (drop-cons ws i 0 h, e) }
 
   -- all are read
-  pub numbers-end : length ws ≤ i → (whole : Bool) → both closed (eqb (length (fields t)) (length ws + 1)) ≡ whole
-      → Numbered ws t closed (pick whole (Read (getD values 0 0) (getD values 1 0) (getD values 2 0) (getD values 3 0)) (Fault (length ws + 1)))
+  pub numbers-end : length ws ≤ i → (whole : Bool) → both closed (eqb (length (fields t)) (first + length ws)) ≡ whole
+      → Numbered first ws t closed
+      (pick whole (Read (getD values 0 0) (getD values 1 0) (getD values 2 0) (getD values 3 0) (getD values 4 0)) (Fault (first + length ws)))
   unfolding lineFrom
   numbers-end k true e = record { tells = λ made. s .keeps made ∙ rw (le-antisymm (s .within) k, drop-length, e) }
   numbers-end k false e = record { tells = λ made. s .keeps made ∙ rw (le-antisymm (s .within) k, drop-length, e) }
 
 -- each verb is what is made of its numbers
 module _ {t : List ℕ} {closed : Bool} {r : LineNumbers} where
-  pub event-line : Numbered (0 ∷ 2 ∷ 2 ∷ 0 ∷ []) t closed r → eventLine t closed ≡ madeOf r (λ id code mask allowed. Add id (Event code mask (setOf allowed)))
+  pub event-line : Numbered 1 (0 ∷ 2 ∷ 2 ∷ 0 ∷ []) t closed r → eventLine t closed ≡ madeOf r (λ id code mask allowed none. Add id (Event code mask (setOf allowed)))
   unfolding eventLine lineFrom
   event-line n = n .tells _
 
-  pub packet-line : Numbered (0 ∷ 16 ∷ 16 ∷ 0 ∷ []) t closed r → packetLine t closed ≡ madeOf r (λ id value mask allowed. Add id (Packet value mask (setOf allowed)))
+  pub packet-line : Numbered 1 (0 ∷ 16 ∷ 16 ∷ 0 ∷ []) t closed r → packetLine t closed ≡ madeOf r (λ id value mask allowed none. Add id (Packet value mask (setOf allowed)))
   unfolding packetLine lineFrom
   packet-line n = n .tells _
 
-  pub offcore-line : Numbered (0 ∷ 16 ∷ 0 ∷ []) t closed r → offcoreLine t closed ≡ madeOf r (λ id word allowed none. Add id (Offcore word (setOf allowed)))
+  pub offcore-line : Numbered 1 (0 ∷ 16 ∷ 0 ∷ []) t closed r → offcoreLine t closed ≡ madeOf r (λ id word allowed none nor. Add id (Offcore word (setOf allowed)))
   unfolding offcoreLine lineFrom
   offcore-line n = n .tells _
 
-  pub latency-line : Numbered (0 ∷ 4 ∷ 0 ∷ 0 ∷ []) t closed r → latencyLine t closed ≡ madeOf r (λ id types first second. Add id (Latency types (setOf first) (setOf second)))
+  pub latency-line : Numbered 1 (0 ∷ 4 ∷ 0 ∷ 0 ∷ []) t closed r → latencyLine t closed ≡ madeOf r (λ id types first second none. Add id (Latency types (setOf first) (setOf second)))
   unfolding latencyLine lineFrom
   latency-line n = n .tells _
 

@@ -8,18 +8,22 @@ use Prim.Native.String.{String}
 use native.Mathlib.Omega.{arith}
 use lib.ListN.{drop}
 use lib.Seq.{drop-cons}
+use Rattle.requests.specs.declared.Device.{Device}
+use Rattle.requests.specs.declared.Device.the-variants.{G, S}
 use Rattle.requests.specs.declared.Request.the-variants.{Event, Packet, Offcore, Latency}
 use Rattle.requests.specs.Choice.{Row, firstHolding}
+use Rattle.requests.specs.Devices.{letterOf}
 use Rattle.records.specs.Text.{bytes}
-use Rattle.records.specs.Records.{addFields, recordFields, Fits}
+use Rattle.records.specs.Records.{openFields, addFields, recordFields, Fits}
 use Rattle.records.specs.Fields.{fields, fieldAt}
-use Rattle.records.specs.Verbs.{setOf, openLine, eventLine, packetLine, offcoreLine, latencyLine, dropLine, turnLine, hasVerb, verbs, recordOf}
+use Rattle.records.specs.Verbs.{setOf, lineFrom, lettered, openFormats, openWith, openOn, openLine, eventLine, packetLine, offcoreLine, latencyLine, dropLine, turnLine, hasVerb, verbs, recordOf}
 use Rattle.records.specs.declared.Record.{Record}
-use Rattle.records.specs.declared.Record.the-variants.{Open, Add, Drop, Turn}
+use Rattle.records.specs.declared.Record.the-variants.{Add, Drop, Turn}
 use Rattle.records.specs.declared.Parsed.{Parsed}
 use Rattle.records.specs.declared.Parsed.the-variants.{Line, Fault}
 use Rattle.records.proofs.Outcomes.{fault-not-line}
-use Rattle.records.proofs.Formats.{Format, decimal, hex, letter, Values, AllFit, texts, readFrom, Rest, read-only, same-bytes}
+use Rattle.records.proofs.Letters.{lettered-only, device-only}
+use Rattle.records.proofs.Formats.{Format, decimal, hex, Values, AllFit, texts, readFrom, Rest, read-only, same-bytes}
 
 -- what a record tells of the text that gives it
 pub record Told (t : List ℕ) (closed : Bool) (r : Record) : Type 0 where
@@ -42,6 +46,36 @@ module _ (word : String) (fs : List Format) (made : Values fs → Record) (fits 
         parts = parts ∙ sym (same (rest .values)) ∙ ap recordFields (sym (rest .is));
       }
 
+-- an open line does where the fields behind its letter are read by formats
+module _ (d : Device) (fs : List Format) (made : Values fs → Record) (fits : (v : Values fs) → AllFit fs v → Fits (made v))
+    (same : (v : Values fs) → recordFields (made v) ≡ bytes "open" ∷ (letterOf d ∷ []) ∷ texts fs v) where
+  device-tells : (t : List ℕ) → hasVerb t "open" ≡ true → fieldAt t 1 ≡ letterOf d ∷ [] → (closed : Bool) (r : Record)
+      → readFrom fs t closed 2 made ≡ Line r → Told t closed r
+  unfolding hasVerb
+  device-tells t verb letter closed r e =
+      let rest : Rest fs t closed 2 made r = read-only fs t closed 2 made r e in
+      let behind : drop 1 (fields t) ≡ (letterOf d ∷ []) ∷ texts fs (rest .values) =
+      drop-cons (fields t) 1 [] (omega (arith, rest .count)) ∙ ap₂ _∷_ letter (rest .spells) in
+      let first : fieldAt t 0 ≡ bytes "open" = same-bytes (fieldAt t 0) (bytes "open") verb in
+      record {
+        newline-read = rest .newline-read;
+        fits = rw (rest .is) (fits (rest .values) (rest .fit));
+        parts = drop-cons (fields t) 0 [] (omega (arith, rest .count)) ∙ ap₂ _∷_ first behind ∙ sym (same (rest .values)) ∙ ap recordFields (sym (rest .is));
+      }
+
+-- each device's
+open-on-tells : (d : Device) (t : List ℕ) → hasVerb t "open" ≡ true → fieldAt t 1 ≡ letterOf d ∷ [] → (closed : Bool) (r : Record)
+    → openOn t closed d ≡ Line r → Told t closed r
+unfolding openOn openFormats lineFrom recordFields openFields
+open-on-tells G = device-tells G (decimal ∷ decimal ∷ []) (λ v. openWith G (v .0) (v .1 .0) 0 0 0) (λ v h. (h .0, h .1 .0)) (λ v. refl)
+open-on-tells S = device-tells S (decimal ∷ decimal ∷ []) (λ v. openWith S (v .0) (v .1 .0) 0 0 0) (λ v h. (h .0, h .1 .0)) (λ v. refl)
+
+open-tells : (t : List ℕ) → hasVerb t "open" ≡ true → (closed : Bool) (r : Record) → openLine t closed ≡ Line r → Told t closed r
+unfolding openLine
+open-tells t verb closed r e =
+    let (d, letter, rest) = device-only (lettered (fieldAt t 1)) 1 (openOn t closed) r e in
+    open-on-tells d t verb (lettered-only (fieldAt t 1) d letter) closed r rest
+
 -- what every row of a table has that holds
 data Rows {A : Type 0} (P : A → Type 0) : List (Row A) → Type 0 where
   last : Rows P []
@@ -56,9 +90,9 @@ first-row (row {b = false} p ps) a e = first-row ps a e
 
 -- each verb tells so
 verb-rows : (t : List ℕ) → Rows (λ read. (closed : Bool) (r : Record) → read t closed ≡ Line r → Told t closed r) (verbs t)
-unfolding verbs openLine eventLine packetLine offcoreLine latencyLine dropLine turnLine recordFields addFields
+unfolding verbs eventLine packetLine offcoreLine latencyLine dropLine turnLine recordFields addFields
 verb-rows t =
-    row (verb-only "open" (letter ∷ decimal ∷ []) (λ v. Open (v .0) (setOf (v .1 .0))) (λ v h. h .1 .0) (λ v. refl) t)
+    row (open-tells t)
     (row (verb-only "event" (decimal ∷ hex 2 ∷ hex 2 ∷ decimal ∷ [])
     (λ v. Add (v .0) (Event (v .1 .0) (v .1 .1 .0) (setOf (v .1 .1 .1 .0)))) (λ v h. four h) (λ v. refl) t)
     (row (verb-only "packet" (decimal ∷ hex 16 ∷ hex 16 ∷ decimal ∷ [])

@@ -3,26 +3,40 @@ use mathlib.Core.Path.{_≡_, _∙_}
 use mathlib.Core.Bool.{true}
 use mathlib.Core.List.{List}
 use Prim.Native.Nat.{ℕ}
+use Rattle.requests.specs.declared.CounterSet.{CounterSet}
+use Rattle.requests.specs.declared.Device.{Device}
 use Rattle.requests.specs.declared.Device.the-variants.{G, S}
+use Rattle.requests.specs.declared.Setup.{Setup}
 use Rattle.requests.specs.declared.Request.the-variants.{Event, Packet, Offcore, Latency}
 use Rattle.requests.specs.Choice.{firstHolding, both}
-use Rattle.requests.specs.Devices.{letterOf}
 use Rattle.records.specs.Text.{bytes}
-use Rattle.records.specs.Records.{addFields, recordFields, Fits}
+use Rattle.records.specs.Records.{Decimal, OpenFits, openFields, addFields, recordFields, Fits}
 use Rattle.records.specs.Fields.{fields, sameBytes}
-use Rattle.records.specs.Verbs.{openLine, eventLine, packetLine, offcoreLine, latencyLine, dropLine, turnLine, hasVerb, verbs, recordOf}
+use Rattle.records.specs.Verbs.{lineFrom, openFormats, openOn, openLine, eventLine, packetLine, offcoreLine, latencyLine, dropLine, turnLine, hasVerb, verbs, recordOf}
 use Rattle.records.specs.declared.Record.{Record}
 use Rattle.records.specs.declared.Record.the-variants.{Open, Add, Drop, Turn}
 use Rattle.records.specs.declared.Parsed.the-variants.{Line}
 use Rattle.records.proofs.Decimals.{decimal-reads}
 use Rattle.records.proofs.Hexes.{hex-reads}
+use Rattle.records.proofs.Letters.{letter-reads}
 use Rattle.records.proofs.VerbRows.{read-by}
+
+-- the fields behind a device's letter are read back
+device-read : (t : List ℕ) (d : Device) (u : CounterSet) (f : ℕ) → Decimal (u .0) × Decimal f
+    → fields t ≡ openFields (record { device = d; usable = u; fixed = f }) → openOn t true d ≡ Line (Open (record { device = d; usable = u; fixed = f }))
+unfolding openFields openOn openFormats lineFrom both
+device-read t G u f h e = rw (e, decimal-reads (u .0) (h .0), decimal-reads f (h .1))
+device-read t S u f h e = rw (e, decimal-reads (u .0) (h .0), decimal-reads f (h .1))
+
+-- the letter is, too
+open-read : (t : List ℕ) (s : Setup) → OpenFits s → fields t ≡ openFields s → openLine t true ≡ Line (Open s)
+unfolding openFields openLine
+open-read t s h e = rw (e, letter-reads (s .device)) (device-read t (s .device) (s .usable) (s .fixed) h e)
 
 -- a record's fields are read as the record
 pub fields-read : (t : List ℕ) (r : Record) → Fits r → fields t ≡ recordFields r → recordOf t true ≡ Line r
-unfolding verbs hasVerb firstHolding both sameBytes bytes recordFields addFields letterOf openLine eventLine packetLine offcoreLine latencyLine dropLine turnLine
-fields-read t (Open G u) h e = read-by t true openLine (rw e) ∙ rw (e, decimal-reads (u .0) h)
-fields-read t (Open S u) h e = read-by t true openLine (rw e) ∙ rw (e, decimal-reads (u .0) h)
+unfolding verbs hasVerb firstHolding both sameBytes bytes recordFields openFields addFields eventLine packetLine offcoreLine latencyLine dropLine turnLine
+fields-read t (Open s) h e = read-by t true openLine (rw e) ∙ open-read t s h e
 fields-read t (Add id (Event c m a)) h e =
     read-by t true eventLine (rw e) ∙ rw (e, decimal-reads id (h .0), hex-reads 2 c (h .1), hex-reads 2 m (h .2), decimal-reads (a .0) (h .3))
 fields-read t (Add id (Packet x y a)) h e =

@@ -2,19 +2,19 @@
 use mathlib.Core.Path.{_≡_, refl, sym, _∙_}
 use mathlib.Core.Bool.{Bool, true}
 use mathlib.Core.List.{List, [], _∷_, _++_}
-use Prim.Native.Nat.{ℕ, _≤_}
+use Prim.Native.Nat.{ℕ, _<_, _≤_}
 use native.Mathlib.Omega.{arith}
 use lib.ListN.{length}
 use lib.Dec.{leb}
-use borrow.Author.Tests.{leb-true}
+use borrow.Author.Tests.{leb-true, ne-eqb}
 use Rattle.requests.specs.Choice.{both}
+use Rattle.requests.proofs.DeviceNumbers.{numbers}
 use Rattle.requests.proofs.Tests.{both-parts}
 use Rattle.requests.specs.declared.Device.{Device}
-use Rattle.requests.specs.declared.Device.the-variants.{G, S}
 use Rattle.requests.specs.declared.Request.the-variants.{Event, Packet, Offcore, Latency}
 use Rattle.requests.specs.Devices.{letterOf}
 use Rattle.records.specs.Text.{bytes, tab, hexText, decimalText, newline}
-use Rattle.records.specs.Records.{addFields, recordFields, recordText, Decimal, Hex, Fits}
+use Rattle.records.specs.Records.{openFields, addFields, recordFields, recordText, Decimal, Hex, Fits}
 use Rattle.records.specs.Fields.{fields}
 use Rattle.records.specs.declared.Record.{Record}
 use Rattle.records.specs.declared.Record.the-variants.{Open, Add, Drop, Turn}
@@ -36,9 +36,10 @@ hex-plain w n narrow h =
 
 -- a device's letter
 letter-plain : (d : Device) → Plain (letterOf d ∷ [])
-unfolding letterOf oneField both lacks tab newline
-letter-plain G = record { field = refl; short = omega arith }
-letter-plain S = record { field = refl; short = omega arith }
+unfolding oneField both lacks tab newline
+letter-plain d =
+    let printed : 32 < letterOf d = numbers d .letter-printed .0 in
+    record { field = rw (ne-eqb (letterOf d) 9 (λ e. omega arith), ne-eqb (letterOf d) 10 (λ e. omega arith)); short = omega arith }
 
 -- a record's text, of at most 80 bytes before its newline
 pub record TextOf (r : Record) : Type 0 where
@@ -63,8 +64,9 @@ text-of r word fs e small plain =
 
 -- every record has one
 pub record-written : (r : Record) → Fits r → TextOf r
-unfolding recordFields addFields bytes brief oneField lacks tab newline both
-record-written (Open d u) h = text-of _ _ _ refl refl (more (letter-plain d) (more (decimal-plain (u .0) h) none))
+unfolding recordFields openFields addFields bytes brief oneField lacks tab newline both
+record-written (Open s) h =
+    text-of _ _ _ refl refl (more (letter-plain (s .device)) (more (decimal-plain (s .usable .0) (h .0)) (more (decimal-plain (s .fixed) (h .1)) none)))
 record-written (Add id (Event c m a)) h =
     text-of _ _ _ refl refl
     (more (decimal-plain id (h .0)) (more (hex-plain 2 c (omega arith) (h .1)) (more (hex-plain 2 m (omega arith) (h .2)) (more (decimal-plain (a .0) (h .3)) none))))

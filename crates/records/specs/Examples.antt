@@ -32,8 +32,10 @@ set n = record { 0 = n }
 
 abbrev pub examples : List Example
 examples =
-    closed "open G 15" (Line (Open G (set 15)))
-    ∷ closed "open S 14" (Line (Open S (set 14)))
+    closed "open G 15 7" (Line (Open (record { device = G; usable = set 15; fixed = 7 })))
+    ∷ closed "open S 14 0" (Line (Open (record { device = S; usable = set 14; fixed = 0 })))
+    -- numbers that no device opens with: the grammar does not judge them
+    ∷ closed "open S 0 99999" (Line (Open (record { device = S; usable = set 0; fixed = 99999 })))
     ∷ closed "event 1 C0 00 1" (Line (Add 1 (Event 0xC0 0x00 (set 1))))
     ∷ closed "packet 2 00000000000000A5 8000000000000000 8" (Line (Add 2 (Packet 0xA5 0x8000000000000000 (set 8))))
     ∷ closed "offcore 3 0000000000010001 15" (Line (Add 3 (Offcore 0x10001 (set 15))))
@@ -43,13 +45,18 @@ examples =
     -- the number of the field at fault: the verb, a letter, a leading zero, six digits, lower case, a wrong width
     ∷ closed "" (Fault 0)
     ∷ closed "Turn" (Fault 0)
-    ∷ closed "open B 15" (Fault 1)
+    ∷ closed "open B 15 0" (Fault 1)
+    ∷ closed "open GS 15 0" (Fault 1)
+    ∷ closed "open G 15 08" (Fault 3)
+    ∷ closed "open G 15 -1" (Fault 3)
     ∷ closed "drop 01" (Fault 1)
     ∷ closed "drop 123456" (Fault 1)
     ∷ closed "event 1 c0 00 1" (Fault 2)
     ∷ closed "event 1 C0 0 1" (Fault 3)
     -- too few fields, too many, and two tabs
     ∷ closed "event 1 C0" (Fault 3)
+    ∷ closed "open G 15" (Fault 3)
+    ∷ closed "open G 15 0 0" (Fault 4)
     ∷ closed "turn " (Fault 1)
     ∷ closed "drop 1 2" (Fault 2)
     ∷ closed "drop  1" (Fault 1)

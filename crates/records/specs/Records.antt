@@ -1,6 +1,7 @@
 -- Document 01, 'Lines': the records, and the text of each.
 use mathlib.Core.List.{List, [], _∷_}
 use Prim.Native.Nat.{ℕ, _^_, _<_}
+use Rattle.requests.specs.declared.Setup.{Setup}
 use Rattle.requests.specs.declared.Request.{Request}
 use Rattle.requests.specs.declared.Request.the-variants.{Event, Packet, Offcore, Latency}
 use Rattle.requests.specs.Devices.{letterOf}
@@ -15,9 +16,13 @@ addFields id (Packet x y a) = bytes "packet" ∷ decimalText id ∷ hexText 16 x
 addFields id (Offcore w a) = bytes "offcore" ∷ decimalText id ∷ hexText 16 w ∷ decimalText (a .0) ∷ []
 addFields id (Latency t a b) = bytes "latency" ∷ decimalText id ∷ hexText 4 t ∷ decimalText (a .0) ∷ decimalText (b .0) ∷ []
 
+-- the fields of a record that opens
+unfoldable pub openFields : Setup → List (List ℕ)
+openFields s = bytes "open" ∷ (letterOf (s .device) ∷ []) ∷ decimalText (s .usable .0) ∷ decimalText (s .fixed) ∷ []
+
 -- the fields of a record
 unfoldable pub recordFields : Record → List (List ℕ)
-recordFields (Open d u) = bytes "open" ∷ (letterOf d ∷ []) ∷ decimalText (u .0) ∷ []
+recordFields (Open s) = openFields s
 recordFields (Add id r) = addFields id r
 recordFields (Drop id) = bytes "drop" ∷ decimalText id ∷ []
 recordFields Turn = bytes "turn" ∷ []
@@ -41,9 +46,13 @@ AddFits id (Packet x y a) = Decimal id × Hex 16 x × Hex 16 y × Decimal (a .0)
 AddFits id (Offcore w a) = Decimal id × Hex 16 w × Decimal (a .0)
 AddFits id (Latency t a b) = Decimal id × Hex 4 t × Decimal (a .0) × Decimal (b .0)
 
+-- the numbers of a record that opens fit their fields
+abbrev pub OpenFits : Setup → Type 0
+OpenFits s = Decimal (s .usable .0) × Decimal (s .fixed)
+
 -- the numbers of a record fit their fields
 abbrev pub Fits : Record → Type 0
-Fits (Open d u) = Decimal (u .0)
+Fits (Open s) = OpenFits s
 Fits (Add id r) = AddFits id r
 Fits (Drop id) = Decimal id
 Fits Turn = Unit {0}

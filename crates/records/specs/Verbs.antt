@@ -4,7 +4,7 @@ use mathlib.Core.Bool.{Bool}
 use mathlib.Core.List.{List, [], _∷_}
 use Prim.Native.Nat.{ℕ, _+_, _≤_}
 use Prim.Native.String.{String}
-use mathlib.Core.Option.{none, some}
+use mathlib.Core.Option.{Option, none, some}
 use lib.ListN.{length, getD, set}
 use lib.Dec.{eqb}
 use Rattle.requests.specs.declared.Device.{Device}
@@ -12,7 +12,7 @@ use Rattle.requests.specs.declared.Device.the-variants.{G, S}
 use Rattle.requests.specs.declared.CounterSet.{CounterSet}
 use Rattle.requests.specs.declared.Request.the-variants.{Event, Packet, Offcore, Latency}
 use Rattle.requests.specs.Choice.{both, pick, Row, firstHolding}
-use Rattle.requests.specs.Devices.{letterOf}
+use Rattle.requests.specs.Devices.{deviceOf}
 use Rattle.records.specs.Text.{bytes}
 use Rattle.records.specs.Fields.{fields, fieldAt, sameBytes}
 use Rattle.records.specs.Numbers.{decimalOf, hexOf, numberOf}
@@ -38,16 +38,48 @@ ended text closed n r = pick (both closed (eqb (length (fields text)) n)) (Line 
 abbrev pub setOf : ℕ → CounterSet
 setOf n = record { 0 = n }
 
--- what follows a device letter, or the field at fault
-abbrev pub withDevice : List ℕ → ℕ → (Device → Parsed) → Parsed
-withDevice f k next = pick (sameBytes f (letterOf G ∷ [])) (next G) (pick (sameBytes f (letterOf S ∷ [])) (next S) (Fault k))
+-- a record that is made of up to five numbers
+abbrev pub Made : Type 0
+Made = ℕ → ℕ → ℕ → ℕ → ℕ → Record
 
--- `open` G|S usable
+-- the record that is made of i numbers and those of the fields after them, or the field at fault; the first number stands in field `first`
+unfoldable pub lineFrom : List ℕ → List ℕ → Bool → ℕ → ℕ → List ℕ → Made → Parsed
+lineFrom [] t closed first i values made =
+    ended t closed (first + i) (made (getD values 0 0) (getD values 1 0) (getD values 2 0) (getD values 3 0) (getD values 4 0))
+lineFrom (w ∷ ws) t closed first i values made =
+    withNumber (numberOf w (fieldAt t (first + i))) (first + i) (λ n. lineFrom ws t closed first (i + 1) (set values i n) made)
+
+-- the record that is made of fields of these formats from field `first` on, 0 for numbers that they are too few for
+abbrev pub numberLine : ℕ → List ℕ → List ℕ → Bool → Made → Parsed
+numberLine first formats t closed made = lineFrom formats t closed first 0 (0 ∷ 0 ∷ 0 ∷ 0 ∷ 0 ∷ []) made
+
+-- the device whose letter is the field
+unfoldable pub lettered : List ℕ → Option Device
+lettered [] = none
+lettered (letter ∷ []) = deviceOf letter
+lettered (letter ∷ b ∷ more) = none
+
+-- what follows a device, or the field at fault
+abbrev pub withDevice : Option Device → ℕ → (Device → Parsed) → Parsed
+withDevice (some d) k next = next d
+withDevice none k next = Fault k
+
+-- the formats of the fields behind a device's letter, all decimals: usable, fixed
+unfoldable pub openFormats : Device → List ℕ
+openFormats G = 0 ∷ 0 ∷ []
+openFormats S = 0 ∷ 0 ∷ []
+
+-- the record that a device and the numbers behind its letter make
+abbrev pub openWith : Device → Made
+openWith d usable fixed a b c = Open (record { device = d; usable = setOf usable; fixed = fixed })
+
+-- `open` with a device that is known
+unfoldable pub openOn : List ℕ → Bool → Device → Parsed
+openOn t closed d = numberLine 2 (openFormats d) t closed (openWith d)
+
+-- `open` letter usable fixed
 unfoldable pub openLine : List ℕ → Bool → Parsed
-openLine t closed =
-    withDevice (fieldAt t 1) 1 (λ device.
-    withNumber (decimalOf (fieldAt t 2)) 2 (λ usable.
-    ended t closed 3 (Open device (setOf usable))))
+openLine t closed = withDevice (lettered (fieldAt t 1)) 1 (openOn t closed)
 
 -- `event` id code(2) mask(2) allowed
 unfoldable pub eventLine : List ℕ → Bool → Parsed
@@ -117,21 +149,11 @@ abbrev pub Narrow : List ℕ → Type 0
 Narrow [] = Unit {0}
 Narrow (w ∷ ws) = (w ≤ 16) × Narrow ws
 
--- a record that is made of up to four numbers
-abbrev pub Made : Type 0
-Made = ℕ → ℕ → ℕ → ℕ → Record
-
--- the record that is made of i numbers and those of the fields after them, or the field at fault
-unfoldable pub lineFrom : List ℕ → List ℕ → Bool → ℕ → List ℕ → Made → Parsed
-lineFrom [] t closed i values made = ended t closed (i + 1) (made (getD values 0 0) (getD values 1 0) (getD values 2 0) (getD values 3 0))
-lineFrom (w ∷ ws) t closed i values made =
-    withNumber (numberOf w (fieldAt t (i + 1))) (i + 1) (λ n. lineFrom ws t closed (i + 1) (set values i n) made)
-
 -- the record that is made of a line's numbers, or the field at fault
 abbrev pub madeOf : LineNumbers → Made → Parsed
-madeOf (numbers.Read a b c d) made = Line (made a b c d)
+madeOf (numbers.Read a b c d e) made = Line (made a b c d e)
 madeOf (numbers.Fault k) made = Fault k
 
 -- they are the numbers of the line, whatever is made of them
-pub record Numbered (formats text : List ℕ) (closed : Bool) (r : LineNumbers) : Type 0 where
-  pub tells : (made : Made) → lineFrom formats text closed 0 (0 ∷ 0 ∷ 0 ∷ 0 ∷ []) made ≡ madeOf r made
+pub record Numbered (first : ℕ) (formats text : List ℕ) (closed : Bool) (r : LineNumbers) : Type 0 where
+  pub tells : (made : Made) → numberLine first formats text closed made ≡ madeOf r made

@@ -1,7 +1,6 @@
 // Records: what a line of text asks for.
-use requests::CounterSet;
-use requests::Device;
 use requests::Request;
+use requests::Setup;
 
 mod fields;
 mod numbers;
@@ -9,9 +8,9 @@ pub mod parse;
 mod verbs;
 pub mod words;
 
-// What a line asks for.
+// What a line asks for. What it opens with is not judged yet.
 pub enum Record {
-    Open { device: Device, usable: CounterSet },
+    Open(Setup),
     Add { id: u64, request: Request },
     Drop { id: u64 },
     Turn,
@@ -31,7 +30,7 @@ pub enum Number {
 
 // The numbers of a line, 0 for those that it does not have; or the first field at fault. Inside the parser too.
 enum LineNumbers {
-    Read(u64, u64, u64, u64),
+    Read(u64, u64, u64, u64, u64),
     Fault(usize),
 }
 

@@ -9,15 +9,19 @@ use crate::fields::number_at;
 use requests::CounterSet;
 use requests::Device;
 use requests::Request;
+use requests::Setup;
+use requests::devices::DEVICES;
+use requests::devices::letter_of;
 ghost use mathlib.Core.Path.{_≡_};
-ghost use Prim.Native.Nat.{_≤_};
+ghost use mathlib.Core.List.{[], _∷_};
+ghost use Prim.Native.Nat.{_+_, _≤_};
 ghost use lib.Dec.{eqb};
 ghost use lib.ListN.{length};
 ghost use Rattle.requests.specs.Choice.{both, pick};
-ghost use Rattle.records.specs.Fields.{fieldAt};
-ghost use Rattle.records.specs.Numbers.{decimalOf};
+ghost use Rattle.requests.specs.Devices.{letterOf};
+ghost use Rattle.records.specs.Fields.{fieldAt, sameBytes};
 ghost use Rattle.records.specs.Parts.{Parted};
-ghost use Rattle.records.specs.Verbs.{withNumber, ended, setOf, Narrow, Numbered, openLine, eventLine, packetLine, offcoreLine, latencyLine, dropLine, turnLine, recordOf};
+ghost use Rattle.records.specs.Verbs.{Narrow, Numbered, openFormats, openOn, openLine, eventLine, packetLine, offcoreLine, latencyLine, dropLine, turnLine, recordOf};
 
 // The format of a decimal; that of a hex number is how many digits it has.
 const DECIMAL: usize = 0;
@@ -42,54 +46,85 @@ fn ended(count: usize, closed: bool, n: usize, asked: Record) -> Parsed
     Parsed::Fault(n)
 }
 
-// `open` with a device that is known.
-fn open_on(text: &[u8], parts: Parts, closed: bool, device: Device) -> Parsed
-    requires { ⌜ Parted (now text) parts ⌝ }
-    ensures { λ r. ⌜ r ≡ withNumber (decimalOf (fieldAt (now (text .entry)) 2)) 2 (λ usable. ended (now (text .entry)) closed 3 (Record.Open device (setOf usable))) ⌝ }
+// The numbers of a line that has fields of these formats from field `first` on, and no others behind them.
+fn numbers_of(
+    text: &[u8],
+    parts: Parts,
+    closed: bool,
+    first: usize,
+    formats: &[usize],
+) -> LineNumbers
+    requires { ⌜ Parted (now text) parts × (first + length (now formats) ≤ 8) × (length (now formats) ≤ 5) × Narrow (now formats) ⌝ }
+    ensures { λ r. ⌜ Numbered first (now (formats .entry)) (now (text .entry)) closed r ⌝ }
 {
-    let Number::Value(usable) = number_at(text, parts, 2, DECIMAL) else {
-        return Parsed::Fault(2);
-    };
-    let asked = Record::Open {
-        device,
-        usable: CounterSet(usable),
-    };
-    ended(parts.count, closed, 3, asked)
-}
-
-// `open` G|S usable
-fn open_line(text: &[u8], parts: Parts, closed: bool) -> Parsed
-    requires { ⌜ Parted (now text) parts ⌝ }
-    ensures { λ r. ⌜ r ≡ openLine (now (text .entry)) closed ⌝ }
-{
-    if is_word(text, parts, 1, b"G") {
-        return open_on(text, parts, closed, Device::G);
-    }
-    if is_word(text, parts, 1, b"S") {
-        return open_on(text, parts, closed, Device::S);
-    }
-    Parsed::Fault(1)
-}
-
-// The numbers of a line that has fields of these formats after the verb, and no others.
-fn numbers_of(text: &[u8], parts: Parts, closed: bool, formats: &[usize]) -> LineNumbers
-    requires { ⌜ Parted (now text) parts × (length (now formats) ≤ 4) × Narrow (now formats) ⌝ }
-    ensures { λ r. ⌜ Numbered (now (formats .entry)) (now (text .entry)) closed r ⌝ }
-{
-    let mut values: [u64; 4] = [0; 4];
+    let mut values: [u64; 5] = [0; 5];
     let mut i = 0;
     while i < formats.len() {
-        let Number::Value(value) = number_at(text, parts, i + 1, formats[i]) else {
-            return LineNumbers::Fault(i + 1);
+        let Number::Value(value) = number_at(text, parts, first + i, formats[i]) else {
+            return LineNumbers::Fault(first + i);
         };
         values[i] = value;
         i += 1;
     }
-    let n = formats.len() + 1;
+    let n = first + formats.len();
     if is_whole(parts.count, closed, n) {
-        return LineNumbers::Read(values[0], values[1], values[2], values[3]);
+        return LineNumbers::Read(values[0], values[1], values[2], values[3], values[4]);
     }
     LineNumbers::Fault(n)
+}
+
+// The numbers behind a device's letter.
+fn open_numbers(text: &[u8], parts: Parts, closed: bool, device: Device) -> LineNumbers
+    requires { ⌜ Parted (now text) parts ⌝ }
+    ensures { λ r. ⌜ Numbered 2 (openFormats device) (now (text .entry)) closed r ⌝ }
+{
+    match device {
+        Device::G => numbers_of(text, parts, closed, 2, &[DECIMAL, DECIMAL]),
+        Device::S => numbers_of(text, parts, closed, 2, &[DECIMAL, DECIMAL]),
+    }
+}
+
+// `open` with a device that is known.
+fn open_on(text: &[u8], parts: Parts, closed: bool, device: Device) -> Parsed
+    requires { ⌜ Parted (now text) parts ⌝ }
+    ensures { λ r. ⌜ r ≡ openOn (now (text .entry)) closed device ⌝ }
+{
+    match open_numbers(text, parts, closed, device) {
+        LineNumbers::Fault(k) => Parsed::Fault(k),
+        LineNumbers::Read(usable, fixed, _, _, _) => {
+            let setup = Setup {
+                device,
+                usable: CounterSet(usable),
+                fixed,
+            };
+            Parsed::Line(Record::Open(setup))
+        }
+    }
+}
+
+// Whether field 1 is the letter of the device.
+fn is_letter(text: &[u8], parts: Parts, device: Device) -> bool
+    requires { ⌜ Parted (now text) parts ⌝ }
+    ensures { λ r. ⌜ r ≡ sameBytes (fieldAt (now (text .entry)) 1) (letterOf device ∷ []) ⌝ }
+{
+    let letter = letter_of(device) as u8;
+    is_word(text, parts, 1, &[letter])
+}
+
+// `open` letter usable fixed
+fn open_line(text: &[u8], parts: Parts, closed: bool) -> Parsed
+    requires { ⌜ Parted (now text) parts ⌝ }
+    ensures { λ r. ⌜ r ≡ openLine (now (text .entry)) closed ⌝ }
+{
+    let mut i = 0;
+    while i < DEVICES.len() {
+        let device = DEVICES[i];
+        if is_letter(text, parts, device) {
+            return open_on(text, parts, closed, device);
+        }
+        i += 1;
+    }
+    Parsed::Fault(1)
 }
 
 // `event` id code(2) mask(2) allowed
@@ -97,9 +132,9 @@ fn event_line(text: &[u8], parts: Parts, closed: bool) -> Parsed
     requires { ⌜ Parted (now text) parts ⌝ }
     ensures { λ r. ⌜ r ≡ eventLine (now (text .entry)) closed ⌝ }
 {
-    match numbers_of(text, parts, closed, &[DECIMAL, 2, 2, DECIMAL]) {
+    match numbers_of(text, parts, closed, 1, &[DECIMAL, 2, 2, DECIMAL]) {
         LineNumbers::Fault(k) => Parsed::Fault(k),
-        LineNumbers::Read(id, code, mask, allowed) => {
+        LineNumbers::Read(id, code, mask, allowed, _) => {
             let request = Request::Event {
                 code: code as u8,
                 mask: mask as u8,
@@ -115,9 +150,9 @@ fn packet_line(text: &[u8], parts: Parts, closed: bool) -> Parsed
     requires { ⌜ Parted (now text) parts ⌝ }
     ensures { λ r. ⌜ r ≡ packetLine (now (text .entry)) closed ⌝ }
 {
-    match numbers_of(text, parts, closed, &[DECIMAL, 16, 16, DECIMAL]) {
+    match numbers_of(text, parts, closed, 1, &[DECIMAL, 16, 16, DECIMAL]) {
         LineNumbers::Fault(k) => Parsed::Fault(k),
-        LineNumbers::Read(id, match_word, mask_word, allowed) => {
+        LineNumbers::Read(id, match_word, mask_word, allowed, _) => {
             let request = Request::Packet {
                 match_word,
                 mask_word,
@@ -133,9 +168,9 @@ fn offcore_line(text: &[u8], parts: Parts, closed: bool) -> Parsed
     requires { ⌜ Parted (now text) parts ⌝ }
     ensures { λ r. ⌜ r ≡ offcoreLine (now (text .entry)) closed ⌝ }
 {
-    match numbers_of(text, parts, closed, &[DECIMAL, 16, DECIMAL]) {
+    match numbers_of(text, parts, closed, 1, &[DECIMAL, 16, DECIMAL]) {
         LineNumbers::Fault(k) => Parsed::Fault(k),
-        LineNumbers::Read(id, word, allowed, _) => {
+        LineNumbers::Read(id, word, allowed, _, _) => {
             let request = Request::Offcore {
                 word,
                 allowed: CounterSet(allowed),
@@ -150,9 +185,9 @@ fn latency_line(text: &[u8], parts: Parts, closed: bool) -> Parsed
     requires { ⌜ Parted (now text) parts ⌝ }
     ensures { λ r. ⌜ r ≡ latencyLine (now (text .entry)) closed ⌝ }
 {
-    match numbers_of(text, parts, closed, &[DECIMAL, 4, DECIMAL, DECIMAL]) {
+    match numbers_of(text, parts, closed, 1, &[DECIMAL, 4, DECIMAL, DECIMAL]) {
         LineNumbers::Fault(k) => Parsed::Fault(k),
-        LineNumbers::Read(id, types, first, second) => {
+        LineNumbers::Read(id, types, first, second, _) => {
             let request = Request::Latency {
                 types: types as u16,
                 first: CounterSet(first),

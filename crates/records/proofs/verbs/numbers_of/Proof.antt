@@ -12,15 +12,15 @@ use Rattle.records.proofs.verbs.numbers_of.Statement.{statement}
 use Rattle.records.proofs.verbs.numbers_of.Tie as tie
 
 abbrev Inv-loop : tie.InvT-loop
-Inv-loop text parts closed formats values₀ i₀ values i = ReadTo formats text closed values i
+Inv-loop text parts closed first formats values₀ i₀ values i = ReadTo first formats text closed values i
 
 abbrev μ-loop : tie.MeasureT-loop
-μ-loop text parts closed formats values₀ i₀ values i = length formats - i
+μ-loop text parts closed first formats values₀ i₀ values i = length formats - i
 
 number-at-requires : tie.Need-number-at-requires Inv-loop μ-loop
 number-at-requires c κs =
     let s = c .before .before .before .before .before in
-    (search needs, s .pre .0, narrow-at (now (s .args .formats)) (s .pre .2) (c .before .before .loop .i))
+    (search needs, s .pre .0, narrow-at (now (s .args .formats)) (s .pre .3) (c .before .before .loop .i))
 
 returns : tie.Need-returns Inv-loop μ-loop
 returns c =
@@ -62,6 +62,7 @@ numbers-of-spec =
     loop-again
     (λ c. omega arith)
     (λ c κs. search needs)
+    (λ c. search needs)
     (λ c. search needs)
     (λ c. search needs)
     (λ c. search needs)

@@ -1,0 +1,27 @@
+-- `open_numbers` meets its contract, by the formats of each device.
+-- Assumes nothing.
+use borrow.Author.Needs.{needs}
+use Rattle.records.specs.Verbs.{openFormats}
+use Rattle.records.proofs.verbs.open_numbers.Statement.{statement}
+use Rattle.records.proofs.verbs.open_numbers.Tie as tie
+
+returns : tie.Need-returns
+unfolding openFormats
+returns c = rw (c .before .before .enum-told .given .1) (c .numbers-of .ensures)
+
+returns-2 : tie.Need-returns-2
+unfolding openFormats
+returns-2 c = rw (c .before .before .enum-told2 .given .1) (c .numbers-of2 .ensures)
+
+pub open-numbers-spec : {M : Type 1} → statement M
+open-numbers-spec =
+    tie.close
+    (tie.spec
+    (λ c. search needs)
+    (λ c. search needs)
+    (λ c κs. search needs)
+    (λ c. search needs)
+    (λ c. search needs)
+    (λ c κs. search needs)
+    returns
+    returns-2)
