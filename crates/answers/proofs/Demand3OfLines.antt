@@ -132,14 +132,14 @@ turn-found (c ∷ cs) p s same n t m =
 
 drop-only : (r : Record) (id : ℕ) → callOf r ≡ calls.Drop id → r ≡ Drop id
 unfolding callOf
-drop-only (Open d u) id e = let z : _≡_ {A = ℕ} 0 1 = cc in absurd (omega arith)
+drop-only (Open given) id e = let z : _≡_ {A = ℕ} 0 1 = cc in absurd (omega arith)
 drop-only (Add i r) id e = let z : _≡_ {A = ℕ} 0 1 = cc in absurd (omega arith)
 drop-only (Drop i) id e = let is : i ≡ id = cc in ap Drop is
 drop-only Turn id e = let z : _≡_ {A = ℕ} 0 1 = cc in absurd (omega arith)
 
 turn-only : (r : Record) (room : ℕ) → callOf r ≡ calls.Turn room → r ≡ Turn
 unfolding callOf
-turn-only (Open d u) room e = let z : _≡_ {A = ℕ} 0 1 = cc in absurd (omega arith)
+turn-only (Open given) room e = let z : _≡_ {A = ℕ} 0 1 = cc in absurd (omega arith)
 turn-only (Add i r) room e = let z : _≡_ {A = ℕ} 0 1 = cc in absurd (omega arith)
 turn-only (Drop i) room e = let z : _≡_ {A = ℕ} 0 1 = cc in absurd (omega arith)
 turn-only Turn room e = refl

@@ -121,7 +121,7 @@ CallFits (calls.Turn room) = Unit {0}
 
 call-fits : (r : Record) → Fits r → CallFits (callOf r)
 unfolding callOf
-call-fits (Open d u) h = tt
+call-fits (Open given) h = tt
 call-fits (Add id r) h = h
 call-fits (Drop id) h = tt
 call-fits Turn h = tt

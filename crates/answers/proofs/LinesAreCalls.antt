@@ -5,7 +5,7 @@ use mathlib.Core.List.{List, [], _∷_, _++_, flatMap}
 use mathlib.Core.Option.{some}
 use Prim.Native.Nat.{ℕ, _*_}
 use lib.ListN.{take, replicate}
-use Rattle.requests.specs.Devices.{letterOf}
+use Rattle.requests.specs.Devices.{openingOf}
 use Rattle.requests.specs.Refusals.{answerNumber}
 use Rattle.sessions.specs.declared.Session.{Session}
 use Rattle.sessions.specs.Sessions.{openOf, addOf, dropOf, turnOf, turnSlice, planOf, answerTo, nextSession}
@@ -19,7 +19,7 @@ use Rattle.answers.proofs.TurnsSaid.{turn-said}
 
 left : (s : Session) (r : Record) → recordReply s r .session ≡ nextSession s (callOf r)
 unfolding recordReply replyOf turnReply nextSession callOf
-left s (Open d u) = refl
+left s (Open given) = refl
 left s (Add id r) = refl
 left s (Drop id) = refl
 left s Turn = refl
@@ -30,14 +30,14 @@ told s = flatMap takeLines (planOf (turnOf s turnRoom)) ++ setLines (take (2 * t
 
 answers-last : (s : Session) (r : Record) → (before : List ℕ) × (recordReply s r .text ≡ before ++ answerText (answerTo s (callOf r)))
 unfolding recordReply replyOf turnReply answerTo callOf told
-answers-last s (Open d u) = ([], refl)
+answers-last s (Open given) = ([], refl)
 answers-last s (Add id r) = ([], refl)
 answers-last s (Drop id) = ([], refl)
 answers-last s Turn = (told s, refl)
 
 answered-alone : (s : Session) (r : Record) → r ≢ Turn → replySays (recordReply s r .text) ≡ some (Answers (answerNumber (answerTo s (callOf r))) ∷ [])
 unfolding recordReply replyOf answerTo callOf
-answered-alone s (Open d u) h = answer-reads (openOf s (record { device = letterOf d; usable = u }) .answer) .says
+answered-alone s (Open given) h = answer-reads (openOf s (openingOf given) .answer) .says
 answered-alone s (Add id r) h = answer-reads (addOf s id r .answer) .says
 answered-alone s (Drop id) h = answer-reads (dropOf s id .answer) .says
 answered-alone s Turn h = absurd (h refl)

@@ -79,7 +79,7 @@ module _ (start : Session) (closed : start .opened ≡ false) (lines : List (Lis
   record-refused : (r : Record) → Fits r → (x : Refusal) → refusal queueLimit queue (callOf r) ≡ some x
       → replySays (replyAfter start lines (recordText r)) ≡ some (Answers (some (numberOf x)) ∷ [])
   unfolding answerFor answerNumber callOf
-  record-refused (Open d u) h x e = answer-alone (Open d u) h (λ n. let z : _≡_ {A = ℕ} 0 1 = cc in omega arith) (some x) e
+  record-refused (Open given) h x e = answer-alone (Open given) h (λ n. let z : _≡_ {A = ℕ} 0 1 = cc in omega arith) (some x) e
   record-refused (Add id r) h x e = answer-alone (Add id r) h (λ n. let z : _≡_ {A = ℕ} 0 1 = cc in omega arith) (some x) e
   record-refused (Drop id) h x e = answer-alone (Drop id) h (λ n. let z : _≡_ {A = ℕ} 0 1 = cc in omega arith) (some x) e
   record-refused Turn h x e = turn-refused x e

@@ -9,7 +9,7 @@ use Rattle.requests.specs.declared.Refusal.the-variants.{NotInGrammar, CallOrde
 use Rattle.requests.specs.declared.Answer.{Answer}
 use Rattle.requests.specs.declared.Answer.the-variants.{Accepted, Refused}
 use Rattle.requests.specs.Refusals.{numberOf, answerFor}
-use Rattle.requests.specs.Devices.{letterOf}
+use Rattle.requests.specs.Devices.{openingOf}
 use Rattle.sessions.specs.Sessions.{openOf, addOf, dropOf, turnOf, turnSlice, planOf}
 use Rattle.sessions.specs.declared.Session.{Session}
 use Rattle.sessions.specs.declared.TurnAnswered.{TurnAnswered}
@@ -66,7 +66,7 @@ turn-text a slice e = ends-fourteen (flatMap takeLines (planOf a) ++ setLines (t
 
 record-text : (s : Session) (r : Record) → ¬ (recordReply s r .text ≡ fourteen)
 unfolding recordReply replyOf
-record-text s (Open d u) e = open-fits s (record { device = letterOf d; usable = u }) (ends-fourteen [] (openOf s (record { device = letterOf d; usable = u }) .answer) e)
+record-text s (Open given) e = open-fits s (openingOf given) (ends-fourteen [] (openOf s (openingOf given) .answer) e)
 record-text s (Add id r) e = add-fits s id r (ends-fourteen [] (addOf s id r .answer) e)
 record-text s (Drop id) e = drop-fits s id (ends-fourteen [] (dropOf s id .answer) e)
 record-text s Turn e = turn-fits s (turn-text (turnOf s turnRoom) (turnSlice s (replicate turnRoom 0)) e)

@@ -50,7 +50,7 @@ answer-alone a = record { details = []; number = answerNumber a; says = answer-r
 
 one-reply : (s : Session) → Askable (waiting (plainOf s)) → (p : Parsed) → OneReply (parsedReply s p .text)
 unfolding parsedReply recordReply replyOf
-one-reply s askable (Line (Open d u)) = answer-alone _
+one-reply s askable (Line (Open given)) = answer-alone _
 one-reply s askable (Line (Add id r)) = answer-alone _
 one-reply s askable (Line (Drop id)) = answer-alone _
 one-reply s askable (Line Turn) =

@@ -3,7 +3,7 @@ use mathlib.Core.List.{List}
 use Prim.Native.Nat.{ℕ, _*_, _≤_}
 use native.Mathlib.Omega.{arith}
 use lib.ListN.{length, take, replicate, length-append, length-take}
-use Rattle.requests.specs.Devices.{letterOf}
+use Rattle.requests.specs.Devices.{openingOf}
 use Rattle.sessions.specs.Sessions.{openOf, addOf, dropOf, turnOf, turnSlice, planOf}
 use Rattle.sessions.specs.declared.Session.{Session}
 use Rattle.sessions.specs.declared.TurnAnswered.{TurnAnswered}
@@ -37,7 +37,7 @@ turn-short a slice few room =
 
 record-short : (s : Session) (r : Record) → length (recordReply s r .text) ≤ replyRoom
 unfolding recordReply replyOf
-record-short s (Open d u) = answer-short (openOf s (record { device = letterOf d; usable = u }) .answer)
+record-short s (Open given) = answer-short (openOf s (openingOf given) .answer)
 record-short s (Add id r) = answer-short (addOf s id r .answer)
 record-short s (Drop id) = answer-short (dropOf s id .answer)
 record-short s Turn = let l = turn-at-most s turnRoom in turn-short (turnOf s turnRoom) (turnSlice s (replicate turnRoom 0)) (l .plan) (l .writes)

@@ -15,17 +15,18 @@ use Rattle.requests.specs.declared.Request.{Request}
 use Rattle.requests.specs.declared.Request.the-variants.{Event, Packet, Offcore, Latency}
 use Rattle.requests.specs.Choice.{pick}
 use Rattle.requests.specs.Bits.{anyResponse, outstanding, latencyWord}
-use Rattle.requests.specs.Devices.{capacity, counterCount, allCounters}
+use Rattle.requests.specs.Devices.{capacity, counterCount, allCounters, fixedCount}
 use Rattle.plans.specs.declared.Place.{Place}
 use Rattle.plans.specs.declared.Place.the-variants.{Counter, WithRsp, Pair}
 use Rattle.plans.specs.Lists.{All, nil, cons}
 use Rattle.plans.specs.Places.{second}
 use Rattle.plans.specs.Legal.{wordsOf, packetsOf, ofAll}
+use Rattle.requests.proofs.DeviceNumbers.{numbers}
 use Rattle.plans.proofs.Sets.{all-append}
 use Rattle.plans.proofs.PlanLengthHolds.{plan-length}
 use Rattle.layouts.specs.Layout.{tabulate, rsp0At, rsp1At, mmCfgAt, matchAt, maskAt, mmEnable, eventWord, offcoreCode, rspMask, rspWord, packetWord}
 use Rattle.layouts.specs.Settings.{usesOf, wordAt, headOr, nonempty, settingsOf}
-use Rattle.layouts.specs.Writes.{Write, unusable, firstGlobal, lastGlobal, offcoreWrites, packetWrites, filterWrites, writes}
+use Rattle.layouts.specs.Writes.{Write, unusable, fixedAt, fixedEnables, firstGlobal, lastGlobal, offcoreWrites, packetWrites, filterWrites, writes}
 use Rattle.layouts.proofs.ListLaws.{all-head}
 use Rattle.layouts.proofs.Tabulated.{getD-tabulate}
 use Rattle.layouts.proofs.DeviceFacts.{in-room}
@@ -120,13 +121,15 @@ packets-fit (cons {a = r} h hs) = all-append (packet-fits r h) (packets-fit hs)
 zero-fits : Hex 16 0
 zero-fits = omega arith
 
--- the values of the global register have bits of the device's counters alone
+-- the values of the global register have bits of the device's counters and fixed counters alone
 last-fits : (s : Setup) (used : ℕ) → Hex 16 (lastGlobal s used)
-unfolding lastGlobal firstGlobal unusable allCounters capacity
+unfolding lastGlobal firstGlobal fixedEnables fixedAt unusable allCounters capacity
 last-fits s used =
     let small : 2 ^ counterCount (s .device) ≤ 2 ^ 8 = pow-mono (plan-length .device-at-most (s .device)) in
     let some : 1 ≤ 2 ^ counterCount (s .device) = pow-mono {i = 0} (omega arith) in
-    omega (arith, mod-lt used {m = 2 ^ counterCount (s .device)} some)
+    let few : 2 ^ fixedCount (s .device) ≤ 2 ^ 3 = pow-mono (numbers (s .device) .fixed-few) in
+    let one : 1 ≤ 2 ^ fixedCount (s .device) = pow-mono {i = 0} (omega arith) in
+    omega (arith, mod-lt used {m = 2 ^ counterCount (s .device)} some, mod-lt (s .fixed) {m = 2 ^ fixedCount (s .device)} one)
 
 first-fits : (s : Setup) → Hex 16 (firstGlobal s)
 unfolding lastGlobal

@@ -6,7 +6,7 @@ use mathlib.Core.Option.{some}
 use Prim.Native.Nat.{ℕ, _*_}
 use lib.ListN.{take, replicate}
 use Rattle.requests.specs.declared.Entry.{Entry}
-use Rattle.requests.specs.Devices.{letterOf}
+use Rattle.requests.specs.Devices.{openingOf}
 use Rattle.requests.specs.Refusals.{answerNumber}
 use Rattle.plans.specs.Lists.{All}
 use Rattle.plans.specs.Places.{Counted, countedOf}
@@ -25,7 +25,7 @@ use Rattle.answers.specs.Reader.{Said, Takes, Sets, Answers, replySays}
 
 -- the call that a record makes
 unfoldable pub callOf : Record → Call
-callOf (Open d u) = Rattle.sessions.specs.Calls.Open (record { device = letterOf d; usable = u })
+callOf (Open s) = Rattle.sessions.specs.Calls.Open (openingOf s)
 callOf (Add id r) = Rattle.sessions.specs.Calls.Add id r
 callOf (Drop id) = Rattle.sessions.specs.Calls.Drop id
 callOf Turn = Rattle.sessions.specs.Calls.Turn turnRoom

@@ -6,7 +6,7 @@ use lib.ListN.{take, replicate}
 use Rattle.requests.specs.declared.Answer.{Answer}
 use Rattle.requests.specs.declared.Answer.the-variants.{Accepted, Refused}
 use Rattle.requests.specs.Refusals.{numberOf, answerFor}
-use Rattle.requests.specs.Devices.{letterOf}
+use Rattle.requests.specs.Devices.{openingOf}
 use Rattle.plans.specs.Places.{Counted, countedOf}
 use Rattle.sessions.specs.declared.Session.{Session}
 use Rattle.sessions.specs.declared.Answered.{Answered}
@@ -60,7 +60,7 @@ turnReply a slice =
 
 -- the reply to a record
 unfoldable pub recordReply : Session → Record → Reply
-recordReply s (Open d u) = replyOf (openOf s (record { device = letterOf d; usable = u }))
+recordReply s (Open given) = replyOf (openOf s (openingOf given))
 recordReply s (Add id r) = replyOf (addOf s id r)
 recordReply s (Drop id) = replyOf (dropOf s id)
 recordReply s Turn = turnReply (turnOf s turnRoom) (turnSlice s (replicate turnRoom 0))

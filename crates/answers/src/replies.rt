@@ -10,9 +10,8 @@ use planner::turn::turn;
 use records::Parsed;
 use records::Record;
 use requests::Answer;
-use requests::Opening;
 use requests::Refusal;
-use requests::devices::letter_of;
+use requests::devices::opening_of;
 use sessions::Answered;
 use sessions::Session;
 ghost use mathlib.Core.Path.{_≡_};
@@ -68,14 +67,7 @@ fn record_reply(session: Session, asked: Record, out: &mut [u8]) -> Replied
     ensures { λ r. ⌜ Delivered (recordReply session asked) (now (out .entry)) (now (out .exit)) r ⌝ }
 {
     match asked {
-        Record::Open { device, usable } => {
-            let letter = letter_of(device);
-            let opening = Opening {
-                device: letter,
-                usable: usable,
-            };
-            call_reply(open(session, opening), out)
-        }
+        Record::Open(setup) => call_reply(open(session, opening_of(setup)), out),
         Record::Add { id, request } => call_reply(add(session, id, request), out),
         Record::Drop { id } => call_reply(drop_request(session, id), out),
         Record::Turn => turn_reply(session, out),

@@ -7,8 +7,8 @@ use Rattle.answers.proofs.replies.record_reply.Tie as tie
 enum-known-asked : tie.Need-enum-known-asked
 enum-known-asked c = search needs
 
-letter-of-requires : tie.Need-letter-of-requires
-letter-of-requires c κs = search needs
+opening-of-requires : tie.Need-opening-of-requires
+opening-of-requires c κs = search needs
 
 open-requires : tie.Need-open-requires
 open-requires c κs = search needs
@@ -45,7 +45,7 @@ same-length c = search needs
 
 returns : tie.Need-returns
 unfolding recordReply
-returns c = rw (c .before .before .before .before .before .before .before .asked .given .1, ← c .before .before .before .before .before .letter-of .ensures, ← c .before .before .before .before .«open» .ensures) (c .before .before .call-reply .ensures)
+returns c = rw (c .before .before .before .before .before .before .before .asked .given .1, ← c .before .before .before .before .before .opening-of .ensures, ← c .before .before .before .before .«open» .ensures) (c .before .before .call-reply .ensures)
 
 same-length-2 : tie.Need-same-length-2
 same-length-2 c = search needs
@@ -73,7 +73,7 @@ record-reply-spec =
     tie.close
     (tie.spec
     enum-known-asked
-    letter-of-requires
+    opening-of-requires
     open-requires
     call-reply-requires
     enum-known-asked-2
