@@ -10,9 +10,9 @@ use Rattle.plans.specs.Places.{first, second}
 use Rattle.plans.specs.Rows.{setOf}
 use Rattle.plans.specs.Found.{nothing}
 
--- device G with the usable set of a number
+-- device G with the usable set of a number, its fixed counters off
 abbrev pub setupFor : ℕ → Setup
-setupFor usable = record { device = G; usable = setOf usable }
+setupFor usable = record { device = G; usable = setOf usable; fixed = 0 }
 
 -- the two numbers of a place, as digits to the base 8
 unfoldable pub digitsOf : Place → ℕ

@@ -43,6 +43,7 @@ pub extern "C" fn rattle_first_plan(
     let setup = Setup {
         device: Device::G,
         usable: CounterSet(usable),
+        fixed: 0,
     };
     let requests = [
         request_at(rows, 0),
@@ -73,6 +74,7 @@ pub extern "C" fn rattle_plan_rows(usable: u64, rows: &[u64; ROW_NUMBERS], count
     let setup = Setup {
         device: Device::G,
         usable: CounterSet(usable),
+        fixed: 0,
     };
     plan_rows(setup, rows, count)
 }

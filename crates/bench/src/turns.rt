@@ -14,8 +14,8 @@ ghost use mathlib.Core.Path.{_≡_};
 ghost use Prim.Native.Nat.{_≤_};
 ghost use lib.ListN.{length};
 
-// The calls, as a record of six numbers begins with them. Then follow the device and the usable set, or the id and a request's four
-// numbers, or the length of the slice that a turn is lent.
+// The calls, as a record of six numbers begins with them. Then follow the device, the usable set and the fixed enables, or the id and a
+// request's four numbers, or the length of the slice that a turn is lent.
 const OPEN: u64 = 0;
 
 const ADD: u64 = 1;
@@ -103,6 +103,7 @@ fn called(
         let opening = Opening {
             device: id,
             usable: CounterSet(kind),
+            fixed: a,
         };
         let answered = open(session, opening);
         let answer = answered.answer;
@@ -158,12 +159,13 @@ pub extern "C" fn rattle_calls(calls: &[u64], answers: &mut [u64]) -> usize {
     i
 }
 
-// Opens a session, adds the requests of the rows, and makes as many turns. It answers the number of writes of the last one.
+// Opens a session with the fixed counters off, adds the requests of the rows, and makes as many turns. It answers the number of writes of the last one.
 #[no_mangle]
 pub extern "C" fn rattle_turns(device: u64, usable: u64, rows: &[u64], turns: usize) -> usize {
     let opening = Opening {
         device: device,
         usable: CounterSet(usable),
+        fixed: 0,
     };
     let opened = open(new_session(), opening);
     let mut session = opened.session;

@@ -19,10 +19,12 @@ pub fn event(code: u8, mask: u8, allowed: u64) -> Request {
     }
 }
 
+// The opening of a device with its fixed counters off.
 pub fn opening(device: u64, usable: u64) -> Opening {
     Opening {
         device: device,
         usable: CounterSet(usable),
+        fixed: 0,
     }
 }
 

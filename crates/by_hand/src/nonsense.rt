@@ -16,7 +16,7 @@ use sessions::Session;
 
 const ALL: u64 = 0xFFFF_FFFF_FFFF_FFFF;
 
-// Requests of other devices, ill-formed, under equal ids and the id 0, and a length past the array.
+// A setup that no open takes; requests of other devices, ill-formed, under equal ids and the id 0; and a length past the array.
 fn nonsense() -> Session {
     let word = Request::Offcore {
         word: ALL,
@@ -44,6 +44,7 @@ fn nonsense() -> Session {
     let setup = Setup {
         device: Device::S,
         usable: CounterSet(ALL),
+        fixed: ALL,
     };
     Session {
         opened: true,

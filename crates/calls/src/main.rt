@@ -4,6 +4,7 @@ mod answers;
 mod asked;
 mod formats;
 mod numbers;
+mod opening;
 mod output;
 mod reading;
 mod script;

@@ -1,5 +1,6 @@
 // The reader's call.
 use crate::answers::answer;
+use crate::opening::opening;
 use crate::output::decimal;
 use crate::output::hex;
 use crate::output::text;
@@ -10,8 +11,6 @@ use layouts::Reading;
 use layouts::RegisterValues;
 use registers::reader::read;
 use requests::Answer;
-use requests::CounterSet;
-use requests::Opening;
 
 // A counter that counts an event: the event, or its filter register with the words.
 fn counted(code: u8, mask: u8, filter: FilterRead) {
@@ -85,11 +84,7 @@ fn values(numbers: [u64; 20]) -> RegisterValues {
 
 // Reads the registers, and prints what is told of each of the device's counters.
 pub fn reading(numbers: [u64; 20]) {
-    let opening = Opening {
-        device: numbers[1],
-        usable: CounterSet(numbers[2]),
-    };
-    let told = read(opening, values(numbers));
+    let told = read(opening(numbers), values(numbers));
     let answered = told.answer;
     answer(answered);
     match answered {

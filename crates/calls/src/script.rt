@@ -3,6 +3,7 @@ use crate::asked::Asked;
 use crate::asked::add_numbers;
 use crate::asked::request_of;
 use crate::formats::numbers_in;
+use crate::opening::opening;
 use crate::output::KEPT;
 use crate::output::text;
 use crate::reading::reading;
@@ -16,8 +17,6 @@ use planner::drop::drop_request;
 use planner::open::new_session;
 use planner::open::open;
 use records::words::same;
-use requests::CounterSet;
-use requests::Opening;
 use sessions::Session;
 ghost use Prim.Native.Nat.{_≤_};
 ghost use lib.ListN.{length};
@@ -32,11 +31,7 @@ pub fn unknown(session: Session) -> Session {
 }
 
 fn open_call(session: Session, at: [u64; 20]) -> Session {
-    let opening = Opening {
-        device: at[1],
-        usable: CounterSet(at[2]),
-    };
-    answered(open(session, opening))
+    answered(open(session, opening(at)))
 }
 
 fn add_call(session: Session, line: &[u8], words: Words) -> Session {
@@ -83,12 +78,12 @@ fn call(session: Session, line: &[u8], words: Words) -> Session {
     if same(verb, b"turn") && one.fits {
         return turn_call(session, at[1]);
     }
-    let opening = numbers_in(line, words, b"vld000-");
-    if same(verb, b"open") && opening.fits {
-        let given = opening.at;
+    let numbers = numbers_in(line, words, b"vldd00-");
+    if same(verb, b"open") && numbers.fits {
+        let given = numbers.at;
         return open_call(session, given);
     }
-    let values = numbers_in(line, words, b"vld000-xxxxxxxxxx00");
+    let values = numbers_in(line, words, b"vldd00-xxxxxxxxxx00");
     if same(verb, b"read") && values.fits {
         let given = values.at;
         return read_call(session, given);

@@ -6,9 +6,8 @@ use crate::values::looked_at;
 use layouts::Reading;
 use registers::reader::read;
 use requests::Answer;
-use requests::Opening;
 use requests::Setup;
-use requests::devices::letter_of;
+use requests::devices::opening_of;
 use requests::refusals::number_of;
 ghost use Prim.Native.Nat.{_<_, _≤_};
 
@@ -29,13 +28,7 @@ const NOT_ACCEPTED: u64 = 15;
 
 // What the reader tells of the values.
 pub fn reading(setup: Setup, values: [u64; 10]) -> Reading {
-    let device = setup.device;
-    let usable = setup.usable;
-    let opening = Opening {
-        device: letter_of(device),
-        usable: usable,
-    };
-    read(opening, given(values))
+    read(opening_of(setup), given(values))
 }
 
 // What comes of a value that is looked at.

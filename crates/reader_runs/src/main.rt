@@ -13,10 +13,29 @@ use crate::asked::latency;
 use crate::asked::offcore;
 use crate::asked::packet;
 use crate::run::run;
+use requests::CounterSet;
 use requests::Device;
+use requests::Setup;
+
+// Device G with a usable set and the enables of its fixed counters.
+fn g(usable: u64, fixed: u64) -> Setup {
+    Setup {
+        device: Device::G,
+        usable: CounterSet(usable),
+        fixed: fixed,
+    }
+}
+
+// Device S with a usable set.
+fn s(usable: u64) -> Setup {
+    Setup {
+        device: Device::S,
+        usable: CounterSet(usable),
+        fixed: 0,
+    }
+}
 
 fn on_g() {
-    let g = Device::G;
     let halted = event(0x3C, 0x00);
     let retired = event(0xC0, 0x00);
     let events = four(
@@ -29,16 +48,18 @@ fn on_g() {
     let pairs = four(latency(0x8001), latency(0x8001), halted, halted);
     let words = four(offcore(0x12_0000_0002), offcore(0x1_0002), halted, halted);
     let hits = four(offcore(0x4_0001), offcore(0x2_0004_0001), halted, halted);
-    run(g, 15, events, 0);
-    run(g, 15, events, 4);
-    run(g, 15, shared, 2);
-    run(g, 15, pairs, 2);
-    run(g, 14, words, 3);
-    run(g, 15, hits, 3);
+    run(g(15, 0), events, 0);
+    run(g(15, 0), events, 4);
+    run(g(15, 0), shared, 2);
+    run(g(15, 0), pairs, 2);
+    run(g(14, 0), words, 3);
+    run(g(15, 0), hits, 3);
+    run(g(15, 5), events, 0);
+    run(g(15, 5), events, 4);
+    run(g(14, 7), words, 3);
 }
 
 fn on_s() {
-    let s = Device::S;
     let bypass = event(0x51, 0x03);
     let events = four(
         event(0x51, 0x01),
@@ -48,10 +69,10 @@ fn on_s() {
     );
     let packets = four(packet(), packet(), bypass, bypass);
     let one = four(packet(), bypass, bypass, bypass);
-    run(s, 9, events, 0);
-    run(s, 15, events, 4);
-    run(s, 15, packets, 3);
-    run(s, 14, one, 2);
+    run(s(9), events, 0);
+    run(s(15), events, 4);
+    run(s(15), packets, 3);
+    run(s(14), one, 2);
 }
 
 fn main() {

@@ -3,6 +3,7 @@ use layouts::CounterState;
 use layouts::FilterRead;
 use layouts::Reading;
 use requests::Device;
+use requests::Setup;
 
 // Standard output.
 const OUT: i32 = 1;
@@ -21,10 +22,23 @@ fn hex_field(n: u64, width: usize) {
     io::print_hex(OUT, n, width);
 }
 
-pub fn device(d: Device) {
+fn device(d: Device) {
     match d {
         Device::G => text(b"G"),
         Device::S => text(b"S"),
+    }
+}
+
+// What a plan is for; fixed counters are told where they are on.
+pub fn setup(s: Setup) {
+    let on = s.device;
+    let usable = s.usable;
+    device(on);
+    text(b" ");
+    decimal(usable.0);
+    if s.fixed != 0 {
+        text(b" fixed ");
+        decimal(s.fixed);
     }
 }
 

@@ -7,8 +7,6 @@ use layouts::WriteAnswer;
 use plans::first_plan::first_plan;
 use registers::plan_settings::settings_of;
 use registers::writer::write_list;
-use requests::CounterSet;
-use requests::Device;
 use requests::Request;
 use requests::Setup;
 
@@ -40,17 +38,11 @@ fn one_bit_changed(setup: Setup, values: [u64; 10], told: Reading) {
 }
 
 // The first plan of the first `count` requests, written, read, and read with one bit changed.
-pub fn run(device: Device, usable: u64, requests: [Request; 8], count: usize) {
-    let setup = Setup {
-        device: device,
-        usable: CounterSet(usable),
-    };
+pub fn run(setup: Setup, requests: [Request; 8], count: usize) {
     let mut list: [u64; 36] = [0; 36];
     let writes = planned(setup, requests, count, &mut list);
     let values = after(&list, writes);
-    print::device(device);
-    print::text(b" ");
-    print::decimal(usable);
+    print::setup(setup);
     print::text(b" writes ");
     print::decimal(writes as u64);
     print::text(b"\n");
