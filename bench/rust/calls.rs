@@ -3,6 +3,7 @@
 
 mod planner;
 
+use planner::devices::Opening;
 use planner::model::reader::{read, Registers, State};
 use planner::model::Session;
 use planner::requests::{Place, Request};
@@ -14,22 +15,36 @@ const LONGEST_SLICE: u64 = 8192;
 const LONGEST_LINE: usize = 4096;
 
 fn decimal(word: &str) -> Option<u64> {
-    if word.bytes().all(|b| b.is_ascii_digit()) { word.parse().ok() } else { None }
+    if word.bytes().all(|b| b.is_ascii_digit()) {
+        word.parse().ok()
+    } else {
+        None
+    }
 }
 
 fn hex(word: &str) -> Option<u64> {
     let digits = word.bytes().all(|b| b.is_ascii_digit() || (b'A'..=b'F').contains(&b));
-    if digits && (1..=16).contains(&word.len()) { u64::from_str_radix(word, 16).ok() } else { None }
+    if digits && (1..=16).contains(&word.len()) {
+        u64::from_str_radix(word, 16).ok()
+    } else {
+        None
+    }
 }
 
 fn letter(word: &str) -> Option<u64> {
-    if word.len() == 1 { Some(word.as_bytes()[0] as u64) } else { None }
+    if word.len() == 1 {
+        Some(word.as_bytes()[0] as u64)
+    } else {
+        None
+    }
 }
 
-/// Device and usable set, where the arguments that no order has given a meaning are 0 and `-`.
-fn opening(words: &[&str]) -> Option<(u64, u64)> {
+/// Device, usable set and fixed enables, where the arguments that no order has given a meaning are 0 and `-`.
+fn opening(words: &[&str]) -> Option<Opening> {
     match words {
-        [device, usable, "0", "0", "0", "-"] => Some((letter(device)?, decimal(usable)?)),
+        [device, usable, fixed, "0", "0", "-"] => {
+            Some(Opening { letter: letter(device)?, usable: decimal(usable)?, fixed: decimal(fixed)? })
+        }
         _ => None,
     }
 }
@@ -64,7 +79,11 @@ fn queue(s: &Session) -> String {
 fn slice(name: &str, numbers: &[u64]) -> String {
     let end = numbers.iter().rposition(|&n| n != KEPT).map_or(0, |last| last + 1);
     let text = numbers[..end].iter().fold(name.into(), |text: String, n| format!("{text} {n:X}"));
-    if end < numbers.len() { format!("{text} kept*{}", numbers.len() - end) } else { text }
+    if end < numbers.len() {
+        format!("{text} kept*{}", numbers.len() - end)
+    } else {
+        text
+    }
 }
 
 fn takes(turn: &Turn) -> String {
@@ -101,7 +120,7 @@ fn told(state: State) -> String {
 }
 
 fn reading(words: &[&str]) -> Option<String> {
-    let (device, usable) = opening(words.get(..6)?)?;
+    let opening = opening(words.get(..6)?)?;
     let (values, rest) = words[6..].split_at_checked(10)?;
     let v: Vec<u64> = values.iter().map(|word| hex(word)).collect::<Option<_>>()?;
     if rest != ["0", "0"] {
@@ -109,15 +128,8 @@ fn reading(words: &[&str]) -> Option<String> {
     }
     let mut control = [0; PLACES];
     control[..6].copy_from_slice(&v[..6]);
-    let registers = Registers {
-        control,
-        rsp: [v[6], v[7]],
-        mm_cfg: v[6],
-        match_word: v[7],
-        mask_word: v[8],
-        global: v[9],
-    };
-    Some(match read(device, usable, &registers) {
+    let registers = Registers { control, rsp: [v[6], v[7]], mm_cfg: v[6], match_word: v[7], mask_word: v[8], global: v[9] };
+    Some(match read(opening, &registers) {
         Err(number) => format!("no {number}"),
         Ok(states) => states.into_iter().fold("ok".into(), |text, state| format!("{text} {}", told(state))),
     })
@@ -131,10 +143,7 @@ fn call(s: &mut Session, words: &[&str]) -> Option<String> {
         }
         ["turn", length] => return turn(s, decimal(length)?),
         ["read", rest @ ..] => return reading(rest),
-        ["open", rest @ ..] => {
-            let (device, usable) = opening(rest)?;
-            s.open(device, usable)
-        }
+        ["open", rest @ ..] => s.open(opening(rest)?),
         ["add", id, rest @ ..] => s.add(decimal(id)?, request(rest)?),
         ["drop", id] => s.drop(decimal(id)?),
         _ => return None,

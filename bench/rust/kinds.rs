@@ -18,7 +18,7 @@ pub struct Turned {
 
 type Test = fn(&Turned) -> bool;
 
-pub const KINDS: [(&str, Test); 9] = [
+pub const KINDS: [(&str, Test); 10] = [
     ("the queue is full", |turned| turned.queue.len() == LIMIT),
     ("one is taken behind one passed over", Turned::skips),
     ("first fit without going back gets stuck", Turned::first_fit_stuck),
@@ -28,6 +28,7 @@ pub const KINDS: [(&str, Test); 9] = [
     ("offcore makes room for a latency behind it", Turned::offcore_in_second),
     ("two offcore words", |turned| turned.registers() == [true; 2] && turned.takes(is_latency) == 0),
     ("two requests on one filter register", Turned::shares),
+    ("fixed counters are on", |turned| turned.setup.fixed != 0),
 ];
 
 fn is_latency(request: &Request) -> bool {

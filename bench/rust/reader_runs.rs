@@ -3,7 +3,7 @@
 
 mod planner;
 
-use planner::devices::{Device, Filters, Setup};
+use planner::devices::{Device, Filters, Opening, Setup};
 use planner::model::plan::first_plan;
 use planner::model::reader::{read, Registers, State};
 use planner::model::writes::{list_of, Write};
@@ -82,18 +82,27 @@ fn flipped(device: &Device, r: &Registers, address: u64, bit: u64) -> Registers 
     changed
 }
 
-fn run(letter: u64, usable: u64, requests: &[Request]) {
-    let setup = Setup::of(letter, usable).unwrap();
+/// What the plan was opened with; fixed counters are told where they are on.
+fn print_opening(setup: Setup, writes: usize) {
+    print!("{} {}", setup.device.letter as char, setup.usable);
+    if setup.fixed != 0 {
+        print!(" fixed {}", setup.fixed);
+    }
+    println!(" writes {writes}");
+}
+
+fn run(opening: Opening, requests: &[Request]) {
+    let setup = Setup::of(opening).unwrap();
     let plan = first_plan(setup, requests).unwrap();
     let writes = list_of(setup, requests, &plan);
     let r = applied(setup.device, &writes);
-    println!("{} {usable} writes {}", setup.device.letter as char, writes.len());
-    let told = read(letter, usable, &r).unwrap();
+    print_opening(setup, writes.len());
+    let told = read(opening, &r).unwrap();
     for (k, state) in told.iter().enumerate() {
         print_state(k, *state);
     }
     let (yes, no) = looked_at(setup, &r);
-    let answer = |address, bit| read(letter, usable, &flipped(setup.device, &r, address, bit));
+    let answer = |address, bit| read(opening, &flipped(setup.device, &r, address, bit));
     let (mut accepted, mut refused, mut same) = (0, 0, 0);
     for bit in 0..64 {
         for &address in &yes {
@@ -110,19 +119,38 @@ fn run(letter: u64, usable: u64, requests: &[Request]) {
     println!("one bit changed: accepted {accepted}, refused {refused}; where not looked at: the same {same} of {}", 64 * no.len());
 }
 
-fn main() {
-    let event = |code, mask| Request::Event { code, mask, allowed: 15 };
+fn event(code: u8, mask: u8) -> Request {
+    Request::Event { code, mask, allowed: 15 }
+}
+
+fn on_g() {
+    let g = |usable, fixed| Opening { letter: 71, usable, fixed };
     let offcore = |word| Request::Offcore { word, allowed: 15 };
     let latency = |types| Request::Latency { types, first: 15, second: 15 };
+    let events = [event(0xC0, 0), event(0x3C, 1), event(0x2E, 0x41), event(0xC5, 0)];
+    let words = [offcore(0x1200000002), offcore(0x10002), event(0x3C, 0)];
+    let hits = [offcore(0x40001), offcore(0x200040001), event(0x3C, 0)];
+    run(g(15, 0), &[]);
+    run(g(15, 0), &events);
+    run(g(15, 0), &[offcore(0x10001), latency(1)]);
+    run(g(15, 0), &[latency(0x8001), latency(0x8001)]);
+    run(g(14, 0), &words);
+    run(g(15, 0), &hits);
+    run(g(15, 5), &[]);
+    run(g(15, 5), &events);
+    run(g(14, 7), &words);
+}
+
+fn on_s() {
+    let s = |usable| Opening { letter: 83, usable, fixed: 0 };
     let packet = Request::Packet { match_word: 0x0123456789ABCDEF, mask_word: 0x00000000FFFFFFFF, allowed: 15 };
-    run(71, 15, &[]);
-    run(71, 15, &[event(0xC0, 0), event(0x3C, 1), event(0x2E, 0x41), event(0xC5, 0)]);
-    run(71, 15, &[offcore(0x10001), latency(1)]);
-    run(71, 15, &[latency(0x8001), latency(0x8001)]);
-    run(71, 14, &[offcore(0x1200000002), offcore(0x10002), event(0x3C, 0)]);
-    run(71, 15, &[offcore(0x40001), offcore(0x200040001), event(0x3C, 0)]);
-    run(83, 9, &[]);
-    run(83, 15, &[event(0x51, 1), event(0x31, 2), event(0x52, 0), event(0x2F, 0)]);
-    run(83, 15, &[packet, packet, event(0x51, 3)]);
-    run(83, 14, &[packet, event(0x51, 3)]);
+    run(s(9), &[]);
+    run(s(15), &[event(0x51, 1), event(0x31, 2), event(0x52, 0), event(0x2F, 0)]);
+    run(s(15), &[packet, packet, event(0x51, 3)]);
+    run(s(14), &[packet, event(0x51, 3)]);
+}
+
+fn main() {
+    on_g();
+    on_s();
 }

@@ -2,6 +2,7 @@
 
 use crate::cases::Case;
 use crate::numbers::Numbers;
+use crate::planner::devices::Opening;
 use crate::planner::fast::session::Session;
 use crate::planner::requests::Request;
 use crate::planner::{model, Calls, Turn, LIST};
@@ -14,7 +15,8 @@ const CALLS_IN_A_LIST: usize = 60;
 const ROUNDS: usize = 2_000;
 const TURNS: usize = 200;
 
-/// The numbers of a call, and of its answer: the refusal or 0, the number taken, the number of writes, the slice.
+/// The numbers of a call (an open has 0, the device, the usable set and the fixed enables), and of its answer: the
+/// refusal or 0, the number taken, the number of writes, the slice.
 const CALL: usize = 6;
 const ANSWER: usize = 3 + LIST;
 
@@ -36,7 +38,7 @@ mod proved {
 /// One call, with its answer in the same numbers as the proved planner's.
 fn called(session: &mut impl Calls, call: &[u64], answer: &mut [u64]) {
     let outcome = match call[0] {
-        0 => session.open(call[1], call[2]),
+        0 => session.open(Opening { letter: call[1], usable: call[2], fixed: call[3] }),
         1 => session.add(call[1], to_request(&call[2..])),
         2 => session.drop(call[1]),
         _ => session.turn(&mut answer[3..3 + LIST.min(call[1] as usize)]).map(|turn| {
@@ -89,7 +91,7 @@ fn likely_request(numbers: &mut Numbers) -> Request {
 fn call(numbers: &mut Numbers, place: usize) -> [u64; CALL] {
     let verb = if place == 0 { 0 } else { numbers.pick(&[0, 1, 1, 1, 1, 1, 2, 3, 3, 3, 3]) };
     match verb {
-        0 => [0, numbers.pick(&[71, 83, 72]), numbers.below(17), 0, 0, 0],
+        0 => [0, numbers.pick(&[71, 83, 72]), numbers.below(17), numbers.pick(&[0, 0, 0, 1, 5, 7, 8]), 0, 0],
         1 => {
             let row = to_row(likely_request(numbers));
             [1, numbers.below(24), row[0], row[1], row[2], row[3]]
@@ -122,7 +124,7 @@ fn turn(session: &mut Session, list: &mut [u64]) -> Result<Turn, u64> {
 /// The writes of the last of the turns, as the proved side makes them.
 fn rust_turns(letter: u64, usable: u64, rows: &[u64], turns: usize) -> usize {
     let mut session = Session::new();
-    session.open(letter, usable).unwrap();
+    session.open(Opening { letter, usable, fixed: 0 }).unwrap();
     for (i, row) in rows.chunks(4).enumerate() {
         session.add(i as u64 + 1, to_request(row)).unwrap();
     }

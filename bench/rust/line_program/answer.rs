@@ -104,7 +104,7 @@ fn put_hex(digits: &mut [u8], number: u64) {
 pub fn answer(session: &mut impl Calls, line: &[u8], out: &mut Output) {
     let outcome = match call_of(line) {
         None => Err(1),
-        Some(Call::Open { device, usable }) => session.open(device, usable),
+        Some(Call::Open(opening)) => session.open(opening),
         Some(Call::Add { id, request }) => session.add(id, request),
         Some(Call::Drop { id }) => session.drop(id),
         Some(Call::Turn) => {

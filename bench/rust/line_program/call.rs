@@ -1,6 +1,7 @@
-//! The grammar of document 01, 'Lines': a line without its newline becomes a call, or nothing.
+//! The grammar of document 01, 'Lines', with the fields that the orders add to `open`: a line without its newline becomes a
+//! call, or nothing.
 
-use crate::planner::devices::Device;
+use crate::planner::devices::{Device, Opening};
 use crate::planner::requests::Request;
 
 /// The most bytes of a line, without its newline.
@@ -10,7 +11,7 @@ const DECIMAL_DIGITS: usize = 5;
 
 #[derive(Clone, Copy, PartialEq, Eq, Debug)]
 pub enum Call {
-    Open { device: u64, usable: u64 },
+    Open(Opening),
     Add { id: u64, request: Request },
     Drop { id: u64 },
     Turn,
@@ -87,6 +88,11 @@ fn device_of(field: &[u8]) -> Option<u64> {
     }
 }
 
+fn opening(fields: &mut Fields) -> Option<Opening> {
+    let letter = device_of(fields.next()?)?;
+    Some(Opening { letter, usable: fields.decimal()?, fixed: fields.decimal()? })
+}
+
 fn event(fields: &mut Fields) -> Option<Request> {
     let (code, mask) = (fields.hex(2)? as u8, fields.hex(2)? as u8);
     Some(Request::Event { code, mask, allowed: fields.decimal()? })
@@ -114,7 +120,7 @@ pub fn call_of(line: &[u8]) -> Option<Call> {
     }
     let mut fields = Fields { rest: Some(line) };
     let call = match fields.next()? {
-        b"open" => Call::Open { device: device_of(fields.next()?)?, usable: fields.decimal()? },
+        b"open" => Call::Open(opening(&mut fields)?),
         b"event" => Call::Add { id: fields.decimal()?, request: event(&mut fields)? },
         b"packet" => Call::Add { id: fields.decimal()?, request: packet(&mut fields)? },
         b"offcore" => Call::Add { id: fields.decimal()?, request: offcore(&mut fields)? },

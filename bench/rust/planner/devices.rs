@@ -25,6 +25,8 @@ pub struct Device {
     /// The bits of every event word that let it count.
     pub enable: u64,
     pub filters: Filters,
+    /// The highest number for the enables of its fixed counters; 0 where it has none.
+    pub fixed: u64,
     pub addresses: Addresses,
     /// Each row: a code, and the lowest and the highest unit mask listed for it. A code may have several rows.
     pub events: &'static [(u8, u8, u8)],
@@ -38,6 +40,7 @@ pub static DEVICES: [Device; 2] = [
         counters: 4,
         enable: 0x430000,
         filters: Filters::OffcoreResponse,
+        fixed: 7,
         addresses: Addresses { global: 0x38F, control: 0x186, counter: 0xC1, step: 1 },
         events: &[(0x3C, 0, 0), (0xC0, 0, 0), (0x3C, 1, 1), (0x2E, 0x4F, 0x4F), (0x2E, 0x41, 0x41), (0xC4, 0, 0), (0xC5, 0, 0)],
         listed_by_pair: true,
@@ -47,6 +50,7 @@ pub static DEVICES: [Device; 2] = [
         counters: 4,
         enable: 0x400000,
         filters: Filters::PacketMatch,
+        fixed: 0,
         addresses: Addresses { global: 0xC40, control: 0xC50, counter: 0xC51, step: 2 },
         events: &[(0x51, 1, 3), (0x31, 1, 3), (0x52, 0, 0), (0x2B, 0, 0), (0x2D, 0, 0), (0x2F, 0, 0)],
         listed_by_pair: false,
@@ -88,24 +92,44 @@ impl Device {
     }
 }
 
+/// What open and the reader are given: the device's letter, the usable set, and the enables of the fixed counters.
+#[derive(Clone, Copy, PartialEq, Eq, Debug)]
+pub struct Opening {
+    pub letter: u64,
+    pub usable: u64,
+    pub fixed: u64,
+}
+
 /// What an accepted open was given.
 #[derive(Clone, Copy, Debug)]
 pub struct Setup {
     pub device: &'static Device,
     pub usable: u64,
+    pub fixed: u64,
 }
 
+/// Where the enables of the fixed counters stand in IA32_PERF_GLOBAL_CTRL: bits 32 to 34.
+const FIXED_PLACE: u64 = 32;
+
 impl Setup {
-    /// Refuses with 3: a device that is not there, or a usable set that is empty or has a counter too many.
-    pub fn of(letter: u64, usable: u64) -> Result<Setup, u64> {
-        match Device::named(letter) {
-            Some(device) if usable != 0 && usable <= device.all() => Ok(Setup { device, usable }),
-            _ => Err(3),
+    /// Refuses with 3: a device that is not there, a usable set that is empty or has a counter too many, or a fixed counter
+    /// that the device does not have.
+    pub fn of(opening: Opening) -> Result<Setup, u64> {
+        let Opening { letter, usable, fixed } = opening;
+        let device = Device::named(letter).ok_or(3u64)?;
+        match usable != 0 && usable <= device.all() && fixed <= device.fixed {
+            true => Ok(Setup { device, usable, fixed }),
+            false => Err(3),
         }
     }
 
     /// The counters that belong to somebody else.
     pub fn others(&self) -> u64 {
         self.device.all() & !self.usable
+    }
+
+    /// The global control value where these counters of ours count: the others' enables and the fixed ones stay.
+    pub fn global(&self, used: u64) -> u64 {
+        self.fixed << FIXED_PLACE | self.others() | used
     }
 }

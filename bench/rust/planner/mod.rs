@@ -9,6 +9,7 @@ pub mod fast;
 pub mod model;
 pub mod requests;
 
+use devices::Opening;
 use requests::{Entry, Place, Request};
 
 /// The most requests that can wait.
@@ -30,7 +31,7 @@ pub struct Turn {
 /// The four calls of a session. A refused call answers its number and changes nothing.
 pub trait Calls {
     fn new() -> Self;
-    fn open(&mut self, letter: u64, usable: u64) -> Result<(), u64>;
+    fn open(&mut self, opening: Opening) -> Result<(), u64>;
     fn add(&mut self, id: u64, request: Request) -> Result<(), u64>;
     fn drop(&mut self, id: u64) -> Result<(), u64>;
     fn turn(&mut self, list: &mut [u64]) -> Result<Turn, u64>;

@@ -3,12 +3,14 @@
 use crate::numbers::Numbers;
 use crate::planner::devices::{Device, Filters};
 
-/// What the calls are drawn for: the device, its usable set, how many ids there are, and how many of a hundred fields get
-/// an odd value. In a tight bench requests get in each other's way: nested sets, few words, and those of latency requests.
+/// What the calls are drawn for: the device, its usable set and fixed enables, how many ids there are, and how many of
+/// a hundred fields get an odd value. In a tight bench requests get in each other's way: nested sets, few words, and those
+/// of latency requests.
 pub struct Bench {
     pub numbers: Numbers,
     pub device: &'static Device,
     pub usable: u64,
+    pub fixed: u64,
     pub ids: u64,
     pub odd: u64,
     pub tight: bool,
@@ -161,12 +163,19 @@ impl Bench {
         format!("drop\t{}", self.id())
     }
 
-    /// An open of the bench's device and set, or in odd cases of some other.
+    /// The open of the bench's device with these numbers.
+    pub fn open_line(&self, usable: u64, fixed: u64) -> String {
+        format!("open\t{}\t{usable}\t{fixed}", self.device.letter as char)
+    }
+
+    /// The bench's own open, or in odd cases one of another device, with other numbers, or with a field too few or too many.
     pub fn open(&mut self) -> String {
-        let letter = self.device.letter as char;
-        match self.odd() {
-            true => format!("open\t{}\t{}", self.numbers.pick(&['G', 'S', 'H']), self.numbers.pick(&[0, 7, 16, 99999])),
-            false => format!("open\t{letter}\t{}", self.usable),
+        if !self.odd() {
+            return self.open_line(self.usable, self.fixed);
         }
+        let letter = self.numbers.pick(&['G', 'S', 'H']);
+        let usable = self.numbers.pick(&[0, 7, 7, 16, 99999]);
+        let fixed = self.numbers.pick(&["", "\t0", "\t0", "\t1", "\t7", "\t8", "\t99999", "\t07", "\t-1", "\t0\t0"]);
+        format!("open\t{letter}\t{usable}{fixed}")
     }
 }

@@ -54,7 +54,7 @@ fn next_call(bench: &mut Bench, session: &Session, goal: usize) -> Vec<u8> {
 /// A transcript of so many lines: mostly accepted adds and drops, a fifth turns, a tenth refused or ill-formed lines.
 pub fn long(device: char, lines: usize, seed: u64) -> Vec<u8> {
     let device = Device::named(device as u64).expect("a device");
-    let mut bench = Bench { numbers: numbers_from(seed), device, usable: device.all(), ids: IDS, odd: 0, tight: false };
+    let mut bench = Bench { numbers: numbers_from(seed), device, usable: device.all(), fixed: 0, ids: IDS, odd: 0, tight: false };
     let mut session = Session::new();
     let mut block = [0; LONGEST_ANSWER];
     let mut transcript = Vec::new();
@@ -110,12 +110,15 @@ struct Mix {
 
 /// The open, sometimes after one that is refused.
 fn opening(bench: &mut Bench, transcript: &mut Vec<u8>) {
-    let letter = bench.device.letter as char;
-    if bench.numbers.chance(30) {
-        let usable = bench.numbers.pick(&[0, bench.device.all() + 1, 17, 99999]);
-        push(transcript, format!("open\t{letter}\t{usable}").as_bytes());
+    let bad_set = bench.numbers.pick(&[0, bench.device.all() + 1, 17, 99999]);
+    let bad_fixed = bench.numbers.pick(&[bench.device.fixed + 1, 8, 99999]);
+    match bench.numbers.below(10) {
+        0 => push(transcript, bench.open_line(bad_set, bench.fixed).as_bytes()),
+        1 => push(transcript, bench.open_line(bench.usable, bad_fixed).as_bytes()),
+        2 => push(transcript, bench.open_line(bad_set, bad_fixed).as_bytes()),
+        _ => {}
     }
-    push(transcript, format!("open\t{letter}\t{}", bench.usable).as_bytes());
+    push(transcript, bench.open_line(bench.usable, bench.fixed).as_bytes());
 }
 
 fn mixed_lines(bench: &mut Bench, mix: Mix) -> Vec<u8> {
@@ -141,7 +144,9 @@ fn mixed_lines(bench: &mut Bench, mix: Mix) -> Vec<u8> {
 /// One transcript of so many calls with every kind of line. On S its last line lacks the newline.
 pub fn mixed(device: char, usable: u64, calls: u64, seed: u64) -> Vec<u8> {
     let named = Device::named(device as u64).expect("a device");
-    let mut bench = Bench { numbers: numbers_from(seed), device: named, usable, ids: IDS, odd: 8, tight: false };
+    let mut numbers = numbers_from(seed);
+    let fixed = numbers.below(named.fixed + 1);
+    let mut bench = Bench { numbers, device: named, usable, fixed, ids: IDS, odd: 8, tight: false };
     let mut transcript = mixed_lines(&mut bench, Mix { calls, opened_at: 6, overflow_at: calls / 2, damage: 12, noise: 4 });
     if device == 'S' {
         transcript.pop();
@@ -187,7 +192,8 @@ pub fn random(number: u64, seed: u64) -> Vec<u8> {
     let calls = if round % 250 == 249 { 6000 } else { numbers.below(100) };
     let usable = round % device.all() + 1;
     let odd = [0, 4, 15, 40][(round / device.all() % 4) as usize];
-    let bench = Bench { numbers, device, usable, ids: IDS, odd, tight: false };
+    let fixed = numbers.below(device.fixed + 1);
+    let bench = Bench { numbers, device, usable, fixed, ids: IDS, odd, tight: false };
     match round % 4 {
         3 => tight(bench, calls),
         _ => loose(bench, calls),

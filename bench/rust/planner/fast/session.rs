@@ -3,7 +3,7 @@
 use super::left::Left;
 use super::search::first_plan;
 use super::writes::write_list;
-use crate::planner::devices::Setup;
+use crate::planner::devices::{Opening, Setup};
 use crate::planner::requests::{refusal_of, Entry, Place, Request, VACANT};
 use crate::planner::{Calls, Turn, LIMIT, PLACES};
 
@@ -57,11 +57,11 @@ impl Calls for Session {
         &self.queue[..self.waiting]
     }
 
-    fn open(&mut self, letter: u64, usable: u64) -> Result<(), u64> {
+    fn open(&mut self, opening: Opening) -> Result<(), u64> {
         if self.setup.is_some() {
             return Err(2);
         }
-        self.setup = Some(Setup::of(letter, usable)?);
+        self.setup = Some(Setup::of(opening)?);
         Ok(())
     }
 

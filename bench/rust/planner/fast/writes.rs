@@ -96,7 +96,7 @@ pub fn write_list(setup: Setup, taken: &[Entry], plan: &[Place; PLACES], out: &m
     let count = settings.count(setup);
     let mut list = List { rest: out.get_mut(..2 * count)?.chunks_exact_mut(2) };
     let Addresses { global, control, counter, step } = setup.device.addresses;
-    list.put(global, setup.others());
+    list.put(global, setup.global(0));
     for k in counters(setup.usable) {
         list.put(control + step * k as u64, 0);
     }
@@ -107,6 +107,6 @@ pub fn write_list(setup: Setup, taken: &[Entry], plan: &[Place; PLACES], out: &m
     for k in counters(settings.used) {
         list.put(control + step * k as u64, settings.words[k as usize]);
     }
-    list.put(global, setup.others() | settings.used);
+    list.put(global, setup.global(settings.used));
     Some(count)
 }

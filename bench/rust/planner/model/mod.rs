@@ -5,7 +5,7 @@ pub mod plan;
 pub mod reader;
 pub mod writes;
 
-use super::devices::Setup;
+use super::devices::{Opening, Setup};
 use super::requests::{refusal_of, Entry, Place, Request, VACANT};
 use super::{Calls, Turn, LIMIT, PLACES};
 use plan::first_plan;
@@ -49,11 +49,11 @@ impl Calls for Session {
         &self.queue
     }
 
-    fn open(&mut self, letter: u64, usable: u64) -> Result<(), u64> {
+    fn open(&mut self, opening: Opening) -> Result<(), u64> {
         if self.setup.is_some() {
             return Err(2);
         }
-        self.setup = Some(Setup::of(letter, usable)?);
+        self.setup = Some(Setup::of(opening)?);
         Ok(())
     }
 

@@ -1,6 +1,6 @@
 //! The reader: register values back to what each counter counts.
 
-use crate::planner::devices::{Filters, Setup};
+use crate::planner::devices::{Filters, Opening, Setup};
 use crate::planner::requests::{latency_words, refusal_of, Request, OUTSTANDING};
 use crate::planner::PLACES;
 
@@ -76,12 +76,12 @@ fn filters_held(setup: Setup, r: &Registers, states: &[State]) -> bool {
 }
 
 /// What the reader answers: the state of each counter, or the number of the refusal.
-pub fn read(letter: u64, usable: u64, r: &Registers) -> Result<Vec<State>, u64> {
-    let setup = Setup::of(letter, usable)?;
+pub fn read(opening: Opening, r: &Registers) -> Result<Vec<State>, u64> {
+    let setup = Setup::of(opening)?;
     let mut states = Vec::new();
     let mut used = 0;
     for k in 0..setup.device.counters {
-        states.push(match usable >> k & 1 {
+        states.push(match setup.usable >> k & 1 {
             0 => State::NotOurs,
             _ => state_of(setup, r, r.control[k as usize]).ok_or(15u64)?,
         });
@@ -89,7 +89,7 @@ pub fn read(letter: u64, usable: u64, r: &Registers) -> Result<Vec<State>, u64> 
             used |= 1 << k;
         }
     }
-    match filters_held(setup, r, &states) && r.global == setup.others() + used {
+    match filters_held(setup, r, &states) && r.global == setup.global(used) {
         true => Ok(states),
         false => Err(15),
     }

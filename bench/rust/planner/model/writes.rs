@@ -57,11 +57,11 @@ pub fn list_of(setup: Setup, requests: &[Request], plan: &[Place]) -> Vec<Write>
         Filters::OffcoreResponse => offcore_response(requests, plan),
         Filters::PacketMatch => packet_match(requests),
     };
-    let mut list = vec![(at.global, setup.others())];
+    let mut list = vec![(at.global, setup.global(0))];
     list.extend(usable.map(|k| (at.control + at.step * k, 0)));
     list.extend(filters);
     list.extend(words.iter().map(|&(k, _)| (at.counter + at.step * k as u64, 0)));
     list.extend(words.iter().map(|&(k, word)| (at.control + at.step * k as u64, word)));
-    list.push((at.global, setup.others() + used));
+    list.push((at.global, setup.global(used)));
     list
 }
