@@ -30,6 +30,7 @@ pub mod BuiltPlans
 pub mod FoundPlans
 pub mod FoundValues
 pub mod ExactReader
+pub mod FixedEnables
 pub mod EmptyPlan
 pub mod Tabulated
 pub mod ToldPlaces

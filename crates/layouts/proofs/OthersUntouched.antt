@@ -1,16 +1,14 @@
--- What belongs to somebody else is left alone: `OthersUntouched` and `FixedEnables`, by `writes-all` and the values of the global register. Assumes nothing.
+-- What belongs to somebody else is left alone: `OthersUntouched`, by `writes-all` and the values of the global register. Assumes nothing.
 use mathlib.Core.Path.{_≡_, refl, sym, ap, subst, _∙_}
 use mathlib.Core.Bool.{true, false, not}
 use mathlib.Core.List.{List, List·Memᴰ}
-use Prim.Native.Nat.{ℕ, _+_, _≤_, _<_}
+use Prim.Native.Nat.{ℕ, _+_, _<_}
 use lib.Dec.{ltb}
 use Rattle.requests.specs.Choice.{both}
 use Rattle.requests.specs.declared.Setup.{Setup}
 use Rattle.requests.specs.declared.Request.{Request}
 use Rattle.requests.specs.Bits.{bit}
-use Rattle.requests.specs.Devices.{has, counterCount, allCounters, fixedCount, allFixed}
-use Rattle.requests.proofs.DeviceNumbers.{numbers}
-use Rattle.requests.proofs.OpeningsTaken.{openings}
+use Rattle.requests.specs.Devices.{has, counterCount, fixedCount}
 use Rattle.requests.proofs.Tests.{either-left}
 use Rattle.plans.specs.declared.Place.{Place}
 use Rattle.plans.specs.Legal.{Legal}
@@ -18,12 +16,11 @@ use Rattle.plans.proofs.Sets.{all-imp}
 use Rattle.layouts.specs.Layout.{layoutOf}
 use Rattle.layouts.specs.Settings.{settingsOf}
 use Rattle.layouts.specs.Writes.{firstGlobal, lastGlobal, writes, apply}
-use Rattle.layouts.specs.FixedEnables.{Carries, FixedEnables}
 use Rattle.layouts.specs.OthersUntouched.{Ours, global, filter, control, counter, OthersUntouched}
 use Rattle.layouts.proofs.ListLaws.{all-member}
 use Rattle.layouts.proofs.DeviceFacts.{in-room, apart}
 use Rattle.layouts.proofs.RegistersAfter.{apply-after, after-other, filter-addresses, writes-all}
-use Rattle.layouts.proofs.GlobalValues.{used-usable, first-bit, first-fixed, first-carries, last-bit, last-fixed, last-carries}
+use Rattle.layouts.proofs.GlobalValues.{used-usable, first-bit, first-fixed, last-bit, last-fixed}
 
 kept : (s : Setup) (rs : List Request) (ps : List Place) → Legal s rs ps
     → (registers : ℕ → ℕ) (a : ℕ) → ¬ Ours s a → apply (writes s rs ps) registers a ≡ registers a
@@ -41,7 +38,7 @@ kept s rs ps legal registers a others =
     global))
 
 -- what holds of both values of the global register holds of each that the list writes to it
-global-all : (s : Setup) (rs : List Request) (ps : List Place) (P : ℕ → Type 0) → P (firstGlobal s) → P (lastGlobal s (settingsOf (s .device) rs ps .used .0))
+pub global-all : (s : Setup) (rs : List Request) (ps : List Place) (P : ℕ → Type 0) → P (firstGlobal s) → P (lastGlobal s (settingsOf (s .device) rs ps .used .0))
     → (v : ℕ) → List·Memᴰ (layoutOf (s .device) .global, v) (writes s rs ps) → P v
 unfolding writes
 global-all s rs ps P first last v m =
@@ -69,11 +66,3 @@ fixed s rs ps legal v k m =
 
 pub others-untouched : OthersUntouched
 others-untouched = record { kept = kept; enabled = enabled; fixed = fixed }
-
--- each carries the number of an accepted open
-pub fixed-enables : FixedEnables
-fixed-enables o s opened rs ps legal v m =
-    let given = openings .only o s opened in
-    let number : o .fixed ≡ s .fixed = given .fixed in
-    let few : s .fixed ≤ allFixed (s .device) = rw (← number, numbers (s .device) .fixed-most) (given .fixed-at-most) in
-    rw number (global-all s rs ps (Carries (s .fixed) (allCounters (s .device))) (first-carries s few) (last-carries s rs ps legal few) v m)

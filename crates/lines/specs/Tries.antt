@@ -273,6 +273,8 @@ tries =
           "open G 15" ∷
           "open G 15 08" ∷
           "open G 15 8" ∷
+          "open G 15 256" ∷
+          "open G 271 0" ∷
           "open G 0 9" ∷
           "open S 15 1" ∷
           "open G 14 5" ∷
@@ -281,6 +283,8 @@ tries =
       output =
           "no 1" ∷
           "no 1" ∷
+          "no 3" ∷
+          "no 3" ∷
           "no 3" ∷
           "no 3" ∷
           "no 3" ∷

@@ -6,7 +6,7 @@ use Prim.Native.Nat.{_≤_}
 use lib.Dec.{leb}
 use borrow.Author.Tests.{lt-ltb, le-leb, ltb-true, leb-true}
 use Rattle.requests.specs.Refusals.{numberOf, answerNumber}
-use Rattle.requests.specs.Devices.{allCounters, allFixed, deviceOf, usableSet, opens, setupOn, setupOf, openedAs, openedAnswer}
+use Rattle.requests.specs.Devices.{allCounters, allFixed, letterOf, deviceOf, usableSet, opens, setupOn, setupOf, openingOf, openedAs, openedAnswer}
 use Rattle.requests.specs.Openings.{mostFixed, Opens, openingNumber, Openings}
 use Rattle.requests.specs.declared.CounterSet.{CounterSet}
 use Rattle.requests.specs.declared.Device.{Device}
@@ -83,5 +83,9 @@ three : (o : Opening) → ((s : Setup) → ¬ Opens o s) → openingNumber o ≡
 unfolding openedAs openedAnswer answerNumber numberOf
 three o none-opens = rw (refused o none-opens)
 
+given : (s : Setup) → (openingOf s .device ≡ letterOf (s .device)) × (openingOf s .usable ≡ s .usable) × (openingOf s .fixed ≡ s .fixed)
+unfolding openingOf
+given s = (refl, refl, refl)
+
 pub openings : Openings
-openings = record { taken = taken; only = only; refused = refused; accepted = accepted; three = three; fifteen = λ d. numbers d .fifteen }
+openings = record { taken = taken; only = only; refused = refused; accepted = accepted; three = three; given = given; fifteen = λ d. numbers d .fifteen }

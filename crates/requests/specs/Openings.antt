@@ -4,7 +4,7 @@ use mathlib.Core.Path.{_≡_}
 use mathlib.Core.Option.{Option, none, some}
 use Prim.Native.Nat.{ℕ, _≤_}
 use Rattle.requests.specs.Refusals.{answerNumber}
-use Rattle.requests.specs.Devices.{allCounters, letterOf, setupOf, openedAs, openedAnswer}
+use Rattle.requests.specs.Devices.{allCounters, letterOf, setupOf, openingOf, openedAs, openedAnswer}
 use Rattle.requests.specs.declared.Device.{Device}
 use Rattle.requests.specs.declared.Device.the-variants.{G, S}
 use Rattle.requests.specs.declared.Opening.{Opening}
@@ -34,5 +34,7 @@ pub record Openings : Type 0 where
   pub refused : (o : Opening) → ((s : Setup) → ¬ Opens o s) → setupOf o ≡ none
   pub accepted : (o : Opening) (s : Setup) → Opens o s → openingNumber o ≡ none
   pub three : (o : Opening) → ((s : Setup) → ¬ Opens o s) → openingNumber o ≡ some 3
+  -- what open is given for a setup, also for one that it refuses: the numbers of a line reach the call as they stand there
+  pub given : (s : Setup) → (openingOf s .device ≡ letterOf (s .device)) × (openingOf s .usable ≡ s .usable) × (openingOf s .fixed ≡ s .fixed)
   -- "usable set 1..15"
   pub fifteen : (d : Device) → allCounters d ≡ 15

@@ -12,13 +12,15 @@ use Rattle.requests.specs.Devices.{openingOf}
 use Rattle.sessions.specs.Turns.{taken, passed}
 use Rattle.sessions.specs.Calls.{Call, Open, Add, Drop, Turn, Plain, notOpen, opened}
 use Rattle.sessions.specs.Table.{refusal}
-use Rattle.sessions.specs.Plain.{step}
+use Rattle.sessions.specs.Plain.{step, run}
 use Rattle.sessions.specs.DistinctIds.{Distinct}
 
 pub record QueueRules (limit : ℕ) : Type 0 where
   pub refused : (p : Plain) (c : Call) (x : Refusal) → refusal limit p c ≡ some x → step limit p c ≡ p
   -- "what the accepted open was given and a list of ids with their requests, empty after that open"
   pub opens : (o : Opening) → refusal limit notOpen (Open o) ≡ none → (s : Setup) × (openingOf s ≡ o) × (step limit notOpen (Open o) ≡ opened s [])
+  -- order 2: "The session keeps it": whatever is called afterwards, what the accepted open was given stays
+  pub kept : (s : Setup) (q : List Entry) (calls : List Call) → (later : List Entry) × (run limit (opened s q) calls ≡ opened s later)
   -- "placed at the back"
   pub adds : (s : Setup) (q : List Entry) (id : ℕ) (r : Request) → refusal limit (opened s q) (Add id r) ≡ none
       → step limit (opened s q) (Add id r) ≡ opened s (q ++ record { id = id; request = r } ∷ [])
