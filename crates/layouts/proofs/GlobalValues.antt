@@ -1,7 +1,7 @@
 -- The used counters of a plan and the two values of the global register: laws of plans cite these, and do not unfold the values. Assumes nothing.
 --     used-has, used-usable             the used set has the plan's counters, and each is usable
 --     first-bit, first-none             the first value: the bits of the counters that are not usable, and no others below bit 32
---     last-bit, last-unused             the last value: those and the used ones; where none is used, the first value
+--     last-bit, last-none, last-unused  the last value: those and the used ones, and no others; where none is used, the first value
 --     first-fixed, last-fixed           from bit 32 on each has the fixed enables
 --     first-carries, last-carries       with a number that open takes, each is that number there, and enables of counters below
 --     first-permitted, last-permitted   neither has a reserved bit
@@ -173,6 +173,9 @@ module _ (s : Setup) (rs : List Request) (ps : List Place) (legal : Legal s rs p
   pub last-bit : (k : ℕ) → k < counterCount (s .device)
       → bit k (lastGlobal s (settingsOf (s .device) rs ps .used .0)) ≡ either (not (has (s .usable) k)) (inList (counters ps) k)
   last-bit k l = ap (bit k) last-value ∙ value-bit (s .device) _ enabled k l
+
+  pub last-none : (k : ℕ) → counterCount (s .device) ≤ k → k < 32 → bit k (lastGlobal s (settingsOf (s .device) rs ps .used .0)) ≡ false
+  last-none k past l = ap (bit k) last-value ∙ value-none (s .device) _ enabled k past l
 
   pub last-fixed : (k : ℕ) → bit (32 + k) (lastGlobal s (settingsOf (s .device) rs ps .used .0)) ≡ both (ltb k (fixedCount (s .device))) (bit k (s .fixed))
   last-fixed k = ap (bit (32 + k)) last-value ∙ value-fixed s enabled k

@@ -31,6 +31,7 @@ pub mod FoundPlans
 pub mod FoundValues
 pub mod ExactReader
 pub mod FixedEnables
+pub mod UsedEnabled
 pub mod EmptyPlan
 pub mod Tabulated
 pub mod ToldPlaces

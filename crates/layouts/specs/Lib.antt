@@ -9,6 +9,7 @@ pub mod PermittedBits
 pub mod NoReservedBit
 pub mod OthersUntouched
 pub mod FixedEnables
+pub mod UsedEnabled
 pub mod RestWhileWritten
 pub mod WriteCount
 pub mod EmptyPlan

@@ -46,6 +46,29 @@ examples =
     -- "offcore with bit 38", alone and beside bit 16
     ∷ example G (Offcore 0x4000000001 all) (some 11)
     ∷ example G (Offcore 0x4000010001 all) (some 11)
+    -- each of the snoop answers is a response, and does not go with bit 16
+    ∷ example G (Offcore 0x200000001 all) none
+    ∷ example G (Offcore 0x400000001 all) none
+    ∷ example G (Offcore 0x1000000001 all) none
+    ∷ example G (Offcore 0x2000000001 all) none
+    ∷ example G (Offcore 0x400010001 all) (some 11)
+    ∷ example G (Offcore 0x1000010001 all) (some 11)
+    ∷ example G (Offcore 0x2000010001 all) (some 11)
+    -- each request type stands alone beside bit 16
+    ∷ example G (Offcore 0x10002 all) none
+    ∷ example G (Offcore 0x10004 all) none
+    ∷ example G (Offcore 0x10008 all) none
+    ∷ example G (Offcore 0x10010 all) none
+    ∷ example G (Offcore 0x10020 all) none
+    ∷ example G (Offcore 0x10080 all) none
+    ∷ example G (Offcore 0x10100 all) none
+    ∷ example G (Offcore 0x10200 all) none
+    ∷ example G (Offcore 0x10400 all) none
+    ∷ example G (Offcore 0x10800 all) none
+    ∷ example G (Offcore 0x11000 all) none
+    ∷ example G (Offcore 0x12000 all) none
+    ∷ example G (Offcore 0x14000 all) none
+    ∷ example G (Offcore 0x18000 all) none
     -- "no request type", checked before "bit 16 with a snoop answer"
     ∷ example G (Offcore 0x10000 all) (some 9)
     ∷ example G (Offcore 0x200010000 all) (some 9)

@@ -1,16 +1,19 @@
 -- Demand 2 of every accepted turn: its plan is the first legal plan of the requests taken, and its writes are that plan's.
 use mathlib.Core.Path.{_≡_}
 use mathlib.Core.List.{List, List·Memᴰ}
-use mathlib.Core.Bool.{true, false}
+use mathlib.Core.Bool.{true, false, not}
 use Prim.Native.Nat.{ℕ, _*_, _≤_, _<_}
+use lib.Dec.{ltb}
 use lib.ListN.{length}
 use Rattle.requests.specs.declared.Setup.{Setup}
 use Rattle.requests.specs.declared.Entry.{Entry}
 use Rattle.requests.specs.declared.Answer.the-variants.{Accepted}
-use Rattle.requests.specs.Bits.{bit}
+use Rattle.requests.specs.Bits.{bit, inList}
+use Rattle.requests.specs.Choice.{both, either}
 use Rattle.requests.specs.Devices.{has, counterCount, allCounters}
 use Rattle.plans.specs.declared.Place.{Place}
 use Rattle.plans.specs.Lists.{All}
+use Rattle.plans.specs.Legal.{counters}
 use Rattle.plans.specs.Order.{First}
 use Rattle.layouts.specs.Layout.{layoutOf}
 use Rattle.layouts.specs.Writes.{writes, filled, apply}
@@ -42,7 +45,11 @@ pub record TurnDone (s : Setup) (q : List Entry) (before : Session) (slice : Lis
       → has (s .usable) k ≡ false → bit k v ≡ true
   -- order 2: "every write to 038F carries" the fixed enables of the session
   pub fixed : (v : ℕ) → List·Memᴰ (layoutOf (s .device) .global, v) (writes s (requestsOf (taken s q)) places) → Carries (s .fixed) (allCounters (s .device)) v
-  -- counters rest while their registers are written, and are enabled by the last write
+  -- "038F with unusable and used bits": the last write enables the plan's counters
+  pub used : (registers : ℕ → ℕ) (k : ℕ) → k < 32
+      → bit k (apply (writes s (requestsOf (taken s q)) places) registers (layoutOf (s .device) .global))
+      ≡ both (ltb k (counterCount (s .device))) (either (not (has (s .usable) k)) (inList (counters places) k))
+  -- counters rest while their registers are written
   pub rests : Rests s (requestsOf (taken s q)) (writes s (requestsOf (taken s q)) places)
   -- "applied to any registers and read, give that turn's plan counter by counter"
   pub read : (registers : ℕ → ℕ) → ReadBack s (requestsOf (taken s q)) places (writes s (requestsOf (taken s q)) places) registers
