@@ -10,13 +10,21 @@ use native.Mathlib.Omega.{arith}
 use borrow.Author.Tests.{eqb-true, leb-true, ltb-true, eqb-false, not-true}
 use lib.Dec.{eqb, ltb, leb}
 use Rattle.requests.specs.Choice.{both}
-use Rattle.requests.specs.Catalogue.{MaskRule, alone, range, allows, ListedEvent, pairIn}
+use Rattle.requests.specs.Bits.{inList}
+use Rattle.requests.specs.MaskRules.{MaskRule, alone, range, among, allows, ListedEvent}
+use Rattle.requests.specs.Catalogue.{pairIn}
 use Rattle.requests.proofs.Tests.{both-parts, either-cases}
+
+-- whether all numbers of a list are below 256
+unfoldable pub allBelow : List ℕ → Bool
+allBelow [] = true
+allBelow (n ∷ ns) = both (ltb n 256) (allBelow ns)
 
 -- whether the masks of a rule are below 256
 unfoldable pub belowMask : MaskRule → Bool
 belowMask (alone n) = ltb n 256
 belowMask (range low high) = ltb high 256
+belowMask (among ms) = allBelow ms
 
 -- whether no row has the code x, and all codes and masks are below 256
 unfoldable pub table : ℕ → List ListedEvent → Bool
@@ -29,10 +37,18 @@ pub record Listed (x c m : ℕ) : Type 0 where
   pub mask : m < 256
   pub other : c ≡ x → ⊥
 
+member-below : (ns : List ℕ) (m : ℕ) → allBelow ns ≡ true → inList ns m ≡ true → m < 256
+unfolding allBelow inList
+member-below [] m b h = absurd (false≢true h)
+member-below (n ∷ ns) m b h =
+    let all = both-parts _ _ b in
+    ⊎-elim (λ t. omega (arith, eqb-true n m t, ltb-true n 256 (all .0))) (λ t. member-below ns m (all .1) t) (either-cases _ _ h)
+
 mask-below : (r : MaskRule) (m : ℕ) → belowMask r ≡ true → allows r m ≡ true → m < 256
 unfolding belowMask allows
 mask-below (alone n) m b h = omega (arith, eqb-true m n h, ltb-true n 256 b)
 mask-below (range low high) m b h = omega (arith, leb-true m high (both-parts (leb low m) (leb m high) h .1), ltb-true high 256 b)
+mask-below (among ms) m b h = member-below ms m b h
 
 pub row-listed : (x c m : ℕ) (es : List ListedEvent) → table x es ≡ true → pairIn es c m ≡ true → Listed x c m
 unfolding table pairIn

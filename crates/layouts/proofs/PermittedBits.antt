@@ -5,7 +5,7 @@ use Rattle.requests.specs.declared.Device.the-variants.{G, S}
 use Rattle.requests.specs.Bits.{inList, typeBits, anyResponse, answerBits, outstanding, rsp0Bits, rsp1Bits}
 use Rattle.requests.specs.Devices.{counterCount}
 use Rattle.layouts.specs.Layout.{tabulate, layoutOf, controlAt, rsp0At, rsp1At, mmCfgAt, field, controlBits, globalBits, mmEnable, registersOf}
-use Rattle.layouts.specs.Settings.{setFrom}
+use Rattle.requests.specs.BitSets.{setFrom}
 use Rattle.layouts.specs.PermittedBits.{permittedOf, bitsTogether, PermittedBits}
 
 pub permitted-bits : PermittedBits

@@ -15,7 +15,8 @@ use Rattle.requests.specs.declared.Setup.{Setup}
 use Rattle.requests.specs.declared.Request.the-variants.{Event, Packet}
 use Rattle.requests.specs.Bits.{bit, inList}
 use Rattle.requests.specs.Devices.{has, counterCount, capacity, allCounters, packetsOn, offcoreOn, pairsJudged}
-use Rattle.requests.specs.Catalogue.{allows, eventsOf, codeIn, pairIn, maskNotListed}
+use Rattle.requests.specs.MaskRules.{allows}
+use Rattle.requests.specs.Catalogue.{eventsOf, codeIn, pairIn, maskNotListed}
 use Rattle.requests.specs.Checks.{kindNotOn, notListed, tooWide, outOfRange, incomplete, conflicting, requestRows, requestRefusal}
 use Rattle.plans.specs.declared.Place.{Place}
 use Rattle.plans.specs.declared.Place.the-variants.{Counter}
@@ -23,7 +24,8 @@ use Rattle.plans.specs.Lists.{nil, cons, Pairwise, empty, add, none, and}
 use Rattle.plans.specs.Places.{countedOf, countersOf}
 use Rattle.plans.specs.Legal.{event, packet, wordsOf, packetsOf, ofAll, counters}
 use Rattle.layouts.specs.Layout.{tabulate, layoutOf}
-use Rattle.layouts.specs.Settings.{usesOf, setFrom, settingsOf}
+use Rattle.requests.specs.BitSets.{setFrom}
+use Rattle.layouts.specs.Settings.{usesOf, settingsOf}
 use Rattle.layouts.specs.Writes.{row, rows, offcoreWrites, packetWrites, filterWrites, zeros, writesFor, writes}
 use Rattle.layouts.specs.WriteCount.{writeLimit, Reached, WriteCount}
 use Rattle.layouts.specs.declared.Settings.{Settings}

@@ -6,7 +6,7 @@ use Rattle.requests.specs.declared.Device.{Device}
 use Rattle.requests.specs.declared.Device.the-variants.{G, S}
 use Rattle.requests.specs.Bits.{inList}
 use Rattle.layouts.specs.Layout.{Register, registersOf}
-use Rattle.layouts.specs.Settings.{setFrom}
+use Rattle.requests.specs.BitSets.{setFrom}
 
 -- address and permitted bits
 unfoldable pub permittedOf : Device → List (ℕ × ℕ)

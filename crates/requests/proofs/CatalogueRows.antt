@@ -1,17 +1,21 @@
--- The tests of a catalogue by its rows: a code or a pair is listed exactly where a row has it, and on S a code stands in one row. Assumes nothing.
+-- The tests of a catalogue by its rows: a code or a pair is listed exactly where a row has it, and a code that has its own masks stands in one row. Assumes nothing.
 use mathlib.Core.Path.{_≡_, refl, ap, sym, subst, _∙_}
 use mathlib.Core.Logic.{_⊎_, inl, inr, ⊎-elim}
-use mathlib.Core.Bool.{Bool, true, not, false≢true}
+use mathlib.Core.Bool.{Bool, true, false, not, false≢true}
 use mathlib.Core.List.{List, [], _∷_, List·Memᴰ, List·Memᴰ·head, List·Memᴰ·tail}
 use Prim.Native.Nat.{ℕ, _≤_}
 use native.Mathlib.Nat.{lt-of-not-le}
 use native.Mathlib.Omega.{arith}
 use borrow.Author.Tests.{eqb-true, eq-eqb, leb-true, le-leb, not-true}
 use Rattle.requests.specs.Choice.{both, either}
-use Rattle.requests.specs.Catalogue.{MaskRule, alone, range, allows, ListedEvent, listed, eventsOf, codeIn, pairIn}
-use Rattle.requests.specs.RefusedRequests.{Lists, Above, InCatalogue}
-use Rattle.requests.specs.declared.Device.the-variants.{S}
+use Rattle.requests.specs.Devices.{pairsJudged}
+use Rattle.requests.specs.MaskRules.{MaskRule, alone, range, among, allows, ListedEvent, listed}
+use Rattle.requests.specs.Catalogue.{eventsOf, codeIn, pairIn}
+use Rattle.requests.specs.RefusedRequests.{Lists, Above, InCatalogue, PairsOn, on-G, CodesOn, on-S}
+use Rattle.requests.specs.declared.Device.{Device}
+use Rattle.requests.specs.declared.Device.the-variants.{G, S}
 use Rattle.requests.proofs.Tests.{both-ways, both-parts, true-both, either-cases, either-left, either-right}
+use Rattle.requests.proofs.BitMembers.{in-member, member-in}
 
 -- a row of the list with the code
 abbrev RowOf : List ListedEvent → ℕ → MaskRule → Type 0
@@ -21,11 +25,13 @@ allows-lists : (masks : MaskRule) (m : ℕ) → allows masks m ≡ true → List
 unfolding allows
 allows-lists (alone n) m h = eqb-true m n h
 allows-lists (range low high) m h = let p = both-parts _ _ h in (leb-true low m (p .0), leb-true m high (p .1))
+allows-lists (among ms) m h = in-member ms m h
 
 lists-allows : (masks : MaskRule) (m : ℕ) → Lists masks m → allows masks m ≡ true
 unfolding allows
 lists-allows (alone n) m h = eq-eqb m n h
 lists-allows (range low high) m h = true-both _ _ (le-leb low m (h .0)) (le-leb m high (h .1))
+lists-allows (among ms) m h = member-in ms m h
 
 -- ---- codes
 
@@ -81,12 +87,29 @@ one-row (e ∷ es) distinct c masks others (List·Memᴰ·head p) (List·Memᴰ�
 one-row (e ∷ es) distinct c masks others (List·Memᴰ·tail r) (List·Memᴰ·head q) = absurd (again e es distinct c masks (ap (λ (x : ListedEvent). x .code) q) r)
 one-row (e ∷ es) distinct c masks others (List·Memᴰ·tail r) (List·Memᴰ·tail t) = one-row es (both-parts _ _ distinct .1) c masks others r t
 
--- on S a code stands in one row, with the masks 1..3 or with 0 alone
-pub one-row-on-S : (c : ℕ) (masks others : MaskRule) → InCatalogue S c masks → InCatalogue S c others → masks ≡ others
+-- a code that has its own masks stands in one row
+pub one-row-on : (d : Device) → CodesOn d → (c : ℕ) (masks others : MaskRule) → InCatalogue d c masks → InCatalogue d c others → masks ≡ others
 unfolding eventsOf codeIn distinctCodes both either
-one-row-on-S c masks others p q = one-row (eventsOf S) refl c masks others p q
+one-row-on d on-S c masks others p q = one-row (eventsOf S) refl c masks others p q
 
-pub rule-on-S : (c : ℕ) (masks : MaskRule) → InCatalogue S c masks → (masks ≡ range 1 3) ⊎ (masks ≡ alone 0)
+-- how a device's events are judged
+pub judged : (d : Device) → (PairsOn d × (pairsJudged d ≡ true)) ⊎ (CodesOn d × (pairsJudged d ≡ false))
+unfolding pairsJudged
+judged G = inl (on-G, refl)
+judged S = inr (on-S, refl)
+
+pub pairs-judged : (d : Device) → PairsOn d → pairsJudged d ≡ true
+unfolding pairsJudged
+pairs-judged d on-G = refl
+
+pub codes-judged : (d : Device) → CodesOn d → pairsJudged d ≡ false
+unfolding pairsJudged
+codes-judged d on-S = refl
+
+-- ---- masks on S
+
+-- a code has the masks 1..3, or 0 alone
+rule-on-S : (c : ℕ) (masks : MaskRule) → InCatalogue S c masks → (masks ≡ range 1 3) ⊎ (masks ≡ alone 0)
 unfolding eventsOf
 rule-on-S c masks (List·Memᴰ·head p) = inl (ap (λ (x : ListedEvent). x .masks) p)
 rule-on-S c masks (List·Memᴰ·tail (List·Memᴰ·head p)) = inl (ap (λ (x : ListedEvent). x .masks) p)
@@ -95,20 +118,13 @@ rule-on-S c masks (List·Memᴰ·tail (List·Memᴰ·tail (List·Memᴰ·tail (L
 rule-on-S c masks (List·Memᴰ·tail (List·Memᴰ·tail (List·Memᴰ·tail (List·Memᴰ·tail (List·Memᴰ·head p))))) = inr (ap (λ (x : ListedEvent). x .masks) p)
 rule-on-S c masks (List·Memᴰ·tail (List·Memᴰ·tail (List·Memᴰ·tail (List·Memᴰ·tail (List·Memᴰ·tail (List·Memᴰ·head p)))))) = inr (ap (λ (x : ListedEvent). x .masks) p)
 
--- ---- masks on S
-
--- a mask above the listed ones is none of them, nor 0
-pub above-out : (masks : MaskRule) (m : ℕ) → Above masks m → (¬ Lists masks m) × (1 ≤ m)
-above-out (alone n) m h = (λ l. omega (arith, h, l), omega (arith, h))
-above-out (range low high) m h = (λ l. omega (arith, h, l .1), omega (arith, h))
-
 -- where 0 is not listed, 1..3 is; another mask that is not listed is above those that are
-pub zero-out : (c : ℕ) (masks : MaskRule) → InCatalogue S c masks → ¬ Lists masks 0 → InCatalogue S c (range 1 3)
-zero-out c masks row out =
-    ⊎-elim (λ e. subst (InCatalogue S c) e row) (λ e. absurd (out (subst (λ (x : MaskRule). Lists x 0) (sym e) refl))) (rule-on-S c masks row)
+pub zero-on-S : (c : ℕ) (masks : MaskRule) → InCatalogue S c masks → ¬ Lists masks 0 → masks ≡ range 1 3
+zero-on-S c masks row out =
+    ⊎-elim (λ e. e) (λ e. absurd (out (subst (λ (x : MaskRule). Lists x 0) (sym e) refl))) (rule-on-S c masks row)
 
-pub other-out : (c m : ℕ) (masks : MaskRule) → InCatalogue S c masks → ¬ Lists masks m → ¬ (m ≡ 0) → Above masks m
-other-out c m masks row out some = go masks (rule-on-S c masks row) out
+pub above-on-S : (c m : ℕ) (masks : MaskRule) → InCatalogue S c masks → ¬ Lists masks m → ¬ (m ≡ 0) → Above masks m
+above-on-S c m masks row out some = go masks (rule-on-S c masks row) out
   where
     go : (x : MaskRule) → (x ≡ range 1 3) ⊎ (x ≡ alone 0) → ¬ Lists x m → Above x m
     go x (inl e) n = rw e (lt-of-not-le (λ l. (rw e at n) (omega (arith, some), l)))

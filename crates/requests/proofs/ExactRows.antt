@@ -3,17 +3,18 @@ use mathlib.Core.Path.{_≡_, refl, ap, sym, subst, _∙_}
 use mathlib.Core.Logic.{⊎-elim}
 use mathlib.Core.Bool.{true, false, not, false≢true}
 use mathlib.Core.List.{[], _∷_, List·Memᴰ·head}
-use mathlib.Mathlib.Data.Bool.Basic.{eq-false-of-not-eq-true}
+use mathlib.Mathlib.Data.Bool.Basic.{eq-false-of-not-eq-true, eq-true-of-not-eq-false}
 use Prim.Native.Nat.{ℕ}
 use native.Mathlib.Omega.{arith}
 use lib.Dec.{eqb}
 use borrow.Author.Tests.{not-true, eqb-true, eqb-false, ne-eqb, ltb-true, lt-ltb}
-use Rattle.requests.specs.Choice.{both, either}
+use Rattle.requests.specs.Choice.{both, either, pick}
 use Rattle.requests.specs.Bits.{anyBit, typeBits, anyResponse, answerBits, outstanding, rsp0Bits}
 use Rattle.requests.specs.Devices.{packetsOn, offcoreOn, pairsJudged}
-use Rattle.requests.specs.Catalogue.{MaskRule, range, eventsOf, codeIn, maskNotListed}
+use Rattle.requests.specs.MaskRules.{MaskRule}
+use Rattle.requests.specs.Catalogue.{eventsOf, codeIn, pairIn, maskNotListed}
 use Rattle.requests.specs.Checks.{kindNotOn, notListed, tooWide, outOfRange, incomplete, conflicting}
-use Rattle.requests.specs.RefusedRequests.{Lists, InCatalogue, TypesIn, offcore-word, latency-types, AllowedSet, of-event, of-packet, of-offcore, first-of-latency, second-of-latency, KindNotOn, packet-on-G, offcore-on-S, latency-on-S, NotListed, pair, code, Incomplete, mask-0, no-type, no-response, OutOfRange, mask-above, word-bit, type-bit, wide-set, Conflicting, bit-38, bit-16, RefusedRequests}
+use Rattle.requests.specs.RefusedRequests.{Lists, InCatalogue, TypesIn, offcore-word, latency-types, AllowedSet, of-event, of-packet, of-offcore, first-of-latency, second-of-latency, PairsOn, CodesOn, KindNotOn, no-packet, no-offcore, no-latency, NotListed, pair, code, Incomplete, mask-0, no-type, no-response, OutOfRange, mask-other, word-bit, type-bit, wide-set, Conflicting, bit-38, bit-16, RefusedRequests}
 use Rattle.requests.specs.declared.CounterSet.{CounterSet}
 use Rattle.requests.specs.declared.Device.{Device}
 use Rattle.requests.specs.declared.Device.the-variants.{G, S}
@@ -21,58 +22,101 @@ use Rattle.requests.specs.declared.Request.{Request}
 use Rattle.requests.specs.declared.Request.the-variants.{Event, Packet, Offcore, Latency}
 use Rattle.requests.proofs.Tests.{both-ways, both-parts, true-both, either-cases, either-left, either-right, either-false}
 use Rattle.requests.proofs.BitMembers.{any-has, any-of-has, none-has, none-of-has, none-has-more, none-apart, none-joined, permitted-reserved, types-reserved, reserved-only}
-use Rattle.requests.proofs.CatalogueRows.{code-row, row-code, pair-row, row-pair, one-row-on-S, above-out, zero-out, other-out}
+use Rattle.requests.proofs.CatalogueRows.{code-row, row-code, pair-row, row-pair, one-row-on, judged, pairs-judged, codes-judged, zero-on-S, above-on-S}
 
 -- ---- 7
 
+-- packets are on S only, offcore and latency on G only
+packets-on-s : packetsOn S ≡ true
+unfolding packetsOn
+packets-on-s = refl
+
+only-s : (d : Device) → packetsOn d ≡ true → d ≡ S
+unfolding packetsOn
+only-s G h = absurd (false≢true h)
+only-s S h = refl
+
+offcore-on-g : offcoreOn G ≡ true
+unfolding offcoreOn
+offcore-on-g = refl
+
+only-g : (d : Device) → offcoreOn d ≡ true → d ≡ G
+unfolding offcoreOn
+only-g G h = refl
+only-g S h = absurd (false≢true h)
+
+not-s : (d : Device) → not (packetsOn d) ≡ true → ¬ (d ≡ S)
+not-s d h e = both-ways (ap packetsOn e ∙ packets-on-s) (not-true _ h)
+
+not-g : (d : Device) → not (offcoreOn d) ≡ true → ¬ (d ≡ G)
+not-g d h e = both-ways (ap offcoreOn e ∙ offcore-on-g) (not-true _ h)
+
+pub is-s : (d : Device) → ¬ (¬ (d ≡ S)) → d ≡ S
+is-s d h = only-s d (eq-true-of-not-eq-false (λ e. h (not-s d (ap not e))))
+
+pub is-g : (d : Device) → ¬ (¬ (d ≡ G)) → d ≡ G
+is-g d h = only-g d (eq-true-of-not-eq-false (λ e. h (not-g d (ap not e))))
+
 kind-applies : (d : Device) (r : Request) → kindNotOn d r ≡ true → KindNotOn d r
-unfolding kindNotOn packetsOn offcoreOn
+unfolding kindNotOn
 kind-applies d (Event c m a) h = absurd (false≢true h)
-kind-applies G (Packet x y a) h = packet-on-G
-kind-applies S (Packet x y a) h = absurd (false≢true h)
-kind-applies G (Offcore w a) h = absurd (false≢true h)
-kind-applies S (Offcore w a) h = offcore-on-S
-kind-applies G (Latency t a b) h = absurd (false≢true h)
-kind-applies S (Latency t a b) h = latency-on-S
+kind-applies d (Packet x y a) h = no-packet (not-s d h)
+kind-applies d (Offcore w a) h = no-offcore (not-g d h)
+kind-applies d (Latency t a b) h = no-latency (not-g d h)
 
 kind-holds : (d : Device) (r : Request) → KindNotOn d r → kindNotOn d r ≡ true
-unfolding kindNotOn packetsOn offcoreOn
-kind-holds d r packet-on-G = refl
-kind-holds d r offcore-on-S = refl
-kind-holds d r latency-on-S = refl
+unfolding kindNotOn
+kind-holds d r (no-packet n) = ap not (eq-false-of-not-eq-true (λ h. n (only-s d h)))
+kind-holds d r (no-offcore n) = ap not (eq-false-of-not-eq-true (λ h. n (only-g d h)))
+kind-holds d r (no-latency n) = ap not (eq-false-of-not-eq-true (λ h. n (only-g d h)))
 
 -- ---- 8
 
 listed-applies : (d : Device) (r : Request) → notListed d r ≡ true → NotListed d r
-unfolding notListed pairsJudged
-listed-applies G (Event c m a) h = pair (λ p. both-ways (row-pair (eventsOf G) c m (p .0) (p .1) (p .2)) (not-true _ h))
-listed-applies S (Event c m a) h = code (λ p. both-ways (row-code (eventsOf S) c (p .0) (p .1)) (not-true _ h))
+unfolding notListed
+listed-applies d (Event c m a) h = ⊎-elim pairs codes (judged d)
+  where
+    pairs : PairsOn d × (pairsJudged d ≡ true) → NotListed d (Event c m a)
+    pairs (on, j) = pair on (λ p. both-ways (row-pair (eventsOf d) c m (p .0) (p .1) (p .2)) (not-true _ (rw j at h)))
+
+    codes : CodesOn d × (pairsJudged d ≡ false) → NotListed d (Event c m a)
+    codes (on, j) = code on (λ p. both-ways (row-code (eventsOf d) c (p .0) (p .1)) (not-true _ (rw j at h)))
 listed-applies d (Packet x y a) h = absurd (false≢true h)
 listed-applies d (Offcore w a) h = absurd (false≢true h)
 listed-applies d (Latency t a b) h = absurd (false≢true h)
 
 listed-holds : (d : Device) (r : Request) → NotListed d r → notListed d r ≡ true
-unfolding notListed pairsJudged
-listed-holds d r (pair {c = c} {m = m} none) = ap not (eq-false-of-not-eq-true (λ h. none (pair-row (eventsOf G) c m h)))
-listed-holds d r (code {c = c} none) = ap not (eq-false-of-not-eq-true (λ h. none (code-row (eventsOf S) c h)))
+unfolding notListed
+listed-holds d r (pair {c = c} {m = m} on none) = rw (pairs-judged d on) (ap not (eq-false-of-not-eq-true (λ h. none (pair-row (eventsOf d) c m h))))
+listed-holds d r (code {c = c} on none) = rw (codes-judged d on) (ap not (eq-false-of-not-eq-true (λ h. none (code-row (eventsOf d) c h))))
 
--- ---- masks on S
+-- ---- masks of a code's own
 
 -- a code that is listed, but not with the mask
-mask-row : (c m : ℕ) → maskNotListed S c m ≡ true → (masks : MaskRule) × InCatalogue S c masks × (¬ Lists masks m)
-unfolding maskNotListed pairsJudged both
-mask-row c m h =
-    let p = both-parts (codeIn (eventsOf S) c) _ h in
-    let row = code-row (eventsOf S) c (p .0) in
-    (row .0, row .1, λ l. both-ways (row-pair (eventsOf S) c m (row .0) (row .1) l) (not-true _ (p .1)))
-
-row-mask : (c m : ℕ) (masks : MaskRule) → InCatalogue S c masks → ¬ Lists masks m → maskNotListed S c m ≡ true
-unfolding maskNotListed pairsJudged both
-row-mask c m masks row out =
-    true-both _ _ (row-code (eventsOf S) c masks row) (ap not (eq-false-of-not-eq-true (λ h. other (pair-row (eventsOf S) c m h))))
+mask-row : (d : Device) (c m : ℕ) → maskNotListed d c m ≡ true → CodesOn d × ((masks : MaskRule) × InCatalogue d c masks × (¬ Lists masks m))
+unfolding maskNotListed
+mask-row d c m h = ⊎-elim pairs codes (judged d)
   where
-    other : (others : MaskRule) × InCatalogue S c others × Lists others m → ⊥
-    other p = out (subst (λ (x : MaskRule). Lists x m) (one-row-on-S c (p .0) masks (p .1) row) (p .2))
+    parts : (not (pairsJudged d) ≡ true) × (both (codeIn (eventsOf d) c) (not (pairIn (eventsOf d) c m)) ≡ true)
+    parts = both-parts _ _ h
+
+    pairs : PairsOn d × (pairsJudged d ≡ true) → CodesOn d × ((masks : MaskRule) × InCatalogue d c masks × (¬ Lists masks m))
+    pairs (on, j) = absurd (both-ways j (not-true _ (parts .0)))
+
+    codes : CodesOn d × (pairsJudged d ≡ false) → CodesOn d × ((masks : MaskRule) × InCatalogue d c masks × (¬ Lists masks m))
+    codes (on, j) =
+        let p = both-parts (codeIn (eventsOf d) c) _ (parts .1) in
+        let row = code-row (eventsOf d) c (p .0) in
+        (on, (row .0, row .1, λ l. both-ways (row-pair (eventsOf d) c m (row .0) (row .1) l) (not-true _ (p .1))))
+
+row-mask : (d : Device) → CodesOn d → (c m : ℕ) (masks : MaskRule) → InCatalogue d c masks → ¬ Lists masks m → maskNotListed d c m ≡ true
+unfolding maskNotListed
+row-mask d on c m masks row out =
+    true-both _ _ (ap not (codes-judged d on))
+    (true-both _ _ (row-code (eventsOf d) c masks row) (ap not (eq-false-of-not-eq-true (λ h. other (pair-row (eventsOf d) c m h)))))
+  where
+    other : (others : MaskRule) × InCatalogue d c others × Lists others m → ⊥
+    other p = out (subst (λ (x : MaskRule). Lists x m) (one-row-on d on c (p .0) masks (p .1) row) (p .2))
 
 -- ---- 9
 
@@ -82,13 +126,12 @@ types-none r w d offcore-word h = rw h
 types-none r w d latency-types h = ap not h
 
 lacks-applies : (d : Device) (r : Request) → incomplete d r ≡ true → Incomplete d r
-unfolding incomplete maskNotListed pairsJudged both
-lacks-applies G (Event c m a) h = absurd (false≢true (both-parts (eqb m 0) (maskNotListed G c m) h .1))
-lacks-applies S (Event c m a) h =
-    let p = both-parts (eqb m 0) (maskNotListed S c m) h in
-    let row = mask-row c m (p .1) in
+unfolding incomplete
+lacks-applies d (Event c m a) h =
+    let p = both-parts (eqb m 0) (maskNotListed d c m) h in
+    let row = mask-row d c m (p .1) in
     let zero = eqb-true m 0 (p .0) in
-    rw zero (mask-0 (zero-out c (row .0) (row .1) (rw zero at row .2)))
+    rw zero (mask-0 (row .0) (row .1 .1) (rw zero at row .1 .2))
 lacks-applies d (Packet x y a) h = absurd (false≢true h)
 lacks-applies d (Offcore w a) h =
     ⊎-elim
@@ -100,7 +143,7 @@ lacks-applies d (Latency t a b) h = no-type latency-types (none-has typeBits t (
 
 lacks-holds : (d : Device) (r : Request) → Incomplete d r → incomplete d r ≡ true
 unfolding incomplete
-lacks-holds d r (mask-0 {c = c} row) = true-both _ _ refl (row-mask c 0 (range 1 3) row (λ l. omega (arith, l .0)))
+lacks-holds d r (mask-0 {c = c} {masks = masks} on row out) = true-both _ _ refl (row-mask d on c 0 masks row out)
 lacks-holds d r (no-type {w = w} types none) = types-none r w d types (none-of-has typeBits w none)
 lacks-holds d r (no-response {w = w} none off) = either-right _ _ (ap not (none-of-has _ w (none-joined (anyResponse ∷ answerBits) (outstanding ∷ []) w none (none-has-more outstanding [] w off (λ k m. elim m [ ])))))
 
@@ -119,15 +162,14 @@ wide-holds d r a first-of-latency h = either-right _ _ (either-left _ _ h)
 wide-holds d r a second-of-latency h = either-right _ _ (either-right _ _ h)
 
 range-applies : (d : Device) (r : Request) → outOfRange d r ≡ true → OutOfRange d r
-unfolding outOfRange maskNotListed pairsJudged both
-range-applies G (Event c m a) h = ⊎-elim (λ t. absurd (false≢true (both-parts (not (eqb m 0)) (maskNotListed G c m) t .1))) (wide-applies G _ a of-event) (either-cases _ _ h)
-range-applies S (Event c m a) h = ⊎-elim above (wide-applies S _ a of-event) (either-cases _ _ h)
+unfolding outOfRange
+range-applies d (Event c m a) h = ⊎-elim other (wide-applies d _ a of-event) (either-cases _ _ h)
   where
-    above : both (not (eqb m 0)) (maskNotListed S c m) ≡ true → OutOfRange S (Event c m a)
-    above t =
-        let p = both-parts (not (eqb m 0)) (maskNotListed S c m) t in
-        let row = mask-row c m (p .1) in
-        mask-above (row .1) (other-out c m (row .0) (row .1) (row .2) (eqb-false m 0 (not-true _ (p .0))))
+    other : both (not (eqb m 0)) (maskNotListed d c m) ≡ true → OutOfRange d (Event c m a)
+    other t =
+        let p = both-parts (not (eqb m 0)) (maskNotListed d c m) t in
+        let row = mask-row d c m (p .1) in
+        mask-other (row .0) (row .1 .1) (row .1 .2) (eqb-false m 0 (not-true _ (p .0)))
 range-applies d (Packet x y a) h = wide-applies d _ a of-packet h
 range-applies d (Offcore w a) h =
     ⊎-elim (λ t. word-bit (permitted-reserved w (not-true _ t))) (wide-applies d _ a of-offcore) (either-cases _ _ h)
@@ -138,9 +180,8 @@ range-applies d (Latency t a b) h =
 
 range-holds : (d : Device) (r : Request) → OutOfRange d r → outOfRange d r ≡ true
 unfolding outOfRange tooWide
-range-holds d r (mask-above {c = c} {m = m} {masks = masks} row above) =
-    let out = above-out masks m above in
-    either-left _ _ (true-both _ _ (ap not (ne-eqb m 0 (λ e. omega (arith, e, out .1)))) (row-mask c m masks row (out .0)))
+range-holds d r (mask-other {c = c} {m = m} {masks = masks} on row out some) =
+    either-left _ _ (true-both _ _ (ap not (ne-eqb m 0 some)) (row-mask d on c m masks row out))
 range-holds d r (word-bit {w = w} h) = either-left _ _ (ap not (reserved-only rsp0Bits w h))
 range-holds d r (type-bit {t = t} h) = either-left _ _ (ap not (reserved-only typeBits t h))
 range-holds d r (wide-set {a = a} of h) = wide-holds d r a of (lt-ltb _ _ h)
@@ -171,4 +212,6 @@ refused-requests =
       nine = λ d r. (lacks-applies d r, lacks-holds d r);
       ten = λ d r. (range-applies d r, range-holds d r);
       eleven = λ d r. (conflict-applies d r, conflict-holds d r);
+      zero-on-S = zero-on-S;
+      above-on-S = above-on-S;
     }

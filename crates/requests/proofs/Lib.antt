@@ -5,6 +5,8 @@ pub mod MaskTests
 pub mod DeviceNumbers
 pub mod Openings
 pub mod OpeningsTaken
+pub mod CounterSets
+pub mod MaskWords
 pub mod Lookups
 pub mod Roles
 pub mod FirstHolding

@@ -1,53 +1,34 @@
 -- A look-up goes through a catalogue row by row: what is answered so far, with the rows that are left, is the whole answer. Assumes nothing.
 use mathlib.Core.Path.{_≡_, refl, ap, sym, _∙_}
 use mathlib.Core.Bool.{Bool, true, false, not}
-use mathlib.Core.List.{List, _∷_}
-use Prim.Native.Nat.{ℕ, _+_, _<_, _≤_}
+use mathlib.Core.List.{List, [], _∷_}
+use Prim.Native.Nat.{ℕ, _+_, _/_, _<_, _≤_}
 use native.Mathlib.Numerals.{add-one}
 use native.Mathlib.Omega.{arith}
-use lib.Dec.{eqb, leb}
 use lib.ListN.{length, getD, drop, List·getD-map, length-map, drop-of-length-le}
 use lib.Seq.{drop-cons}
-use borrow.Author.Tests.{eq-eqb, ne-eqb, leb-true, leb-false}
+use borrow.Author.Tests.{eq-eqb, ne-eqb}
 use Rattle.requests.specs.Choice.{both, either}
 use Rattle.requests.specs.Devices.{pairsJudged}
-use Rattle.requests.specs.Catalogue.{MaskRule, alone, range, ListedEvent, listed, allows, eventsOf, codeIn, pairIn, maskNotListed}
-use Rattle.requests.specs.Lookup.{lowest, highest, rowOf, rowsOf, rowAllows, noRow, listingOf}
+use Rattle.requests.specs.MaskRules.{among, ListedEvent, listed, allows}
+use Rattle.requests.specs.Catalogue.{eventsOf, codeIn, pairIn, maskNotListed}
+use Rattle.requests.specs.Lookup.{maskRules, sameNumbers, sameRule, placeOf, rowOf, rowsOf, rowAllows, listingOf}
 use Rattle.requests.specs.Checks.{notListed}
 use Rattle.requests.specs.declared.CounterSet.{CounterSet}
 use Rattle.requests.specs.declared.Device.{Device}
-use Rattle.requests.specs.declared.EventRow.{EventRow}
 use Rattle.requests.specs.declared.Listing.{Listing}
 use Rattle.requests.specs.declared.Request.the-variants.{Event}
 use Rattle.requests.proofs.Tests.{either-true, either-false}
-
--- one number alone is a range
-alone-range : (m n : ℕ) → eqb m n ≡ both (leb n m) (leb m n)
-unfolding both
-alone-range m n = go (leb n m) refl (leb m n) refl
-  where
-    go : (a : Bool) → leb n m ≡ a → (b : Bool) → leb m n ≡ b → eqb m n ≡ both a b
-    go true p true q = eq-eqb m n (omega (arith, leb-true n m p, leb-true m n q))
-    go true p false q = ne-eqb m n (λ e. omega (arith, e, leb-false m n q))
-    go false p b q = ne-eqb m n (λ e. omega (arith, e, leb-false n m p))
-
--- a row lists the masks of its event
-row-allows : (e : ListedEvent) (m : ℕ) → allows (e .masks) m ≡ rowAllows (rowOf e) m
-unfolding allows rowAllows rowOf lowest highest
-row-allows e m = go (e .masks)
-  where
-    go : (r : MaskRule) → allows r m ≡ both (leb (lowest r) m) (leb m (highest r))
-    go (alone n) = alone-range m n
-    go (range low high) = refl
+use Rattle.requests.proofs.MaskWords.{row-code, row-allows, events-known}
 
 -- the event of a row
 abbrev pub eventAt : Device → ℕ → ListedEvent
-eventAt d i = getD (eventsOf d) i (listed 0 (alone 0))
+eventAt d i = getD (eventsOf d) i (listed 0 (among []))
 
 -- a row is that of its event
-pub row-event : (d : Device) (i : ℕ) → getD (rowsOf d) i noRow ≡ rowOf (eventAt d i)
-unfolding rowsOf rowOf lowest highest
-row-event d i = List·getD-map rowOf (eventsOf d) i (listed 0 (alone 0))
+pub row-event : (d : Device) (i : ℕ) → getD (rowsOf d) i 0 ≡ rowOf (eventAt d i)
+unfolding rowsOf rowOf maskRules placeOf sameRule sameNumbers
+row-event d i = List·getD-map rowOf (eventsOf d) i (listed 0 (among []))
 
 -- as many rows as events
 pub row-length : (d : Device) → length (rowsOf d) ≡ length (eventsOf d)
@@ -65,31 +46,30 @@ at-start d c m = refl
 
 -- the rows left at i
 left-at : (d : Device) (i : ℕ) → i < length (rowsOf d) → drop i (eventsOf d) ≡ eventAt d i ∷ drop (i + 1) (eventsOf d)
-left-at d i l = rw (add-one, drop-cons (eventsOf d) i (listed 0 (alone 0)) (rw (← row-length d) l))
+left-at d i l = rw (add-one, drop-cons (eventsOf d) i (listed 0 (among [])) (rw (← row-length d) l))
 
-module _ (d : Device) (i c m : ℕ) (b : Bool) (within : i < length (rowsOf d)) (r : EventRow) (read : r ≡ getD (rowsOf d) i noRow) where
+module _ (d : Device) (i c m : ℕ) (fits : m < 256) (b : Bool) (within : i < length (rowsOf d)) (r : ℕ) (read : r ≡ getD (rowsOf d) i 0) where
   abbrev here : r ≡ rowOf (eventAt d i)
   here = read ∙ row-event d i
 
-  code-here : r .0 ≡ eventAt d i .code
-  unfolding rowOf
-  code-here = ap (λ (x : EventRow). x .0) here
+  code-here : r / 16 ≡ eventAt d i .code
+  code-here = ap (λ (x : ℕ). x / 16) here ∙ row-code (eventAt d i) (events-known d i (rw (← row-length d) within))
 
   allows-here : allows (eventAt d i .masks) m ≡ rowAllows r m
-  allows-here = row-allows (eventAt d i) m ∙ ap (λ (x : EventRow). rowAllows x m) (sym here)
+  allows-here = row-allows (eventAt d i) (events-known d i (rw (← row-length d) within)) m fits ∙ ap (λ (x : ℕ). rowAllows x m) (sym here)
 
   -- a row of another code
-  pub other-code : (r .0 ≡ c → ⊥) → listingFrom b (drop i (eventsOf d)) c m ≡ listingFrom b (drop (i + 1) (eventsOf d)) c m
+  pub other-code : (r / 16 ≡ c → ⊥) → listingFrom b (drop i (eventsOf d)) c m ≡ listingFrom b (drop (i + 1) (eventsOf d)) c m
   unfolding codeIn pairIn either both
   other-code f = rw (left-at d i within, ne-eqb c (eventAt d i .code) (λ e. f (code-here ∙ sym e)))
 
   -- a row of the code, without the mask
-  pub other-mask : r .0 ≡ c → rowAllows r m ≡ false → listingFrom b (drop i (eventsOf d)) c m ≡ listingFrom true (drop (i + 1) (eventsOf d)) c m
+  pub other-mask : r / 16 ≡ c → rowAllows r m ≡ false → listingFrom b (drop i (eventsOf d)) c m ≡ listingFrom true (drop (i + 1) (eventsOf d)) c m
   unfolding codeIn pairIn either both
   other-mask e f = rw (left-at d i within, eq-eqb c (eventAt d i .code) (sym e ∙ code-here), allows-here, f, either-true b)
 
   -- a row of the pair
-  pub found : r .0 ≡ c → rowAllows r m ≡ true → listingFrom b (drop i (eventsOf d)) c m ≡ record { code = true; pair = true }
+  pub found : r / 16 ≡ c → rowAllows r m ≡ true → listingFrom b (drop i (eventsOf d)) c m ≡ record { code = true; pair = true }
   unfolding codeIn pairIn either both
   found e t = rw (left-at d i within, eq-eqb c (eventAt d i .code) (sym e ∙ code-here), allows-here, t, either-true b)
 

@@ -1,6 +1,6 @@
 -- The refusals 7 to 11 refuse exactly the requests that the paragraphs do not describe, by the rows that apply to them. Assumes nothing.
 use mathlib.Core.Path.{_≡_, refl, sym, subst, _∙_}
-use mathlib.Core.Logic.{inl, inr}
+use mathlib.Core.Logic.{inl, inr, ⊎-elim}
 use mathlib.Core.Bool.{Bool, true, false}
 use mathlib.Core.List.{List·Memᴰ·head, List·Memᴰ·tail}
 use mathlib.Mathlib.Data.Bool.Basic.{eq-false-of-not-eq-true, eq-true-of-not-eq-false}
@@ -12,8 +12,9 @@ use lib.Dec.{lit<}
 use Rattle.requests.specs.Choice.{either}
 use Rattle.requests.specs.Bits.{bit, inList, anyBit, onlyBits, typeBits, anyResponse, answerBits, outstanding, rsp0Bits, rsp1Bits}
 use Rattle.requests.specs.Devices.{allCounters}
-use Rattle.requests.specs.Catalogue.{MaskRule, range, eventsOf, pairIn}
-use Rattle.requests.specs.RefusedRequests.{Lists, InCatalogue, PairListed, offcore-word, latency-types, AllowedSet, of-event, of-packet, of-offcore, first-of-latency, second-of-latency, KindNotOn, packet-on-G, offcore-on-S, latency-on-S, NotListed, pair, code, Incomplete, mask-0, no-type, no-response, OutOfRange, mask-above, word-bit, type-bit, wide-set, Conflicting, bit-38, bit-16}
+use Rattle.requests.specs.MaskRules.{MaskRule}
+use Rattle.requests.specs.Catalogue.{eventsOf, pairIn}
+use Rattle.requests.specs.RefusedRequests.{Lists, InCatalogue, PairListed, PairsOn, on-G, CodesOn, on-S, offcore-word, latency-types, AllowedSet, of-event, of-packet, of-offcore, first-of-latency, second-of-latency, KindNotOn, no-packet, no-offcore, no-latency, NotListed, pair, code, Incomplete, mask-0, no-type, no-response, OutOfRange, mask-other, word-bit, type-bit, wide-set, Conflicting, bit-38, bit-16}
 use Rattle.requests.specs.WellFormedRequests.{OneResponse, Described, event, packet, offcore, latency, WellFormedRequests}
 use Rattle.requests.specs.declared.CounterSet.{CounterSet}
 use Rattle.requests.specs.declared.Device.{Device}
@@ -24,7 +25,8 @@ use Rattle.requests.specs.declared.Request.the-variants.{Event, Packet, 
 use Rattle.requests.proofs.Tests.{both-ways}
 use Rattle.requests.proofs.BitLists.{only-without, reserved}
 use Rattle.requests.proofs.BitMembers.{any-has, any-of-has, none-has, none-of-has, none-has-more, permitted-reserved, types-reserved, reserved-only}
-use Rattle.requests.proofs.CatalogueRows.{pair-row, row-pair, one-row-on-S, above-out, zero-out, other-out}
+use Rattle.requests.proofs.CatalogueRows.{pair-row, row-pair, one-row-on, judged}
+use Rattle.requests.proofs.ExactRows.{is-s, is-g}
 use Rattle.requests.proofs.Passes.{Passes, passes, formed-by}
 
 -- an allowed set of a request that passes is one of the device's counters
@@ -34,28 +36,33 @@ counters d r a p of = omega (arith, lt-of-not-le (λ l. p .in-range (wide-set of
 -- **event**
 
 pair-listed : (d : Device) (c m : ℕ) (a : CounterSet) → Passes d (Event c m a) → pairIn (eventsOf d) c m ≡ true
-pair-listed G c m a p = eq-true-of-not-eq-false (λ e. p .listed (pair (λ l. both-ways (row-pair (eventsOf G) c m (l .0) (l .1) (l .2)) e)))
-pair-listed S c m a p =
-    eq-true-of-not-eq-false (λ e. p .listed (code (λ row. unlisted (row .0) (row .1) (λ l. both-ways (row-pair (eventsOf S) c m (row .0) (row .1) l) e) (ℕ-discrete m 0))))
+pair-listed d c m a p = eq-true-of-not-eq-false (λ e. ⊎-elim (λ j. unpaired e (j .0)) (λ j. uncoded e (j .0)) (judged d))
   where
-    unlisted : (masks : MaskRule) → InCatalogue S c masks → ¬ Lists masks m → Dec (m ≡ 0) → ⊥
-    unlisted masks row out (yes zero) = (rw zero at p) .complete (mask-0 (zero-out c masks row (rw zero at out)))
-    unlisted masks row out (no other) = p .in-range (mask-above row (other-out c m masks row out other))
+    unpaired : pairIn (eventsOf d) c m ≡ false → PairsOn d → ⊥
+    unpaired e on = p .listed (pair on (λ l. both-ways (row-pair (eventsOf d) c m (l .0) (l .1) (l .2)) e))
+
+    unlisted : CodesOn d → (masks : MaskRule) → InCatalogue d c masks → ¬ Lists masks m → Dec (m ≡ 0) → ⊥
+    unlisted on masks row out (yes zero) = (rw zero at p) .complete (mask-0 on row (rw zero at out))
+    unlisted on masks row out (no other) = p .in-range (mask-other on row out other)
+
+    uncoded : pairIn (eventsOf d) c m ≡ false → CodesOn d → ⊥
+    uncoded e on = p .listed (code on (λ row. unlisted on (row .0) (row .1) (λ l. both-ways (row-pair (eventsOf d) c m (row .0) (row .1) l) e) (ℕ-discrete m 0)))
+
+-- the masks of a listed pair are those of any row with its code
+same-row : (d : Device) (c m : ℕ) → CodesOn d → PairListed d c m → (masks : MaskRule) → InCatalogue d c masks → Lists masks m
+same-row d c m on l masks row = subst (λ (x : MaskRule). Lists x m) (one-row-on d on c (l .0) masks (l .1) row) (l .2)
 
 module _ (c m : ℕ) (a : CounterSet) where
   pair-not-unlisted : (d : Device) → PairListed d c m → ¬ NotListed d (Event c m a)
-  pair-not-unlisted G l (pair none) = none l
-  pair-not-unlisted S l (code none) = none (l .0, l .1)
+  pair-not-unlisted d l (pair on none) = none l
+  pair-not-unlisted d l (code on none) = none (l .0, l .1)
 
   pair-in-range : (d : Device) → PairListed d c m → a .0 ≤ allCounters d → ¬ OutOfRange d (Event c m a)
   pair-in-range d l fits (wide-set of-event wide) = omega (arith, fits, wide)
-  pair-in-range S l fits (mask-above {masks = masks} row above) =
-      above-out masks m above .0 (subst (λ (x : MaskRule). Lists x m) (one-row-on-S c (l .0) masks (l .1) row) (l .2))
+  pair-in-range d l fits (mask-other {masks = masks} on row out some) = out (same-row d c m on l masks row)
 
 pair-complete : (d : Device) (c m : ℕ) (a : CounterSet) → PairListed d c m → ¬ Incomplete d (Event c m a)
-pair-complete S c m a l (mask-0 row) =
-    let zero : Lists (range 1 3) 0 = subst (λ (x : MaskRule). Lists x 0) (one-row-on-S c (l .0) (range 1 3) (l .1) row) (l .2) in
-    omega (arith, zero .0)
+pair-complete d c m a l (mask-0 {masks = masks} on row out) = out (same-row d c 0 on l masks row)
 pair-complete d c m a l (no-type types none) = elim types [ ]
 
 event-passes : (d : Device) (c m : ℕ) (a : CounterSet) → pairIn (eventsOf d) c m ≡ true → a .0 ≤ allCounters d → Passes d (Event c m a)
@@ -71,10 +78,6 @@ event-passes d c m a h fits =
 
 -- **packet**
 
-only-s : (d : Device) (x y : ℕ) (a : CounterSet) → ¬ KindNotOn d (Packet x y a) → d ≡ S
-only-s G x y a h = absurd (h packet-on-G)
-only-s S x y a h = refl
-
 packet-in-range : (d : Device) (x y : ℕ) (a : CounterSet) → a .0 ≤ allCounters d → ¬ OutOfRange d (Packet x y a)
 packet-in-range d x y a fits (wide-set of-packet wide) = omega (arith, fits, wide)
 
@@ -84,7 +87,7 @@ packet-complete d x y a (no-type types none) = elim types [ ]
 packet-passes : (d : Device) (x y : ℕ) (a : CounterSet) → d ≡ S → a .0 ≤ allCounters d → Passes d (Packet x y a)
 packet-passes d x y a on-s fits =
     record {
-      kind = rw on-s (λ h. elim h [ ]);
+      kind = λ h. elim h [ no-packet n ↦ n on-s ];
       listed = λ h. elim h [ ];
       in-range = packet-in-range d x y a fits;
       complete = packet-complete d x y a;
@@ -92,10 +95,6 @@ packet-passes d x y a on-s fits =
     }
 
 -- **offcore**
-
-offcore-on-g : (d : Device) (w : ℕ) (a : CounterSet) → ¬ KindNotOn d (Offcore w a) → d ≡ G
-offcore-on-g G w a h = refl
-offcore-on-g S w a h = absurd (h offcore-on-S)
 
 -- without bit 38, the permitted bits are those of RSP1
 rsp1-bits : (w : ℕ) → bit outstanding w ≡ false → onlyBits rsp0Bits w ≡ onlyBits rsp1Bits w
@@ -109,7 +108,7 @@ no-outstanding w only = reserved rsp1Bits outstanding w (lit< tt) refl only
 
 offcore-described : (s : Setup) (w : ℕ) (a : CounterSet) → Passes (s .device) (Offcore w a) → Described s (Offcore w a)
 offcore-described s w a p =
-    offcore (offcore-on-g _ w a (p .kind)) (sym (rsp1-bits w off) ∙ eq-true-of-not-eq-false (λ e. p .in-range (word-bit (permitted-reserved w e))))
+    offcore (is-g _ (λ n. p .kind (no-offcore n))) (sym (rsp1-bits w off) ∙ eq-true-of-not-eq-false (λ e. p .in-range (word-bit (permitted-reserved w e))))
     (eq-true-of-not-eq-false (λ e. p .complete (no-type offcore-word (none-has typeBits w e))))
     (one (bit anyResponse w) refl (anyBit answerBits w) refl)
     (counters _ _ a p of-offcore)
@@ -141,7 +140,7 @@ module _ (d : Device) (w : ℕ) (a : CounterSet) (only : onlyBits rsp1Bits w ≡
   offcore-passes : d ≡ G → anyBit typeBits w ≡ true → OneResponse w → a .0 ≤ allCounters d → Passes d (Offcore w a)
   offcore-passes on-g types one fits =
       record {
-        kind = rw on-g (λ h. elim h [ ]);
+        kind = λ h. elim h [ no-offcore n ↦ n on-g ];
         listed = λ h. elim h [ ];
         in-range = offcore-in-range fits;
         complete = offcore-complete types one;
@@ -149,10 +148,6 @@ module _ (d : Device) (w : ℕ) (a : CounterSet) (only : onlyBits rsp1Bits w ≡
       }
 
 -- **latency**
-
-latency-on-g : (d : Device) (t : ℕ) (a b : CounterSet) → ¬ KindNotOn d (Latency t a b) → d ≡ G
-latency-on-g G t a b h = refl
-latency-on-g S t a b h = absurd (h latency-on-S)
 
 module _ (d : Device) (t : ℕ) (a b : CounterSet) where
   latency-in-range : onlyBits typeBits t ≡ true → a .0 ≤ allCounters d → b .0 ≤ allCounters d → ¬ OutOfRange d (Latency t a b)
@@ -166,7 +161,7 @@ module _ (d : Device) (t : ℕ) (a b : CounterSet) where
   latency-passes : d ≡ G → onlyBits typeBits t ≡ true → anyBit typeBits t ≡ true → a .0 ≤ allCounters d → b .0 ≤ allCounters d → Passes d (Latency t a b)
   latency-passes on-g only types first second =
       record {
-        kind = rw on-g (λ h. elim h [ ]);
+        kind = λ h. elim h [ no-latency n ↦ n on-g ];
         listed = λ h. elim h [ ];
         in-range = latency-in-range only first second;
         complete = latency-complete types;
@@ -176,10 +171,10 @@ module _ (d : Device) (t : ℕ) (a b : CounterSet) where
 -- both directions
 described : (s : Setup) (r : Request) → Passes (s .device) r → Described s r
 described s (Event c m a) p = event (pair-listed _ c m a p) (counters _ _ a p of-event)
-described s (Packet x y a) p = packet (only-s _ x y a (p .kind)) (counters _ _ a p of-packet)
+described s (Packet x y a) p = packet (is-s _ (λ n. p .kind (no-packet n))) (counters _ _ a p of-packet)
 described s (Offcore w a) p = offcore-described s w a p
 described s (Latency t a b) p =
-    latency (latency-on-g _ t a b (p .kind)) (eq-true-of-not-eq-false (λ e. p .in-range (type-bit (types-reserved t e))))
+    latency (is-g _ (λ n. p .kind (no-latency n))) (eq-true-of-not-eq-false (λ e. p .in-range (type-bit (types-reserved t e))))
     (eq-true-of-not-eq-false (λ e. p .complete (no-type latency-types (none-has typeBits t e))))
     (counters _ _ a p first-of-latency)
     (counters _ _ b p second-of-latency)

@@ -2,30 +2,12 @@
 use mathlib.Core.List.{List, [], _∷_}
 use mathlib.Core.Bool.{Bool, false, not}
 use Prim.Native.Nat.{ℕ}
-use lib.Dec.{leb, eqb}
+use lib.Dec.{eqb}
 use Rattle.requests.specs.Choice.{both, either}
 use Rattle.requests.specs.Devices.{pairsJudged}
+use Rattle.requests.specs.MaskRules.{alone, range, allows, ListedEvent, listed}
 use Rattle.requests.specs.declared.Device.{Device}
 use Rattle.requests.specs.declared.Device.the-variants.{G, S}
-
--- the unit masks listed for a code: one alone, or a range
-pub data MaskRule : Type 0 where
-  alone : ℕ → MaskRule
-  range : ℕ → ℕ → MaskRule
-
--- whether the rule lists the mask
-unfoldable pub allows : MaskRule → ℕ → Bool
-allows (alone n) m = eqb m n
-allows (range low high) m = both (leb low m) (leb m high)
-
--- a row of a catalogue: a code, and the unit masks listed for it
-pub record ListedEvent : Type 0 where
-  pub code : ℕ
-  pub masks : MaskRule
-
--- a code with its masks
-abbrev pub listed : ℕ → MaskRule → ListedEvent
-listed c r = record { code = c; masks = r }
 
 -- the listed events of a device
 unfoldable pub eventsOf : Device → List ListedEvent

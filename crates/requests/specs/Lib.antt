@@ -2,6 +2,8 @@
 pub mod Refusals
 pub mod Bits
 pub mod Devices
+pub mod MaskRules
+pub mod CBoxEvents
 pub mod Catalogue
 pub mod Checks
 -- Statements: what is claimed of it.
@@ -11,5 +13,6 @@ pub mod WellFormedRequests
 pub mod Examples
 -- The code's own: how it holds its values. No claim.
 pub mod Choice
+pub mod BitSets
 pub mod Masks
 pub mod Lookup

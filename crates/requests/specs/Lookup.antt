@@ -1,39 +1,83 @@
 -- The catalogues as rows of numbers, and what a look-up answers.
-use mathlib.Core.List.{List, map}
-use mathlib.Core.Bool.{Bool}
-use Prim.Native.Nat.{ℕ}
-use lib.Dec.{leb}
+use mathlib.Core.List.{List, [], _∷_, map}
+use mathlib.Core.Bool.{Bool, true, false}
+use Prim.Native.Nat.{ℕ, suc, _+_, _*_, _/_, _%_}
+use lib.Dec.{eqb}
+use lib.ListN.{getD}
 use Rattle.requests.specs.Choice.{both}
-use Rattle.requests.specs.Catalogue.{MaskRule, alone, range, ListedEvent, eventsOf, codeIn, pairIn}
+use Rattle.requests.specs.Bits.{bit}
+use Rattle.requests.specs.BitSets.{setFrom}
+use Rattle.requests.specs.MaskRules.{MaskRule, alone, range, among, allows, ListedEvent}
+use Rattle.requests.specs.CBoxEvents.{sinkMasks, ringMasks, starvedMasks, bypassMasks}
+use Rattle.requests.specs.Catalogue.{eventsOf, codeIn, pairIn}
 use Rattle.requests.specs.declared.Device.{Device}
-use Rattle.requests.specs.declared.EventRow.{EventRow}
 use Rattle.requests.specs.declared.Listing.{Listing}
 
--- the lowest mask of a rule
-unfoldable pub lowest : MaskRule → ℕ
-lowest (alone n) = n
-lowest (range low high) = low
+-- the mask rules of all catalogues, sixteen places: a rule's number is its place
+unfoldable pub maskRules : List MaskRule
+maskRules =
+    among []
+    ∷ alone 0
+    ∷ range 1 3
+    ∷ among sinkMasks
+    ∷ among ringMasks
+    ∷ among starvedMasks
+    ∷ among bypassMasks
+    ∷ range 1 7
+    ∷ range 1 0xF
+    ∷ range 1 0x1F
+    ∷ range 1 0xFF
+    ∷ alone 0x01
+    ∷ alone 0x4F
+    ∷ alone 0x41
+    ∷ among []
+    ∷ among []
+    ∷ []
 
--- the highest mask of a rule
-unfoldable pub highest : MaskRule → ℕ
-highest (alone n) = n
-highest (range low high) = high
+-- whether two lists have the same numbers in the same order
+unfoldable pub sameNumbers : List ℕ → List ℕ → Bool
+sameNumbers [] [] = true
+sameNumbers (n ∷ ns) (m ∷ ms) = both (eqb n m) (sameNumbers ns ms)
+sameNumbers [] (m ∷ ms) = false
+sameNumbers (n ∷ ns) [] = false
 
--- a listed event as a row
-unfoldable pub rowOf : ListedEvent → EventRow
-rowOf e = record { 0 = e .code; 1 = lowest (e .masks); 2 = highest (e .masks) }
+-- whether two rules are the same
+unfoldable pub sameRule : MaskRule → MaskRule → Bool
+sameRule (alone n) (alone m) = eqb n m
+sameRule (range l h) (range k g) = both (eqb l k) (eqb h g)
+sameRule (among ns) (among ms) = sameNumbers ns ms
+sameRule (alone n) (range k g) = false
+sameRule (alone n) (among ms) = false
+sameRule (range l h) (alone m) = false
+sameRule (range l h) (among ms) = false
+sameRule (among ns) (alone m) = false
+sameRule (among ns) (range k g) = false
+
+-- the place of a rule in a list
+unfoldable pub placeOf : List MaskRule → MaskRule → ℕ
+placeOf [] r = 0
+placeOf (q ∷ qs) r = elim (sameRule q r) [ true ↦ 0 | false ↦ suc (placeOf qs r) ]
+
+-- a listed event as a row: in hexadecimal two digits for the code, one for the number of its rule
+unfoldable pub rowOf : ListedEvent → ℕ
+rowOf e = 16 * e .code + placeOf maskRules (e .masks)
 
 -- the rows of a device
-unfoldable pub rowsOf : Device → List EventRow
+unfoldable pub rowsOf : Device → List ℕ
 rowsOf d = map rowOf (eventsOf d)
 
--- whether the row lists the mask
-unfoldable pub rowAllows : EventRow → ℕ → Bool
-rowAllows r m = both (leb (r .1) m) (leb m (r .2))
+-- the masks from 64 i to 64 i + 63 that a rule lists, as the bits of a word
+unfoldable pub masksFrom : MaskRule → ℕ → ℕ
+masksFrom r i = setFrom 64 (64 * i) (allows r)
 
--- the row past the last
-abbrev pub noRow : EventRow
-noRow = record { 0 = 0; 1 = 0; 2 = 0 }
+-- four words a rule
+unfoldable pub wordsFor : List MaskRule → List ℕ
+wordsFor [] = []
+wordsFor (r ∷ rs) = masksFrom r 0 ∷ masksFrom r 1 ∷ masksFrom r 2 ∷ masksFrom r 3 ∷ wordsFor rs
+
+-- whether the row lists the mask
+unfoldable pub rowAllows : ℕ → ℕ → Bool
+rowAllows r m = bit (m % 64) (getD (wordsFor maskRules) (4 * (r % 16) + m / 64) 0)
 
 -- what the device's catalogue lists of a code and a mask
 unfoldable pub listingOf : Device → ℕ → ℕ → Listing

@@ -6,7 +6,8 @@ use mathlib.Core.Bool.{true, false}
 use Prim.Native.Nat.{ℕ, _≤_, _<_}
 use Rattle.requests.specs.Bits.{bit, typeBits, anyResponse, answerBits, outstanding, rsp0Bits}
 use Rattle.requests.specs.Devices.{allCounters}
-use Rattle.requests.specs.Catalogue.{MaskRule, alone, range, listed, eventsOf}
+use Rattle.requests.specs.MaskRules.{MaskRule, alone, range, among, listed}
+use Rattle.requests.specs.Catalogue.{eventsOf}
 use Rattle.requests.specs.Checks.{kindNotOn, notListed, incomplete, outOfRange, conflicting}
 use Rattle.requests.specs.declared.CounterSet.{CounterSet}
 use Rattle.requests.specs.declared.Device.{Device}
@@ -30,11 +31,13 @@ HasReserved ks w = (k : ℕ) × (¬ List·Memᴰ k ks) × (bit k w ≡ true)
 abbrev pub Lists : MaskRule → ℕ → Type 0
 Lists (alone n) m = m ≡ n
 Lists (range low high) m = (low ≤ m) × (m ≤ high)
+Lists (among ms) m = List·Memᴰ m ms
 
 -- the mask is above all that the rule lists
 abbrev pub Above : MaskRule → ℕ → Type 0
 Above (alone n) m = n < m
 Above (range low high) m = high < m
+Above (among ms) m = (n : ℕ) → List·Memᴰ n ms → n < m
 
 -- the device's catalogue has the code, in a row with these masks
 abbrev pub InCatalogue : Device → ℕ → MaskRule → Type 0
@@ -47,6 +50,14 @@ CodeListed d c = (masks : MaskRule) × InCatalogue d c masks
 -- it has the code with the mask
 abbrev pub PairListed : Device → ℕ → ℕ → Type 0
 PairListed d c m = (masks : MaskRule) × InCatalogue d c masks × Lists masks m
+
+-- where the pair of code and mask is listed as one
+pub data PairsOn : Device → Type 0 where
+  on-G : PairsOn G
+
+-- where a listed code has its own masks
+pub data CodesOn : Device → Type 0 where
+  on-S : CodesOn S
 
 -- the word that holds the request types of a request
 pub data TypesIn : Request → ℕ → Type 0 where
@@ -63,23 +74,23 @@ pub data AllowedSet : Request → CounterSet → Type 0 where
 
 -- 7: "request kind not on this device"
 pub data KindNotOn : Device → Request → Type 0 where
-  -- packet: "S only"
-  packet-on-G : {x y : ℕ} {a : CounterSet} → KindNotOn G (Packet x y a)
-  -- offcore, latency: "G only"
-  offcore-on-S : {w : ℕ} {a : CounterSet} → KindNotOn S (Offcore w a)
-  latency-on-S : {t : ℕ} {a b : CounterSet} → KindNotOn S (Latency t a b)
+  -- "S only"
+  no-packet : {d : Device} {x y : ℕ} {a : CounterSet} → ¬ (d ≡ S) → KindNotOn d (Packet x y a)
+  -- "G only"
+  no-offcore : {d : Device} {w : ℕ} {a : CounterSet} → ¬ (d ≡ G) → KindNotOn d (Offcore w a)
+  no-latency : {d : Device} {t : ℕ} {a b : CounterSet} → ¬ (d ≡ G) → KindNotOn d (Latency t a b)
 
 -- 8
 pub data NotListed : Device → Request → Type 0 where
   -- "G: pair not listed"
-  pair : {c m : ℕ} {a : CounterSet} → ¬ PairListed G c m → NotListed G (Event c m a)
+  pair : {d : Device} {c m : ℕ} {a : CounterSet} → PairsOn d → ¬ PairListed d c m → NotListed d (Event c m a)
   -- "S: code not listed"
-  code : {c m : ℕ} {a : CounterSet} → ¬ CodeListed S c → NotListed S (Event c m a)
+  code : {d : Device} {c m : ℕ} {a : CounterSet} → CodesOn d → ¬ CodeListed d c → NotListed d (Event c m a)
 
 -- 9
 pub data Incomplete : Device → Request → Type 0 where
-  -- "S: mask 0 where 1..3 is listed"
-  mask-0 : {c : ℕ} {a : CounterSet} → InCatalogue S c (range 1 3) → Incomplete S (Event c 0 a)
+  -- mask 0 where others are listed: `RefusedRequests.zero-on-S` has the words of S
+  mask-0 : {d : Device} {c : ℕ} {masks : MaskRule} {a : CounterSet} → CodesOn d → InCatalogue d c masks → ¬ Lists masks 0 → Incomplete d (Event c 0 a)
   -- "no request type"
   no-type : {d : Device} {r : Request} {w : ℕ} → TypesIn r w → HasNone typeBits w → Incomplete d r
   -- "offcore with neither response bit nor bit 38"
@@ -87,8 +98,8 @@ pub data Incomplete : Device → Request → Type 0 where
 
 -- 10
 pub data OutOfRange : Device → Request → Type 0 where
-  -- "S: mask above the listed range"
-  mask-above : {c m : ℕ} {masks : MaskRule} {a : CounterSet} → InCatalogue S c masks → Above masks m → OutOfRange S (Event c m a)
+  -- another mask that is not listed: `RefusedRequests.above-on-S` has the words of S
+  mask-other : {d : Device} {c m : ℕ} {masks : MaskRule} {a : CounterSet} → CodesOn d → InCatalogue d c masks → ¬ Lists masks m → ¬ (m ≡ 0) → OutOfRange d (Event c m a)
   -- "reserved word .. bit"
   word-bit : {d : Device} {w : ℕ} {a : CounterSet} → HasReserved rsp0Bits w → OutOfRange d (Offcore w a)
   -- "reserved .. type bit"
@@ -109,3 +120,7 @@ pub record RefusedRequests : Type 0 where
   pub nine : (d : Device) (r : Request) → (incomplete d r ≡ true) ↔ Incomplete d r
   pub ten : (d : Device) (r : Request) → (outOfRange d r ≡ true) ↔ OutOfRange d r
   pub eleven : (d : Device) (r : Request) → (conflicting d r ≡ true) ↔ Conflicting d r
+  -- "S: mask 0 where 1..3 is listed"
+  pub zero-on-S : (c : ℕ) (masks : MaskRule) → InCatalogue S c masks → ¬ Lists masks 0 → masks ≡ range 1 3
+  -- "S: mask above the listed range"
+  pub above-on-S : (c m : ℕ) (masks : MaskRule) → InCatalogue S c masks → ¬ Lists masks m → ¬ (m ≡ 0) → Above masks m

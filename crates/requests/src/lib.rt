@@ -3,6 +3,7 @@ pub mod bits;
 pub mod catalogue;
 pub mod check;
 pub mod devices;
+mod mask_rules;
 pub mod refusals;
 pub mod set;
 
@@ -57,9 +58,6 @@ pub enum Request {
         second: CounterSet,
     },
 }
-
-// A row of an event catalogue: the code, the lowest and the highest unit mask listed for it.
-pub struct EventRow(pub u8, pub u8, pub u8);
 
 // What a catalogue lists of a code and a unit mask: the code, and the two as a pair.
 pub struct Listing {

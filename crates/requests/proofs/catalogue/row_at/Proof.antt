@@ -3,32 +3,34 @@
 use mathlib.Core.Path.{refl}
 use native.Mathlib.Omega.{arith}
 use borrow.Author.Needs.{needs}
+use Rattle.requests.specs.Choice.{both}
+use Rattle.requests.specs.CBoxEvents.{sinkMasks, ringMasks, starvedMasks, bypassMasks}
 use Rattle.requests.specs.Catalogue.{eventsOf}
-use Rattle.requests.specs.Lookup.{lowest, highest, rowOf, rowsOf}
+use Rattle.requests.specs.Lookup.{maskRules, sameNumbers, sameRule, placeOf, rowOf, rowsOf}
 use Rattle.requests.proofs.catalogue.row_at.Statement.{statement}
 use Rattle.requests.proofs.catalogue.row_at.Tie as tie
 
-array-copy-out-result : tie.Need-array-copy-out-result
+array-read-result : tie.Need-array-read-result
 unfolding rowsOf eventsOf
-array-copy-out-result c = rw (c .enum-told .given .1) at (c .before .before .pre)
+array-read-result c = rw (c .enum-told .given .1) at (c .before .before .pre)
 
-array-copy-out-result-2 : tie.Need-array-copy-out-result-2
+array-read-result-2 : tie.Need-array-read-result-2
 unfolding rowsOf eventsOf
-array-copy-out-result-2 c = rw (c .enum-told2 .given .1) at (c .before .before .pre)
+array-read-result-2 c = rw (c .enum-told2 .given .1) at (c .before .before .pre)
 
 mul-result : tie.Need-mul-result
-mul-result c = record { fits = omega (arith, array-copy-out-result c) }
+mul-result c = record { fits = omega (arith, array-read-result c) }
 
 mul-result-2 : tie.Need-mul-result-2
-mul-result-2 c = record { fits = omega (arith, array-copy-out-result-2 c) }
+mul-result-2 c = record { fits = omega (arith, array-read-result-2 c) }
 
 returns : tie.Need-returns
-unfolding rowsOf rowOf eventsOf lowest highest
-returns c = rw (c .before .enum-told .given .1) refl
+unfolding rowsOf rowOf eventsOf maskRules placeOf sameRule sameNumbers both sinkMasks ringMasks starvedMasks bypassMasks
+returns c = rw (c .enum-told .given .1) refl
 
 returns-2 : tie.Need-returns-2
-unfolding rowsOf rowOf eventsOf lowest highest
-returns-2 c = rw (c .before .enum-told2 .given .1) refl
+unfolding rowsOf rowOf eventsOf maskRules placeOf sameRule sameNumbers both sinkMasks ringMasks starvedMasks bypassMasks
+returns-2 c = rw (c .enum-told2 .given .1) refl
 
 pub row-at-spec : {M : Type 1} → statement M
 row-at-spec =
@@ -36,9 +38,9 @@ row-at-spec =
     (tie.spec
     (λ c. search needs)
     mul-result
-    array-copy-out-result
+    array-read-result
     (λ c. search needs)
     mul-result-2
-    array-copy-out-result-2
+    array-read-result-2
     returns
     returns-2)

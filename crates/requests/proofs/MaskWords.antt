@@ -1,0 +1,133 @@
+-- Rows as numbers: a row gives back its event's code, and the words of its rule have the masks that the event lists. Assumes nothing.
+use mathlib.Core.Path.{_≡_, refl, ap, ap₂, sym, _∙_}
+use mathlib.Core.Bool.{Bool, true, false, false≢true}
+use mathlib.Core.List.{List, [], _∷_}
+use Prim.Native.Nat.{ℕ, zero, suc, _+_, _*_, _/_, _%_, _<_}
+use native.Mathlib.Omega.{arith}
+use lib.ListN.{length, getD}
+use borrow.Author.Tests.{eqb-true}
+use Rattle.requests.specs.Choice.{both, either}
+use Rattle.requests.specs.Bits.{bit}
+use Rattle.requests.specs.MaskRules.{MaskRule, alone, range, among, ListedEvent, listed, allows}
+use Rattle.requests.specs.CBoxEvents.{sinkMasks, ringMasks, starvedMasks, bypassMasks}
+use Rattle.requests.specs.Catalogue.{eventsOf}
+use Rattle.requests.specs.Lookup.{maskRules, sameNumbers, sameRule, placeOf, rowOf, masksFrom, wordsFor, rowAllows}
+use Rattle.requests.specs.declared.Device.{Device}
+use Rattle.requests.specs.declared.Device.the-variants.{G, S}
+use Rattle.requests.proofs.Tests.{both-parts}
+use Rattle.requests.proofs.CounterSets.{bit-set}
+
+-- ---- rules
+
+same-numbers : (ns ms : List ℕ) → sameNumbers ns ms ≡ true → ns ≡ ms
+unfolding sameNumbers
+same-numbers [] [] h = refl
+same-numbers (n ∷ ns) (m ∷ ms) h = let p = both-parts _ _ h in ap₂ (λ (x : ℕ) (xs : List ℕ). x ∷ xs) (eqb-true n m (p .0)) (same-numbers ns ms (p .1))
+same-numbers [] (m ∷ ms) h = absurd (false≢true h)
+same-numbers (n ∷ ns) [] h = absurd (false≢true h)
+
+same-rule : (q r : MaskRule) → sameRule q r ≡ true → q ≡ r
+unfolding sameRule
+same-rule (alone n) (alone m) h = ap alone (eqb-true n m h)
+same-rule (range l g) (range k f) h = let p = both-parts _ _ h in ap₂ range (eqb-true l k (p .0)) (eqb-true g f (p .1))
+same-rule (among ns) (among ms) h = ap among (same-numbers ns ms h)
+same-rule (alone n) (range k g) h = absurd (false≢true h)
+same-rule (alone n) (among ms) h = absurd (false≢true h)
+same-rule (range l g) (alone m) h = absurd (false≢true h)
+same-rule (range l g) (among ms) h = absurd (false≢true h)
+same-rule (among ns) (alone m) h = absurd (false≢true h)
+same-rule (among ns) (range k g) h = absurd (false≢true h)
+
+-- whether the list has the rule
+unfoldable pub hasRule : List MaskRule → MaskRule → Bool
+hasRule [] r = false
+hasRule (q ∷ qs) r = either (sameRule q r) (hasRule qs r)
+
+-- the place of the first rule, and of one behind it
+place-here : (q : MaskRule) (qs : List MaskRule) (r : MaskRule) → sameRule q r ≡ true → placeOf (q ∷ qs) r ≡ 0
+unfolding placeOf
+place-here q qs r e = rw (e, placeOf)
+
+place-behind : (q : MaskRule) (qs : List MaskRule) (r : MaskRule) → sameRule q r ≡ false → placeOf (q ∷ qs) r ≡ suc (placeOf qs r)
+unfolding placeOf
+place-behind q qs r e = rw (e, placeOf)
+
+-- a rule of the list has a place in it
+place-below : (qs : List MaskRule) (r : MaskRule) → hasRule qs r ≡ true → placeOf qs r < length qs
+unfolding hasRule either
+place-below [] r h = absurd (false≢true h)
+place-below (q ∷ qs) r h = go (sameRule q r) refl h (place-below qs r)
+  where
+    go : (b : Bool) → sameRule q r ≡ b → either b (hasRule qs r) ≡ true → (hasRule qs r ≡ true → placeOf qs r < length qs) → placeOf (q ∷ qs) r < suc (length qs)
+    go true e k later = rw (place-here q qs r e) (omega arith)
+    go false e k later = rw (place-behind q qs r e) (omega (arith, later k))
+
+-- and there are its words
+word-at : (qs : List MaskRule) (r : MaskRule) → hasRule qs r ≡ true → (k : ℕ) → k < 4 → getD (wordsFor qs) (4 * placeOf qs r + k) 0 ≡ masksFrom r k
+unfolding hasRule either wordsFor
+word-at [] r h k l = absurd (false≢true h)
+word-at (q ∷ qs) r h k l = go (sameRule q r) refl h (λ t. word-at qs r t k l)
+  where
+    first : (k : ℕ) → k < 4 → getD (wordsFor (q ∷ qs)) k 0 ≡ masksFrom q k
+    first zero l = refl
+    first (suc zero) l = refl
+    first (suc (suc zero)) l = refl
+    first (suc (suc (suc zero))) l = refl
+    first (suc (suc (suc (suc k)))) l = absurd (omega arith)
+
+    go : (b : Bool) → sameRule q r ≡ b → either b (hasRule qs r) ≡ true → (hasRule qs r ≡ true → getD (wordsFor qs) (4 * placeOf qs r + k) 0 ≡ masksFrom r k)
+        → getD (wordsFor (q ∷ qs)) (4 * placeOf (q ∷ qs) r + k) 0 ≡ masksFrom r k
+    go true e t later =
+        let start : 4 * 0 + k ≡ k = omega arith in
+        rw (place-here q qs r e, start, ← same-rule q r e) (first k l)
+    go false e t later =
+        let past : 4 * suc (placeOf qs r) + k ≡ suc (suc (suc (suc (4 * placeOf qs r + k)))) = omega arith in
+        rw (place-behind q qs r e, past) (later t)
+
+-- ---- events
+
+-- whether the rules have that of each event
+unfoldable allKnown : List ListedEvent → Bool
+allKnown [] = true
+allKnown (e ∷ es) = both (hasRule maskRules (e .masks)) (allKnown es)
+
+known-at : (es : List ListedEvent) → allKnown es ≡ true → (i : ℕ) (x : ListedEvent) → i < length es → hasRule maskRules (getD es i x .masks) ≡ true
+unfolding allKnown
+known-at [] h i x l = absurd (omega arith)
+known-at (e ∷ es) h zero x l = both-parts _ _ h .0
+known-at (e ∷ es) h (suc i) x l = known-at es (both-parts _ _ h .1) i x (omega arith)
+
+device-known : (d : Device) → allKnown (eventsOf d) ≡ true
+unfolding allKnown eventsOf hasRule maskRules sameRule sameNumbers both either sinkMasks ringMasks starvedMasks bypassMasks
+device-known G = refl
+device-known S = refl
+
+-- the rule of an event in a device's catalogue has a number
+abbrev pub Known : ListedEvent → Type 0
+Known e = hasRule maskRules (e .masks) ≡ true
+
+pub events-known : (d : Device) (i : ℕ) → i < length (eventsOf d) → Known (getD (eventsOf d) i (listed 0 (among [])))
+events-known d i l = known-at (eventsOf d) (device-known d) i (listed 0 (among [])) l
+
+place-digit : (e : ListedEvent) → Known e → placeOf maskRules (e .masks) < 16
+unfolding maskRules
+place-digit e h = place-below maskRules (e .masks) h
+
+-- the code of a row
+pub row-code : (e : ListedEvent) → Known e → rowOf e / 16 ≡ e .code
+unfolding rowOf
+row-code e h = omega (arith, place-digit e h)
+
+-- a bit of the words of a rule
+mask-bit : (r : MaskRule) (m : ℕ) → bit (m % 64) (masksFrom r (m / 64)) ≡ allows r m
+unfolding masksFrom
+mask-bit r m =
+    let here : 64 * (m / 64) + m % 64 ≡ m = omega arith in
+    rw here at (bit-set 64 (64 * (m / 64)) (m % 64) (allows r) (omega arith))
+
+-- a row lists the masks of its event
+pub row-allows : (e : ListedEvent) → Known e → (m : ℕ) → m < 256 → allows (e .masks) m ≡ rowAllows (rowOf e) m
+unfolding rowAllows rowOf
+row-allows e h m fits =
+    let digit : (16 * e .code + placeOf maskRules (e .masks)) % 16 ≡ placeOf maskRules (e .masks) = omega (arith, place-digit e h) in
+    rw (digit, word-at maskRules (e .masks) h (m / 64) (omega arith)) (sym (mask-bit (e .masks) m))
