@@ -16,5 +16,6 @@ pub mod CatalogueRows
 pub mod ExactRows
 pub mod Passes
 pub mod WellFormed
+pub mod CBoxPages
 pub mod Sizes
 pub mod Windows

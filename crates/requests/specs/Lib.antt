@@ -10,6 +10,7 @@ pub mod Checks
 pub mod Openings
 pub mod RefusedRequests
 pub mod WellFormedRequests
+pub mod CBoxPages
 pub mod Examples
 -- The code's own: how it holds its values. No claim.
 pub mod Choice
