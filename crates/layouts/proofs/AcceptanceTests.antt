@@ -4,10 +4,11 @@ use mathlib.Core.Option.{some}
 use mathlib.Core.List.{flatMap, map}
 use Rattle.requests.specs.BitSets.{setFrom}
 use Rattle.requests.specs.Bits.{bit, inList, anyBit, onlyBits, typeBits, anyResponse, answerBits, outstanding, rsp1Bits, rsp0Bits, latencyWord}
+use Rattle.requests.specs.CBoxEvents.{sinkMasks, ringMasks, starvedMasks, bypassMasks, cboxEvents}
 use Rattle.requests.specs.Catalogue.{eventsOf, codeIn, pairIn, maskNotListed}
 use Rattle.requests.specs.Checks.{kindNotOn, notListed, tooWide, outOfRange, incomplete, conflicting, requestRows, requestRefusal, formed}
 use Rattle.requests.specs.Choice.{both, either, every, firstHolding}
-use Rattle.requests.specs.Devices.{has, capacity, counterCount, allCounters, fixedCount, allFixed, letterOf, devices, named, deviceOf, packetsOn, offcoreOn, pairsJudged, usableSet, opens, setupOn, setupOf}
+use Rattle.requests.specs.Devices.{has, capacity, counterCount, allCounters, fixedCount, allFixed, letterOf, boxCount, devices, named, deviceOf, packetsOn, offcoreOn, pairsJudged, usableSet, opens, setupOn, setupOf}
 use Rattle.requests.specs.MaskRules.{allows}
 use Rattle.requests.specs.Refusals.{numberOf, answerNumber}
 use Rattle.plans.specs.Legal.{wordsOf, packetsOf, ofAll, counters}
@@ -24,11 +25,11 @@ unfolding flatMap setFrom bit inList anyResponse outstanding latencyWord either 
 written = refl
 
 told-as : map (λ (e : AcceptedAs). toldBy (readingFor (e .given))) acceptances ≡ map tellsOf acceptances
-unfolding setFrom bit inList anyBit onlyBits typeBits anyResponse answerBits outstanding rsp1Bits rsp0Bits latencyWord eventsOf codeIn pairIn maskNotListed kindNotOn notListed tooWide outOfRange incomplete conflicting requestRows requestRefusal formed both either every firstHolding has capacity counterCount allCounters fixedCount allFixed letterOf devices named deviceOf packetsOn offcoreOn pairsJudged usableSet opens setupOn setupOf allows readingFor acceptances tellsOf tabulate mmEnable enabled eventWord codeOf maskOf offcoreCode rspMask rspWord packetWord ours count filterWord controlFits rsp1Fits latencyFits rsp0Fits filtersFit accepts filterOf tell readingOf refusedReading readOf told toldBy unusable fixedAt fixedEnables firstGlobal lastGlobal
+unfolding setFrom bit inList anyBit onlyBits typeBits anyResponse answerBits outstanding rsp1Bits rsp0Bits latencyWord sinkMasks ringMasks starvedMasks bypassMasks cboxEvents eventsOf codeIn pairIn maskNotListed kindNotOn notListed tooWide outOfRange incomplete conflicting requestRows requestRefusal formed both either every firstHolding has capacity counterCount allCounters fixedCount allFixed letterOf boxCount devices named deviceOf packetsOn offcoreOn pairsJudged usableSet opens setupOn setupOf allows readingFor acceptances tellsOf tabulate mmEnable enabled eventWord codeOf maskOf offcoreCode rspMask rspWord packetWord ours count filterWord controlFits rsp1Fits latencyFits rsp0Fits filtersFit accepts filterOf tell readingOf refusedReading readOf told toldBy unusable fixedAt fixedEnables firstGlobal lastGlobal
 told-as = refl
 
 numbered : map (λ (e : RefusedAs). answerNumber (readingFor (e .given) .answer)) refusals ≡ map (λ (e : RefusedAs). some (e .number)) refusals
-unfolding setFrom bit inList anyBit onlyBits typeBits anyResponse answerBits outstanding rsp1Bits rsp0Bits latencyWord eventsOf codeIn pairIn maskNotListed kindNotOn notListed tooWide outOfRange incomplete conflicting requestRows requestRefusal formed both either every firstHolding has capacity counterCount allCounters fixedCount allFixed letterOf devices named deviceOf packetsOn offcoreOn pairsJudged usableSet opens setupOn setupOf allows numberOf answerNumber readingFor refusals tabulate mmEnable enabled eventWord codeOf maskOf offcoreCode rspMask rspWord packetWord ours count filterWord controlFits rsp1Fits latencyFits rsp0Fits filtersFit accepts filterOf tell readingOf refusedReading readOf unusable fixedAt fixedEnables firstGlobal lastGlobal
+unfolding setFrom bit inList anyBit onlyBits typeBits anyResponse answerBits outstanding rsp1Bits rsp0Bits latencyWord sinkMasks ringMasks starvedMasks bypassMasks cboxEvents eventsOf codeIn pairIn maskNotListed kindNotOn notListed tooWide outOfRange incomplete conflicting requestRows requestRefusal formed both either every firstHolding has capacity counterCount allCounters fixedCount allFixed letterOf boxCount devices named deviceOf packetsOn offcoreOn pairsJudged usableSet opens setupOn setupOf allows numberOf answerNumber readingFor refusals tabulate mmEnable enabled eventWord codeOf maskOf offcoreCode rspMask rspWord packetWord ours count filterWord controlFits rsp1Fits latencyFits rsp0Fits filtersFit accepts filterOf tell readingOf refusedReading readOf unusable fixedAt fixedEnables firstGlobal lastGlobal
 numbered = refl
 
 pub examples-hold : Examples

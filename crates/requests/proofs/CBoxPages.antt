@@ -4,18 +4,27 @@
 use mathlib.Core.Path.{_≡_, refl, ap, ap₂, sym, _∙_}
 use mathlib.Core.Logic.{_↔_, ⊎-elim}
 use mathlib.Core.Bool.{Bool, true, false, not, false≢true}
+use mathlib.Core.Option.{Option, none, some}
+use mathlib.Mathlib.Data.Bool.Basic.{eq-false-of-not-eq-true}
 use mathlib.Core.List.{List, [], _∷_, List·Memᴰ, List·Memᴰ·head, List·Memᴰ·tail}
-use Prim.Native.Nat.{ℕ, _<_}
+use Prim.Native.Nat.{ℕ, _≤_, _<_}
 use lib.Dec.{leb, eqb}
-use borrow.Author.Tests.{eqb-true, eq-eqb, not-true}
-use Rattle.requests.specs.Choice.{both, either, every}
+use borrow.Author.Tests.{eqb-true, eq-eqb, ne-eqb, le-ltb, not-true}
+use Rattle.requests.specs.Choice.{both, either, every, firstHolding}
 use Rattle.requests.specs.Bits.{bit, inList}
+use Rattle.requests.specs.Refusals.{numberOf, answerFor, answerNumber}
+use Rattle.requests.specs.Devices.{counterCount, allCounters, pairsJudged}
 use Rattle.requests.specs.MaskRules.{ListedEvent, allows}
 use Rattle.requests.specs.CBoxEvents.{sinkMasks, ringMasks, starvedMasks, bypassMasks, cboxEvents}
-use Rattle.requests.specs.Catalogue.{codeIn, pairIn}
-use Rattle.requests.specs.CBoxPages.{PrintedBit, O, I, x, Pattern, b, Printed, no-masks, masks, Page, page, twoWays, threeSinks, rings, egresses, bypasses, misses, fills, victims, snoopHits, pages, StandsFor, zero, one, any, Agrees, bits, Paged, Accepted, alone, listed, CBoxPages}
+use Rattle.requests.specs.Catalogue.{eventsOf, codeIn, pairIn, maskNotListed}
+use Rattle.requests.specs.Checks.{kindNotOn, notListed, tooWide, outOfRange, incomplete, conflicting, requestRows, requestRefusal}
+use Rattle.requests.specs.CBoxPages.{PrintedBit, O, I, x, Pattern, b, Printed, no-masks, masks, Page, page, twoWays, threeSinks, rings, egresses, bypasses, misses, fills, victims, snoopHits, pages, StandsFor, zero, one, any, Agrees, bits, Paged, Accepted, alone, listed, Asked, eventNumber, CBoxPages}
+use Rattle.requests.specs.declared.CounterSet.{CounterSet}
+use Rattle.requests.specs.declared.Device.the-variants.{C}
+use Rattle.requests.specs.declared.Setup.{Setup}
 use Rattle.requests.proofs.Tests.{both-parts, true-both, either-cases, either-left, either-right, every-at}
 use Rattle.requests.proofs.Words.{same}
+use Rattle.requests.proofs.CatalogueRows.{row-code, pair-row}
 
 -- ---- printed masks as tests
 
@@ -168,11 +177,74 @@ unfolding prints
 accepts c m (alone r) = page-printed pages c 0 no-masks r refl
 accepts c m (listed {rows = ps} {p = p} r q a) = page-printed pages c m (masks ps) r (agrees-some ps p m q a)
 
+codes : (n c : ℕ) → (codeIn (eventsOf (C n)) c ≡ true) ↔ Paged c
+unfolding eventsOf
+codes n c = let e = same-codes pages cboxEvents as-printed c in (λ h. paged-page pages c (sym e ∙ h), λ f. e ∙ page-paged pages c (f .0) (f .1))
+
+pairs : (n c m : ℕ) → m < 256 → (pairIn (eventsOf (C n)) c m ≡ true) ↔ Accepted c m
+unfolding eventsOf
+pairs n c m l =
+    let e = same-pairs pages cboxEvents as-printed c m l in
+    (λ h. let f = printed-page pages c m (sym e ∙ h) in accepted c m (f .0) (f .1) (f .2), λ a. e ∙ accepts c m a)
+
+-- ---- answers
+
+-- the number, by whether the code is listed, whether the pair is, and whether the mask is 0
+unfoldable answer : Bool → Bool → Bool → Option ℕ
+answer false pair none-given = some 8
+answer true true none-given = none
+answer true false true = some 9
+answer true false false = some 10
+
+not-wide : (n : ℕ) (a : CounterSet) → a .0 ≤ 63 → tooWide (C n) a ≡ false
+unfolding tooWide allCounters counterCount
+not-wide n a within = le-ltb 63 (a .0) within
+
+answered : (n : ℕ) (s : Setup) (c m : ℕ) (a : CounterSet) (code pair none-given : Bool) → s .device ≡ C n → a .0 ≤ 63
+    → codeIn (eventsOf (C n)) c ≡ code → pairIn (eventsOf (C n)) c m ≡ pair → eqb m 0 ≡ none-given → eventNumber s c m a ≡ answer code pair none-given
+unfolding requestRefusal requestRows firstHolding kindNotOn notListed outOfRange incomplete conflicting maskNotListed pairsJudged both either answerFor answerNumber numberOf answer
+answered n s c m a false pair g on within l h z = rw (on, l)
+answered n s c m a true true true on within l h z = rw (on, l, h, z, not-wide n a within)
+answered n s c m a true true false on within l h z = rw (on, l, h, z, not-wide n a within)
+answered n s c m a true false true on within l h z = rw (on, l, h, z, not-wide n a within)
+answered n s c m a true false false on within l h z = rw (on, l, h, z)
+
+module _ (s : Setup) (c m : ℕ) (a : CounterSet) (asked : Asked s m a) where
+  abbrev n : ℕ
+  n = asked .cbox .0
+
+  code-listed : Paged c → codeIn (eventsOf (C n)) c ≡ true
+  code-listed = codes n c .1
+
+  pair-unlisted : ¬ Accepted c m → pairIn (eventsOf (C n)) c m ≡ false
+  pair-unlisted out = eq-false-of-not-eq-true (λ h. out (pairs n c m (asked .byte) .0 h))
+
+  pub taken : Accepted c m → eventNumber s c m a ≡ none
+  unfolding answer
+  taken ok =
+      let pair : pairIn (eventsOf (C n)) c m ≡ true = pairs n c m (asked .byte) .1 ok in
+      let row = pair-row (eventsOf (C n)) c m pair in
+      answered n s c m a true true (eqb m 0) (asked .cbox .1) (asked .within) (row-code (eventsOf (C n)) c (row .0) (row .1)) pair refl
+
+  pub eight : ¬ Paged c → eventNumber s c m a ≡ some 8
+  unfolding answer
+  eight out = answered n s c m a false _ _ (asked .cbox .1) (asked .within) (eq-false-of-not-eq-true (λ h. out (codes n c .0 h))) refl refl
+
+  pub nine : m ≡ 0 → Paged c → ¬ Accepted c m → eventNumber s c m a ≡ some 9
+  unfolding answer
+  nine e there out = answered n s c m a true false true (asked .cbox .1) (asked .within) (code-listed there) (pair-unlisted out) (eq-eqb m 0 e)
+
+  pub ten : Paged c → ¬ Accepted c m → ¬ (m ≡ 0) → eventNumber s c m a ≡ some 10
+  unfolding answer
+  ten there out other = answered n s c m a true false false (asked .cbox .1) (asked .within) (code-listed there) (pair-unlisted out) (ne-eqb m 0 other)
+
 pub cbox-pages : CBoxPages
 cbox-pages =
     record {
-      codes = λ c. let e = same-codes pages cboxEvents as-printed c in
-          (λ h. paged-page pages c (sym e ∙ h), λ f. e ∙ page-paged pages c (f .0) (f .1));
-      pairs = λ c m l. let e = same-pairs pages cboxEvents as-printed c m l in
-          (λ h. let f = printed-page pages c m (sym e ∙ h) in accepted c m (f .0) (f .1) (f .2), λ a. e ∙ accepts c m a);
+      codes = codes;
+      pairs = pairs;
+      taken = taken;
+      eight = eight;
+      nine = λ s c a asked. nine s c 0 a asked refl;
+      ten = ten;
     }

@@ -10,10 +10,11 @@ use borrow.Author.Tests.{eqb-true, eq-eqb, leb-true, le-leb, not-true}
 use Rattle.requests.specs.Choice.{both, either}
 use Rattle.requests.specs.Devices.{pairsJudged}
 use Rattle.requests.specs.MaskRules.{MaskRule, alone, range, among, allows, ListedEvent, listed}
+use Rattle.requests.specs.CBoxEvents.{cboxEvents}
 use Rattle.requests.specs.Catalogue.{eventsOf, codeIn, pairIn}
-use Rattle.requests.specs.RefusedRequests.{Lists, Above, InCatalogue, PairsOn, on-G, CodesOn, on-S}
+use Rattle.requests.specs.RefusedRequests.{Lists, Above, InCatalogue, PairsOn, on-G, CodesOn, on-S, on-C}
 use Rattle.requests.specs.declared.Device.{Device}
-use Rattle.requests.specs.declared.Device.the-variants.{G, S}
+use Rattle.requests.specs.declared.Device.the-variants.{G, S, C}
 use Rattle.requests.proofs.Tests.{both-ways, both-parts, true-both, either-cases, either-left, either-right}
 use Rattle.requests.proofs.BitMembers.{in-member, member-in}
 
@@ -89,14 +90,16 @@ one-row (e ∷ es) distinct c masks others (List·Memᴰ·tail r) (List·Memᴰ�
 
 -- a code that has its own masks stands in one row
 pub one-row-on : (d : Device) → CodesOn d → (c : ℕ) (masks others : MaskRule) → InCatalogue d c masks → InCatalogue d c others → masks ≡ others
-unfolding eventsOf codeIn distinctCodes both either
+unfolding eventsOf cboxEvents codeIn distinctCodes both either
 one-row-on d on-S c masks others p q = one-row (eventsOf S) refl c masks others p q
+one-row-on d on-C c masks others p q = one-row cboxEvents refl c masks others p q
 
 -- how a device's events are judged
 pub judged : (d : Device) → (PairsOn d × (pairsJudged d ≡ true)) ⊎ (CodesOn d × (pairsJudged d ≡ false))
 unfolding pairsJudged
 judged G = inl (on-G, refl)
 judged S = inr (on-S, refl)
+judged (C b) = inr (on-C, refl)
 
 pub pairs-judged : (d : Device) → PairsOn d → pairsJudged d ≡ true
 unfolding pairsJudged
@@ -105,6 +108,7 @@ pairs-judged d on-G = refl
 pub codes-judged : (d : Device) → CodesOn d → pairsJudged d ≡ false
 unfolding pairsJudged
 codes-judged d on-S = refl
+codes-judged d on-C = refl
 
 -- ---- masks on S
 

@@ -9,11 +9,11 @@ use borrow.Author.Tests.{eqb-true}
 use Rattle.requests.specs.Choice.{both, either}
 use Rattle.requests.specs.Bits.{bit}
 use Rattle.requests.specs.MaskRules.{MaskRule, alone, range, among, ListedEvent, listed, allows}
-use Rattle.requests.specs.CBoxEvents.{sinkMasks, ringMasks, starvedMasks, bypassMasks}
+use Rattle.requests.specs.CBoxEvents.{sinkMasks, ringMasks, starvedMasks, bypassMasks, cboxEvents}
 use Rattle.requests.specs.Catalogue.{eventsOf}
 use Rattle.requests.specs.Lookup.{maskRules, sameNumbers, sameRule, placeOf, rowOf, masksFrom, wordsFor, rowAllows}
 use Rattle.requests.specs.declared.Device.{Device}
-use Rattle.requests.specs.declared.Device.the-variants.{G, S}
+use Rattle.requests.specs.declared.Device.the-variants.{G, S, C}
 use Rattle.requests.proofs.Tests.{both-parts}
 use Rattle.requests.proofs.CounterSets.{bit-set}
 
@@ -98,9 +98,10 @@ known-at (e ∷ es) h zero x l = both-parts _ _ h .0
 known-at (e ∷ es) h (suc i) x l = known-at es (both-parts _ _ h .1) i x (omega arith)
 
 device-known : (d : Device) → allKnown (eventsOf d) ≡ true
-unfolding allKnown eventsOf hasRule maskRules sameRule sameNumbers both either sinkMasks ringMasks starvedMasks bypassMasks
+unfolding allKnown eventsOf hasRule maskRules sameRule sameNumbers both either cboxEvents sinkMasks ringMasks starvedMasks bypassMasks
 device-known G = refl
 device-known S = refl
+device-known (C b) = refl
 
 -- the rule of an event in a device's catalogue has a number
 abbrev pub Known : ListedEvent → Type 0

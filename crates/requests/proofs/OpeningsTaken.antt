@@ -3,11 +3,12 @@ use mathlib.Core.Path.{_≡_, refl, ap, sym, _∙_}
 use mathlib.Core.Bool.{Bool, true, false}
 use mathlib.Core.Option.{Option, none, some}
 use Prim.Native.Nat.{_≤_}
-use lib.Dec.{leb}
+use native.Mathlib.Omega.{arith}
+use lib.Dec.{leb, ltb}
 use borrow.Author.Tests.{lt-ltb, le-leb, ltb-true, leb-true}
 use Rattle.requests.specs.Refusals.{numberOf, answerNumber}
-use Rattle.requests.specs.Devices.{allCounters, allFixed, letterOf, deviceOf, usableSet, opens, setupOn, setupOf, openingOf, openedAs, openedAnswer}
-use Rattle.requests.specs.Openings.{mostFixed, Opens, openingNumber, Openings}
+use Rattle.requests.specs.Devices.{allCounters, allFixed, letterOf, boxCount, boxOf, deviceOf, usableSet, opens, setupOn, setupOf, openingOf, openedAs, openedAnswer}
+use Rattle.requests.specs.Openings.{mostFixed, mostBox, Opens, openingNumber, Openings}
 use Rattle.requests.specs.declared.CounterSet.{CounterSet}
 use Rattle.requests.specs.declared.Device.{Device}
 use Rattle.requests.specs.declared.Opening.{Opening}
@@ -34,15 +35,23 @@ fixed-bounds d o h = rw (← numbers d .fixed-most) (leb-true (o .fixed) (allFix
 fixed-tested : (d : Device) (o : Opening) → o .fixed ≤ mostFixed d → leb (o .fixed) (allFixed d) ≡ true
 fixed-tested d o h = le-leb (o .fixed) (allFixed d) (rw (numbers d .fixed-most) h)
 
+-- the test of the box, both ways
+box-bounds : (d : Device) (o : Opening) → ltb (o .cbox) (boxCount d) ≡ true → o .cbox ≤ mostBox d
+box-bounds d o h = omega (arith, ltb-true (o .cbox) (boxCount d) h, numbers d .box-most)
+
+box-tested : (d : Device) (o : Opening) → o .cbox ≤ mostBox d → ltb (o .cbox) (boxCount d) ≡ true
+box-tested d o h = lt-ltb (o .cbox) (boxCount d) (omega (arith, numbers d .box-most))
+
 -- an opening that is taken gives what its device opens with
 opened-with : (o : Opening) (s : Setup) → Opens o s → (opens (s .device) o ≡ true) × (setupOn (s .device) o ≡ s)
 unfolding opens setupOn
 opened-with o s h =
-    (true-both _ _ (set-tested (s .device) (o .usable) (h .at-least) (h .at-most)) (fixed-tested (s .device) o (h .fixed-at-most)), rw (h .usable, h .fixed))
+    let given = true-both _ _ (fixed-tested (s .device) o (h .fixed-at-most)) (box-tested (s .device) o (h .box-at-most)) in
+    (true-both _ _ (set-tested (s .device) (o .usable) (h .at-least) (h .at-most)) given, rw (h .usable, h .fixed))
 
 taken : (o : Opening) (s : Setup) → Opens o s → setupOf o ≡ some s
 taken o s h =
-    let named : deviceOf (o .device) ≡ some (s .device) = letter-named (o .device) (s .device) (h .device) in
+    let named : deviceOf (o .device) (o .cbox) ≡ some (s .device) = letter-named (o .device) (o .cbox) (s .device) (h .device) (h .box) in
     let with = opened-with o s h in
     setup-on o (s .device) named ∙ rw (with .0, with .1)
 
@@ -51,6 +60,7 @@ unfolding opens setupOn
 only o s e =
     let parts = taken-parts o s e in
     let tests = both-parts _ _ (parts .1) in
+    let given = both-parts _ _ (tests .1) in
     let set = set-bounds (s .device) (o .usable) (tests .0) in
     let is : setupOn (s .device) o ≡ s = parts .2 in
     record {
@@ -59,7 +69,9 @@ only o s e =
       at-least = set .0;
       at-most = set .1;
       fixed = ap (λ (t : Setup). t .fixed) is;
-      fixed-at-most = fixed-bounds (s .device) o (tests .1);
+      fixed-at-most = fixed-bounds (s .device) o (given .0);
+      box = sym (parts .3);
+      box-at-most = box-bounds (s .device) o (given .1);
     }
 
 -- an opening that is taken has a set of the device's counters
@@ -83,9 +95,9 @@ three : (o : Opening) → ((s : Setup) → ¬ Opens o s) → openingNumber o ≡
 unfolding openedAs openedAnswer answerNumber numberOf
 three o none-opens = rw (refused o none-opens)
 
-given : (s : Setup) → (openingOf s .device ≡ letterOf (s .device)) × (openingOf s .usable ≡ s .usable) × (openingOf s .fixed ≡ s .fixed)
+given : (s : Setup) → (openingOf s .device ≡ letterOf (s .device)) × (openingOf s .usable ≡ s .usable) × (openingOf s .fixed ≡ s .fixed) × (openingOf s .cbox ≡ boxOf (s .device))
 unfolding openingOf
-given s = (refl, refl, refl)
+given s = (refl, refl, refl, refl)
 
 pub openings : Openings
-openings = record { taken = taken; only = only; refused = refused; accepted = accepted; three = three; given = given; fifteen = λ d. numbers d .fifteen }
+openings = record { taken = taken; only = only; refused = refused; accepted = accepted; three = three; given = given; bounds = λ d. numbers d .usable-most }

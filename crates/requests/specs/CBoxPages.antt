@@ -4,10 +4,16 @@ use mathlib.Core.Path.{_≡_}
 use mathlib.Core.Logic.{_↔_}
 use mathlib.Core.Bool.{Bool, true, false}
 use mathlib.Core.List.{List, [], _∷_, List·Memᴰ}
-use Prim.Native.Nat.{ℕ, _<_}
+use mathlib.Core.Option.{Option, none, some}
+use Prim.Native.Nat.{ℕ, _≤_, _<_}
 use Rattle.requests.specs.Bits.{bit}
-use Rattle.requests.specs.CBoxEvents.{cboxEvents}
-use Rattle.requests.specs.Catalogue.{codeIn, pairIn}
+use Rattle.requests.specs.Refusals.{answerFor, answerNumber}
+use Rattle.requests.specs.Catalogue.{eventsOf, codeIn, pairIn}
+use Rattle.requests.specs.Checks.{requestRefusal}
+use Rattle.requests.specs.declared.CounterSet.{CounterSet}
+use Rattle.requests.specs.declared.Device.the-variants.{C}
+use Rattle.requests.specs.declared.Setup.{Setup}
+use Rattle.requests.specs.declared.Request.the-variants.{Event}
 
 -- a printed bit: 0, 1, or x, which may be either
 pub data PrintedBit : Type 0 where
@@ -175,8 +181,23 @@ pub data Accepted : ℕ → ℕ → Type 0 where
   -- "listed mask values are the only ones accepted"
   listed : {c m : ℕ} {rows : List Pattern} {p : Pattern} → List·Memᴰ (page c (masks rows)) pages → List·Memᴰ p rows → Agrees p m → Accepted c m
 
+-- an event whose allowed set has no counter past the six of a C-Box; a unit mask is a byte
+pub record Asked (s : Setup) (m : ℕ) (a : CounterSet) : Type 0 where
+  pub cbox : (n : ℕ) × (s .device ≡ C n)
+  pub byte : m < 256
+  pub within : a .0 ≤ 63
+
+-- the number that refuses it, or none
+abbrev pub eventNumber : Setup → ℕ → ℕ → CounterSet → Option ℕ
+eventNumber s c m a = answerNumber (answerFor (requestRefusal s (Event c m a)))
+
 pub record CBoxPages : Type 0 where
-  -- the catalogue has the codes of the pages
-  pub codes : (c : ℕ) → (codeIn cboxEvents c ≡ true) ↔ Paged c
-  -- with each code the masks of its page; a unit mask is a byte
-  pub pairs : (c m : ℕ) → m < 256 → (pairIn cboxEvents c m ≡ true) ↔ Accepted c m
+  -- every C-Box lists the codes of the pages, and with each code the masks of its page
+  pub codes : (n c : ℕ) → (codeIn (eventsOf (C n)) c ≡ true) ↔ Paged c
+  pub pairs : (n c m : ℕ) → m < 256 → (pairIn (eventsOf (C n)) c m ≡ true) ↔ Accepted c m
+  pub taken : (s : Setup) (c m : ℕ) (a : CounterSet) → Asked s m a → Accepted c m → eventNumber s c m a ≡ none
+  -- "8 as on S"
+  pub eight : (s : Setup) (c m : ℕ) (a : CounterSet) → Asked s m a → ¬ Paged c → eventNumber s c m a ≡ some 8
+  -- "0 is refused with 9, others with 10"
+  pub nine : (s : Setup) (c : ℕ) (a : CounterSet) → Asked s 0 a → Paged c → ¬ Accepted c 0 → eventNumber s c 0 a ≡ some 9
+  pub ten : (s : Setup) (c m : ℕ) (a : CounterSet) → Asked s m a → Paged c → ¬ Accepted c m → ¬ (m ≡ 0) → eventNumber s c m a ≡ some 10

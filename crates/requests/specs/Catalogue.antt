@@ -1,13 +1,14 @@
--- Document 01, 'Requests and legal plans', **event**: the listed events, in its order, with the manual's names.
+-- The listed events with the manual's names: those of G and S in the order of document 01, 'Requests and legal plans', **event**.
 use mathlib.Core.List.{List, [], _∷_}
 use mathlib.Core.Bool.{Bool, false, not}
 use Prim.Native.Nat.{ℕ}
 use lib.Dec.{eqb}
 use Rattle.requests.specs.Choice.{both, either}
 use Rattle.requests.specs.Devices.{pairsJudged}
+use Rattle.requests.specs.CBoxEvents.{cboxEvents}
 use Rattle.requests.specs.MaskRules.{alone, range, allows, ListedEvent, listed}
 use Rattle.requests.specs.declared.Device.{Device}
-use Rattle.requests.specs.declared.Device.the-variants.{G, S}
+use Rattle.requests.specs.declared.Device.the-variants.{G, S, C}
 
 -- the listed events of a device
 unfoldable pub eventsOf : Device → List ListedEvent
@@ -28,6 +29,7 @@ eventsOf S =
     ∷ listed 0x2D (alone 0)  -- TO_RING_B2S_MSGQ_CYCLES_NE
     ∷ listed 0x2F (alone 0)  -- TO_RING_B2S_MSGQ_OCCUPANCY
     ∷ []
+eventsOf (C b) = cboxEvents
 
 -- whether a row has the code
 unfoldable pub codeIn : List ListedEvent → ℕ → Bool

@@ -23,25 +23,25 @@ kindNotOn d (Packet x y a) = not (packetsOn d)
 kindNotOn d (Offcore w a) = not (offcoreOn d)
 kindNotOn d (Latency t a b) = not (offcoreOn d)
 
--- 8: G: pair not listed; S: code not listed
+-- 8: G: pair not listed; S and C: code not listed
 unfoldable pub notListed : Device → Request → Bool
 notListed d (Event c m a) = not (pick (pairsJudged d) (pairIn (eventsOf d) c m) (codeIn (eventsOf d) c))
 notListed d (Packet x y a) = false
 notListed d (Offcore w a) = false
 notListed d (Latency t a b) = false
 
--- an allowed set above 15 (all counters)
+-- an allowed set above all counters
 unfoldable pub tooWide : Device → CounterSet → Bool
 tooWide d a = ltb (allCounters d) (a .0)
 
--- 10: S: mask above the listed range; reserved word or type bit; allowed set above 15
+-- 10: a mask, not 0, that is not listed for its code; reserved word or type bit; allowed set above all counters
 unfoldable pub outOfRange : Device → Request → Bool
 outOfRange d (Event c m a) = either (both (not (eqb m 0)) (maskNotListed d c m)) (tooWide d a)
 outOfRange d (Packet x y a) = tooWide d a
 outOfRange d (Offcore w a) = either (not (onlyBits rsp0Bits w)) (tooWide d a)
 outOfRange d (Latency t a b) = either (not (onlyBits typeBits t)) (either (tooWide d a) (tooWide d b))
 
--- 9: S: mask 0 where 1..3 is listed; no request type; offcore with neither response bit nor bit 38
+-- 9: mask 0 where others are listed; no request type; offcore with neither response bit nor bit 38
 unfoldable pub incomplete : Device → Request → Bool
 incomplete d (Event c m a) = both (eqb m 0) (maskNotListed d c m)
 incomplete d (Packet x y a) = false

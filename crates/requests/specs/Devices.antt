@@ -8,7 +8,7 @@ use Rattle.requests.specs.Choice.{both, pick}
 use Rattle.requests.specs.Bits.{bit}
 use Rattle.requests.specs.declared.CounterSet.{CounterSet}
 use Rattle.requests.specs.declared.Device.{Device}
-use Rattle.requests.specs.declared.Device.the-variants.{G, S}
+use Rattle.requests.specs.declared.Device.the-variants.{G, S, C}
 use Rattle.requests.specs.declared.Opening.{Opening}
 use Rattle.requests.specs.declared.Setup.{Setup}
 use Rattle.requests.specs.declared.Opened.{Opened}
@@ -30,10 +30,11 @@ size (suc k) s = size k s + pick (has s k) 1 0
 unfoldable pub capacity : ℕ
 capacity = 8
 
--- counters 0 to 3 on either device
+-- counters 0 to 3 on G and S, 0 to 5 on C (document 004, 2.3.2)
 unfoldable pub counterCount : Device → ℕ
 counterCount G = 4
 counterCount S = 4
+counterCount (C b) = 6
 
 -- the set of all counters of the device
 unfoldable pub allCounters : Device → ℕ
@@ -43,6 +44,7 @@ allCounters d = 2 ^ counterCount d - 1
 unfoldable pub fixedCount : Device → ℕ
 fixedCount G = 3
 fixedCount S = 0
+fixedCount (C b) = 0
 
 -- the enables of all fixed counters of the device
 unfoldable pub allFixed : Device → ℕ
@@ -52,58 +54,74 @@ allFixed d = 2 ^ fixedCount d - 1
 unfoldable pub letterOf : Device → ℕ
 letterOf G = 71
 letterOf S = 83
+letterOf (C b) = 67
 
--- all devices
-unfoldable pub devices : List Device
-devices = G ∷ S ∷ []
+-- how many boxes the device has: the eight C-Boxes of document 004, 2.3.1, and elsewhere one, whose number is 0
+unfoldable pub boxCount : Device → ℕ
+boxCount G = 1
+boxCount S = 1
+boxCount (C b) = 8
+
+-- the number of the box
+unfoldable pub boxOf : Device → ℕ
+boxOf G = 0
+boxOf S = 0
+boxOf (C b) = b
+
+-- a device of each letter, where the box has the number
+unfoldable pub devices : ℕ → List Device
+devices box = G ∷ S ∷ C box ∷ []
 
 -- the first device of the list with the letter's code
 unfoldable pub named : List Device → ℕ → Option Device
 named [] letter = none
 named (d ∷ ds) letter = elim (eqb letter (letterOf d)) [ true ↦ some d | false ↦ named ds letter ]
 
--- the device of a letter's code
-unfoldable pub deviceOf : ℕ → Option Device
-deviceOf letter = named devices letter
+-- the device of a letter's code and the number of a box
+unfoldable pub deviceOf : ℕ → ℕ → Option Device
+deviceOf letter box = named (devices box) letter
 
 -- whether the device has packet requests: "S only"
 unfoldable pub packetsOn : Device → Bool
 packetsOn G = false
 packetsOn S = true
+packetsOn (C b) = false
 
 -- whether the device has offcore and latency requests: "G only"
 unfoldable pub offcoreOn : Device → Bool
 offcoreOn G = true
 offcoreOn S = false
+offcoreOn (C b) = false
 
--- whether an event is judged as a pair of code and mask, as on G: on S the code has to be listed, and then the mask be one of its own
+-- whether an event is judged as a pair of code and mask, as on G: on S and C the code has to be listed, and then the mask be one of its own
 unfoldable pub pairsJudged : Device → Bool
 pairsJudged G = true
 pairsJudged S = false
+pairsJudged (C b) = false
 
--- whether a usable set is neither 0 nor above 15 (all counters)
+-- whether a usable set is neither 0 nor above all counters
 unfoldable pub usableSet : Device → CounterSet → Bool
 usableSet d u = both (ltb 0 (u .0)) (leb (u .0) (allCounters d))
 
 -- whether the device opens with what is given beside its letter
 unfoldable pub opens : Device → Opening → Bool
-opens d o = both (usableSet d (o .usable)) (leb (o .fixed) (allFixed d))
+opens d o = both (usableSet d (o .usable)) (both (leb (o .fixed) (allFixed d)) (ltb (o .cbox) (boxCount d)))
 
 -- the device with what is given beside its letter
 unfoldable pub setupOn : Device → Opening → Setup
 setupOn d o = record { device = d; usable = o .usable; fixed = o .fixed }
 
--- what open takes; none is refusal 3, "device unknown, or usable set 0 or above 15", or a number of fixed enables above 7, on S above 0
+-- what open takes; none is refusal 3: a device unknown, a usable set 0 or above all counters, fixed enables or a box that the device has not
 unfoldable pub setupOf : Opening → Option Setup
 setupOf o =
-    elim (deviceOf (o .device)) [
+    elim (deviceOf (o .device) (o .cbox)) [
       | none ↦ none
       | some d ↦ elim (opens d o) [ true ↦ some (setupOn d o) | false ↦ none ]
     ]
 
 -- the opening that a setup is of: of an accepted open, what it was given, as it was given
 unfoldable pub openingOf : Setup → Opening
-openingOf s = record { device = letterOf (s .device); usable = s .usable; fixed = s .fixed }
+openingOf s = record { device = letterOf (s .device); usable = s .usable; fixed = s .fixed; cbox = boxOf (s .device) }
 
 -- what an opening opens, or 3
 unfoldable pub openedAs : Option Setup → Opened

@@ -7,7 +7,7 @@ use Rattle.requests.specs.Refusals.{answerFor, answerNumber}
 use Rattle.requests.specs.Checks.{requestRefusal}
 use Rattle.requests.specs.declared.CounterSet.{CounterSet}
 use Rattle.requests.specs.declared.Device.{Device}
-use Rattle.requests.specs.declared.Device.the-variants.{G, S}
+use Rattle.requests.specs.declared.Device.the-variants.{G, S, C}
 use Rattle.requests.specs.declared.Request.{Request}
 use Rattle.requests.specs.declared.Request.the-variants.{Event, Packet, Offcore, Latency}
 
@@ -20,6 +20,10 @@ pub record Example : Type 0 where
 -- counters 0 to 3
 abbrev all : CounterSet
 all = record { 0 = 15 }
+
+-- counters 0 to 5
+abbrev six : CounterSet
+six = record { 0 = 63 }
 
 abbrev example : Device → Request → Option ℕ → Example
 example d r n = record { device = d; request = r; number = n }
@@ -100,6 +104,30 @@ examples =
     -- "allowed set above 15"
     ∷ example S (Packet 0 0 (record { 0 = 16 })) (some 10)
     ∷ example G (Latency 0x0001 all (record { 0 = 16 })) (some 10)
+    -- C: "STARVED_EGRESS 0B, whose listed mask values are the only ones accepted (0 is refused with 9, others with 10"
+    ∷ example (C 0) (Event 0x0B 0x00 six) (some 9)
+    ∷ example (C 0) (Event 0x0B 0x05 six) (some 10)
+    ∷ example (C 0) (Event 0x0B 0x07 six) none
+    -- "elsewhere mask 0 alone is accepted"
+    ∷ example (C 7) (Event 0x19 0x00 six) none
+    ∷ example (C 7) (Event 0x19 0x01 six) (some 10)
+    -- a printed x may be either bit
+    ∷ example (C 0) (Event 0x14 0x05 six) none
+    ∷ example (C 0) (Event 0x14 0x08 six) (some 10)
+    ∷ example (C 0) (Event 0x06 0x03 six) (some 10)
+    ∷ example (C 0) (Event 0x28 0xFF six) none
+    -- the masks of INGRESS_BYPASS_WINS_AD are lost, and so is the code of LLC_HITS
+    ∷ example (C 0) (Event 0x0E 0x00 six) (some 9)
+    ∷ example (C 0) (Event 0x0E 0x01 six) (some 10)
+    ∷ example (C 0) (Event 0x15 0x01 six) (some 8)
+    ∷ example (C 0) (Event 0x0D 0x00 six) (some 8)
+    -- "3 and 10 use that bound", and 10 is checked before 9
+    ∷ example (C 0) (Event 0x0B 0x00 (record { 0 = 64 })) (some 10)
+    ∷ example (C 0) (Event 0x23 0x00 (record { 0 = 0 })) none
+    -- "Packet, offcore and latency requests on C get 7"
+    ∷ example (C 0) (Packet 0 0 six) (some 7)
+    ∷ example (C 0) (Offcore 0x10001 six) (some 7)
+    ∷ example (C 0) (Latency 0x0001 six six) (some 7)
     ∷ []
 
 -- the number that refuses the request of an example

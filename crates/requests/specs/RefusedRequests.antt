@@ -11,7 +11,7 @@ use Rattle.requests.specs.Catalogue.{eventsOf}
 use Rattle.requests.specs.Checks.{kindNotOn, notListed, incomplete, outOfRange, conflicting}
 use Rattle.requests.specs.declared.CounterSet.{CounterSet}
 use Rattle.requests.specs.declared.Device.{Device}
-use Rattle.requests.specs.declared.Device.the-variants.{G, S}
+use Rattle.requests.specs.declared.Device.the-variants.{G, S, C}
 use Rattle.requests.specs.declared.Request.{Request}
 use Rattle.requests.specs.declared.Request.the-variants.{Event, Packet, Offcore, Latency}
 
@@ -58,6 +58,7 @@ pub data PairsOn : Device → Type 0 where
 -- where a listed code has its own masks
 pub data CodesOn : Device → Type 0 where
   on-S : CodesOn S
+  on-C : {b : ℕ} → CodesOn (C b)
 
 -- the word that holds the request types of a request
 pub data TypesIn : Request → ℕ → Type 0 where
@@ -84,12 +85,12 @@ pub data KindNotOn : Device → Request → Type 0 where
 pub data NotListed : Device → Request → Type 0 where
   -- "G: pair not listed"
   pair : {d : Device} {c m : ℕ} {a : CounterSet} → PairsOn d → ¬ PairListed d c m → NotListed d (Event c m a)
-  -- "S: code not listed"
+  -- "S: code not listed", C "8 as on S"
   code : {d : Device} {c m : ℕ} {a : CounterSet} → CodesOn d → ¬ CodeListed d c → NotListed d (Event c m a)
 
 -- 9
 pub data Incomplete : Device → Request → Type 0 where
-  -- mask 0 where others are listed: `RefusedRequests.zero-on-S` has the words of S
+  -- mask 0 where others are listed: `zero-on-S` below has the words of S, `CBoxPages` those of C
   mask-0 : {d : Device} {c : ℕ} {masks : MaskRule} {a : CounterSet} → CodesOn d → InCatalogue d c masks → ¬ Lists masks 0 → Incomplete d (Event c 0 a)
   -- "no request type"
   no-type : {d : Device} {r : Request} {w : ℕ} → TypesIn r w → HasNone typeBits w → Incomplete d r
@@ -98,13 +99,13 @@ pub data Incomplete : Device → Request → Type 0 where
 
 -- 10
 pub data OutOfRange : Device → Request → Type 0 where
-  -- another mask that is not listed: `RefusedRequests.above-on-S` has the words of S
+  -- another mask that is not listed: `above-on-S` below has the words of S, `CBoxPages` those of C
   mask-other : {d : Device} {c m : ℕ} {masks : MaskRule} {a : CounterSet} → CodesOn d → InCatalogue d c masks → ¬ Lists masks m → ¬ (m ≡ 0) → OutOfRange d (Event c m a)
   -- "reserved word .. bit"
   word-bit : {d : Device} {w : ℕ} {a : CounterSet} → HasReserved rsp0Bits w → OutOfRange d (Offcore w a)
   -- "reserved .. type bit"
   type-bit : {d : Device} {t : ℕ} {a b : CounterSet} → HasReserved typeBits t → OutOfRange d (Latency t a b)
-  -- "allowed set above 15": `Openings.fifteen` gives the number
+  -- "allowed set above 15", on C above 63: `Openings.bounds` gives the number
   wide-set : {d : Device} {r : Request} {a : CounterSet} → AllowedSet r a → allCounters d < a .0 → OutOfRange d r
 
 -- 11

@@ -1,6 +1,7 @@
 // The event catalogues, in the order of document 01, with the manual's names. A row is the code, two digits, and the number of its mask rule, one digit.
 use crate::Device;
 use crate::Listing;
+use crate::cbox_events::C_EVENTS;
 use crate::mask_rules::lists;
 ghost use mathlib.Core.Path.{_≡_};
 ghost use Prim.Native.Nat.{_<_};
@@ -35,6 +36,7 @@ fn row_count(device: Device) -> usize
     match device {
         Device::G => G_EVENTS.len(),
         Device::S => S_EVENTS.len(),
+        Device::C(_) => C_EVENTS.len(),
     }
 }
 
@@ -46,6 +48,7 @@ fn row_at(device: Device, at: usize) -> u16
     match device {
         Device::G => G_EVENTS[at],
         Device::S => S_EVENTS[at],
+        Device::C(_) => C_EVENTS[at],
     }
 }
 

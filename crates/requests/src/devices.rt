@@ -7,13 +7,10 @@ use crate::Refusal;
 use crate::Setup;
 ghost use mathlib.Core.Path.{_≡_};
 ghost use Rattle.requests.specs.Choice.{pick};
-ghost use Rattle.requests.specs.Devices.{counterCount, allCounters, fixedCount, allFixed, letterOf, packetsOn, offcoreOn, pairsJudged, usableSet, opens, setupOn, setupOf, openingOf, openedAs};
+ghost use Rattle.requests.specs.Devices.{counterCount, allCounters, fixedCount, allFixed, letterOf, boxCount, boxOf, packetsOn, offcoreOn, pairsJudged, usableSet, opens, setupOn, setupOf, openingOf, openedAs};
 
 // The number of counters that arrays have room for.
 pub const CAPACITY: usize = 8;
-
-// All devices.
-pub const DEVICES: [Device; 2] = [Device::G, Device::S];
 
 // How many counters the device has.
 pub fn counter_count(d: Device) -> u64
@@ -22,6 +19,7 @@ pub fn counter_count(d: Device) -> u64
     match d {
         Device::G => 4,
         Device::S => 4,
+        Device::C(_) => 6,
     }
 }
 
@@ -40,6 +38,7 @@ pub fn fixed_count(d: Device) -> u64
     match d {
         Device::G => 3,
         Device::S => 0,
+        Device::C(_) => 0,
     }
 }
 
@@ -58,6 +57,29 @@ pub fn letter_of(d: Device) -> u64
     match d {
         Device::G => b'G' as u64,
         Device::S => b'S' as u64,
+        Device::C(_) => b'C' as u64,
+    }
+}
+
+// How many boxes the device has.
+fn box_count(d: Device) -> u64
+    ensures { λ r. ⌜ r ≡ boxCount d ⌝ }
+{
+    match d {
+        Device::G => 1,
+        Device::S => 1,
+        Device::C(_) => 8,
+    }
+}
+
+// The number of the box: 0 on a device without boxes.
+pub fn box_of(d: Device) -> u64
+    ensures { λ r. ⌜ r ≡ boxOf d ⌝ }
+{
+    match d {
+        Device::G => 0,
+        Device::S => 0,
+        Device::C(number) => number,
     }
 }
 
@@ -68,6 +90,7 @@ pub fn packets_on(d: Device) -> bool
     match d {
         Device::G => false,
         Device::S => true,
+        Device::C(_) => false,
     }
 }
 
@@ -78,6 +101,7 @@ pub fn offcore_on(d: Device) -> bool
     match d {
         Device::G => true,
         Device::S => false,
+        Device::C(_) => false,
     }
 }
 
@@ -88,6 +112,7 @@ pub fn pairs_judged(d: Device) -> bool
     match d {
         Device::G => true,
         Device::S => false,
+        Device::C(_) => false,
     }
 }
 
@@ -109,7 +134,9 @@ fn opens(d: Device, o: Opening) -> bool
 {
     let usable = o.usable;
     if usable_set(d, usable) {
-        return o.fixed <= all_fixed(d);
+        if o.fixed <= all_fixed(d) {
+            return o.cbox < box_count(d);
+        }
     }
     false
 }
@@ -134,9 +161,10 @@ pub fn setup_of(o: Opening) -> Opened
     ensures { λ r. ⌜ r ≡ openedAs (setupOf o) ⌝ }
 {
     let letter = o.device;
+    let devices = [Device::G, Device::S, Device::C(o.cbox)];
     let mut i = 0;
-    while i < DEVICES.len() {
-        let device = DEVICES[i];
+    while i < devices.len() {
+        let device = devices[i];
         if letter == letter_of(device) {
             return opened_on(device, o);
         }
@@ -155,5 +183,6 @@ pub fn opening_of(s: Setup) -> Opening
         device: letter_of(device),
         usable: usable,
         fixed: s.fixed,
+        cbox: box_of(device),
     }
 }

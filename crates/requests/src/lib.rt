@@ -1,6 +1,7 @@
 // What a request is, what a session is opened with, and how a call is answered.
 pub mod bits;
 pub mod catalogue;
+mod cbox_events;
 pub mod check;
 pub mod devices;
 mod mask_rules;
@@ -10,17 +11,20 @@ pub mod set;
 // A set of counters: counter k is 2^k.
 pub struct CounterSet(pub u64);
 
-// G: one Goldmont core. S: S-Box 0 of the Xeon 7500.
+// G: one Goldmont core. S: S-Box 0 of the Xeon 7500. C: one of its C-Boxes, by number.
 pub enum Device {
     G,
     S,
+    C(u64),
 }
 
-// What open is given: the letter of a device, as a number, the usable counters, and the enables of the fixed counters.
+// What open is given: the letter of a device, as a number, the usable counters, the enables of the fixed counters, and the number of
+// the C-Box, 0 on other devices.
 pub struct Opening {
     pub device: u64,
     pub usable: CounterSet,
     pub fixed: u64,
+    pub cbox: u64,
 }
 
 // What a session is opened with, its device known by its letter. A session keeps that of its accepted open.

@@ -13,5 +13,9 @@ returns-2 : tie.Need-returns-2
 unfolding fixedCount
 returns-2 c = rw (c .enum-told2 .given .1)
 
+returns-3 : tie.Need-returns-3
+unfolding fixedCount
+returns-3 c = rw (c .enum-told3 .given .1)
+
 pub fixed-count-spec : {M : Type 1} → statement M
-fixed-count-spec = tie.close (tie.spec (λ c. search needs) (λ c. search needs) returns returns-2)
+fixed-count-spec = tie.close (tie.spec (λ c. search needs) (λ c. search needs) (λ c. search needs) returns returns-2 returns-3)

@@ -13,6 +13,10 @@ returns-2 : tie.Need-returns-2
 unfolding letterOf
 returns-2 c = rw (c .enum-told2 .given .1)
 
+returns-3 : tie.Need-returns-3
+unfolding letterOf
+returns-3 c = rw (c .enum-told3 .given .1)
+
 pub letter-of-spec : {M : Type 1} → statement M
 letter-of-spec =
     tie.close
@@ -21,5 +25,8 @@ letter-of-spec =
     (λ c. search needs)
     (λ c. search needs)
     (λ c. search needs)
+    (λ c. search needs)
+    (λ c. search needs)
     returns
-    returns-2)
+    returns-2
+    returns-3)

@@ -1,4 +1,4 @@
--- `devices::opening_of` meets its contract, by that of `letter_of`.
+-- `devices::opening_of` meets its contract, by those of `letter_of` and `box_of`.
 -- Assumes nothing.
 use borrow.Author.Needs.{needs}
 use Rattle.requests.specs.Devices.{openingOf}
@@ -7,7 +7,7 @@ use Rattle.requests.proofs.devices.opening_of.Tie as tie
 
 returns : tie.Need-returns
 unfolding openingOf
-returns c = rw (c .letter-of .ensures)
+returns c = rw (c .before .letter-of .ensures, c .box-of .ensures)
 
 pub opening-of-spec : {M : Type 1} → statement M
-opening-of-spec = tie.close (tie.spec (λ c κs. search needs) returns)
+opening-of-spec = tie.close (tie.spec (λ c κs. search needs) (λ c κs. search needs) returns)
