@@ -128,7 +128,7 @@ counter-allowed a j m k e =
 abbrev CanAll : Room → List Request → List Place → Type 0
 CanAll m rs ps = Can m (counters ps) (ofAll (wordsOf 0) rs ps) (ofAll (wordsOf 1) rs ps) (flatMap packetsOf rs)
 
-module _ (s : Setup) (rs : List Request) (ps : List Place) where
+module _ (n : ℕ) (rs : List Request) (ps : List Place) where
   abbrev cs : List ℕ
   cs = counters ps
 
@@ -142,7 +142,7 @@ module _ (s : Setup) (rs : List Request) (ps : List Place) where
   q = flatMap packetsOf rs
 
   -- a request that is admitted has an allowed place, and what it asks for can be had
-  admit-can : (r : Request) (k j : ℕ) (m room : Room) → j < width s r → admit r k j m ≡ Admitted room → CanAll room rs ps
+  admit-can : (r : Request) (k j : ℕ) (m room : Room) → j < width n r → admit r k j m ≡ Admitted room → CanAll room rs ps
       → Allowed r (placeOf r k j) × CanAll m (r ∷ rs) (placeOf r k j ∷ ps)
   unfolding admit width placeOf counters countersOf countedOf ofAll wordsOf packetsOf flatMap
   admit-can (Event c u a) k j m room l e h = (event (counter-allowed a k m room e), counter-can cs v w q a k m room e h)
@@ -165,8 +165,8 @@ module _ (s : Setup) (rs : List Request) (ps : List Place) where
       )
 
   -- a request with an allowed place, whose asks can be had, is placed there
-  place-next : {r : Request} {p : Place} (m : Room) → Allowed r p → All (λ (k : ℕ). k < counterCount (s .device)) (counters (p ∷ ps)) → CanAll m (r ∷ rs) (p ∷ ps)
-      → ((room : Room) → CanAll room rs ps → Placed s rs room ps) → Placed s (r ∷ rs) m (p ∷ ps)
+  place-next : {r : Request} {p : Place} (m : Room) → Allowed r p → All (λ (k : ℕ). k < n) (counters (p ∷ ps)) → CanAll m (r ∷ rs) (p ∷ ps)
+      → ((room : Room) → CanAll room rs ps → Placed n rs room ps) → Placed n (r ∷ rs) m (p ∷ ps)
   unfolding admit width placeOf counters countersOf countedOf ofAll wordsOf packetsOf flatMap
   place-next m (event {c = c} {m = u} {a = a} {k = k} al) (cons l ls) h rest =
       let t = can-counter cs v w q a k m al h in
@@ -186,9 +186,9 @@ module _ (s : Setup) (rs : List Request) (ps : List Place) where
       let c2 = can-counter cs v w q b k (c1 .0) bl (c1 .2) in
       next {r = Latency x a b} {m = m} {room = c2 .0} {k = j} {j = k} l l2 (rw (t0 .1, t1 .1, c1 .1) (c2 .1)) (rest (c2 .0) (c2 .2))
 
-  -- its counters are the device's
-  next-below : (r : Request) (k j : ℕ) → k < counterCount (s .device) → j < width s r → All (λ (i : ℕ). i < counterCount (s .device)) (counters ps)
-      → All (λ (i : ℕ). i < counterCount (s .device)) (counters (placeOf r k j ∷ ps))
+  -- its counters are the device'n
+  next-below : (r : Request) (k j : ℕ) → k < n → j < width n r → All (λ (i : ℕ). i < n) (counters ps)
+      → All (λ (i : ℕ). i < n) (counters (placeOf r k j ∷ ps))
   unfolding width placeOf counters countersOf countedOf flatMap
   next-below (Event c u a) k j l g h = cons l h
   next-below (Packet x y a) k j l g h = cons l h
@@ -196,28 +196,28 @@ module _ (s : Setup) (rs : List Request) (ps : List Place) where
   next-below (Latency x a b) k j l g h = cons l (cons g h)
 
 -- what a plan that can be placed has
-pub record Has (s : Setup) (m : Room) (rs : List Request) (ps : List Place) : Type 0 where
+pub record Has (n : ℕ) (m : Room) (rs : List Request) (ps : List Place) : Type 0 where
   pub allowed : Each Allowed rs ps
-  pub below : All (λ (k : ℕ). k < counterCount (s .device)) (counters ps)
+  pub below : All (λ (k : ℕ). k < n) (counters ps)
   pub can : CanAll m rs ps
 
-placed-has : (s : Setup) {rs : List Request} {m : Room} {ps : List Place} → Placed s rs m ps → Has s m rs ps
+placed-has : (n : ℕ) {rs : List Request} {m : Room} {ps : List Place} → Placed n rs m ps → Has n m rs ps
 unfolding counters flatMap ofAll
-placed-has s none-left = record { allowed = none; below = nil; can = (tt, tt, tt, tt) }
-placed-has s (next {r = r} {rs = rs} {m = m} {room = room} {k = k} {j = j} {ps = ps} f g e d) =
-    let h = placed-has s d in
-    let t = admit-can s rs ps r k j m room g e (h .can) in
-    record { allowed = and (t .0) (h .allowed); below = next-below s rs ps r k j f g (h .below); can = t .1 }
+placed-has n none-left = record { allowed = none; below = nil; can = (tt, tt, tt, tt) }
+placed-has n (next {r = r} {rs = rs} {m = m} {room = room} {k = k} {j = j} {ps = ps} f g e d) =
+    let h = placed-has n d in
+    let t = admit-can n rs ps r k j m room g e (h .can) in
+    record { allowed = and (t .0) (h .allowed); below = next-below n rs ps r k j f g (h .below); can = t .1 }
 
-tail-below : (s : Setup) (p : Place) (ps : List Place) → All (λ (k : ℕ). k < counterCount (s .device)) (counters (p ∷ ps)) → All (λ (k : ℕ). k < counterCount (s .device)) (counters ps)
+tail-below : (n : ℕ) (p : Place) (ps : List Place) → All (λ (k : ℕ). k < n) (counters (p ∷ ps)) → All (λ (k : ℕ). k < n) (counters ps)
 unfolding counters countersOf countedOf flatMap
-tail-below s (Counter k) ps (cons l h) = h
-tail-below s (WithRsp k i) ps (cons l h) = h
-tail-below s (Pair j k) ps (cons l (cons g h)) = h
+tail-below n (Counter k) ps (cons l h) = h
+tail-below n (WithRsp k i) ps (cons l h) = h
+tail-below n (Pair j k) ps (cons l (cons g h)) = h
 
-has-placed : (s : Setup) {rs : List Request} {ps : List Place} (m : Room) → Each Allowed rs ps → All (λ (k : ℕ). k < counterCount (s .device)) (counters ps) → CanAll m rs ps → Placed s rs m ps
-has-placed s m none b h = none-left
-has-placed s m (and {a = r} {b = p} {s = rs} {t = ps} al rest) b h = place-next s rs ps m al b h (λ room c. has-placed s room rest (tail-below s p ps b) c)
+has-placed : (n : ℕ) {rs : List Request} {ps : List Place} (m : Room) → Each Allowed rs ps → All (λ (k : ℕ). k < n) (counters ps) → CanAll m rs ps → Placed n rs m ps
+has-placed n m none b h = none-left
+has-placed n m (and {a = r} {b = p} {s = rs} {t = ps} al rest) b h = place-next n rs ps m al b h (λ room c. has-placed n room rest (tail-below n p ps b) c)
 
 packet-told : (v w : ℕ × ℕ) → okPacket (putPacket v) w ≡ true → v ≡ w
 packet-told v w e =
@@ -236,9 +236,9 @@ one-word rs ps g h zero l = agree-same holds Word Unused 0 (λ w. refl) eqb-true
 one-word rs ps g h (suc zero) l = agree-same holds Word Unused 0 (λ w. refl) eqb-true eq-eqb (ofAll (wordsOf 1) rs ps) h
 one-word rs ps g h (suc (suc i)) l = absurd (omega arith)
 
-pub placed-legal : (s : Setup) (rs : List Request) (ps : List Place) → Placed s rs (emptyRoom s) ps → Legal s rs ps
+pub placed-legal : (s : Setup) (rs : List Request) (ps : List Place) → Placed (counterCount (s .device)) rs (emptyRoom s) ps → Legal s rs ps
 placed-legal s rs ps d =
-    let h = placed-has s d in
+    let h = placed-has (counterCount (s .device)) d in
     let t = takes-all (s .usable) (counters ps) (h .can .0) in
     record {
       differ = t .1;
@@ -248,11 +248,11 @@ placed-legal s rs ps d =
       one-packet = agree-same okPacket putPacket Off (0, 0) (λ w. refl) packet-told packet-made (flatMap packetsOf rs) (h .can .3);
     }
 
-pub legal-placed : (s : Setup) (rs : List Request) (ps : List Place) → Legal s rs ps → Placed s rs (emptyRoom s) ps
+pub legal-placed : (s : Setup) (rs : List Request) (ps : List Place) → Legal s rs ps → Placed (counterCount (s .device)) rs (emptyRoom s) ps
 legal-placed s rs ps l =
     let w0 = l .one-word 0 (omega arith) in
     let w1 = l .one-word 1 (omega arith) in
-    has-placed s (emptyRoom s) (l .allowed) (all-imp (λ k u. u .0) (l .usable-only)) (
+    has-placed (counterCount (s .device)) (emptyRoom s) (l .allowed) (all-imp (λ k u. u .0) (l .usable-only)) (
       all-takes (s .usable) (counters ps) (all-imp (λ k u. u .1) (l .usable-only)) (l .differ),
       same-agree holds Word Unused 0 (λ w. refl) eqb-true eq-eqb (w0 .0) (ofAll (wordsOf 0) rs ps) (w0 .1),
       same-agree holds Word Unused 0 (λ w. refl) eqb-true eq-eqb (w1 .0) (ofAll (wordsOf 1) rs ps) (w1 .1),

@@ -11,10 +11,8 @@ use native.Mathlib.Nat.{div-add-mod', div-lt-iff-lt-mul, mod-lt, eq-or-lt-of-le,
 use native.Mathlib.Decide.{decLt}
 use native.Mathlib.Omega.{arith}
 use lib.Arith.{digits-lt, digits-div, digits-mod}
-use Rattle.requests.specs.declared.Setup.{Setup}
 use Rattle.requests.specs.declared.Request.{Request}
 use Rattle.requests.specs.declared.Request.the-variants.{Event, Packet, Offcore, Latency}
-use Rattle.requests.specs.Devices.{counterCount}
 use Rattle.plans.specs.declared.Room.{Room}
 use Rattle.plans.specs.declared.Place.{Place}
 use Rattle.plans.specs.declared.Admission.{Admission}
@@ -23,10 +21,10 @@ use Rattle.plans.specs.Places.{first, second}
 use Rattle.plans.specs.Order.{Earlier, Before, here, later}
 use Rattle.plans.specs.Search.{placeOf, admit, width, firstFrom, putFirst, thenRest, tryNumber, planIn}
 
-pub data Placed (s : Setup) : List Request → Room → List Place → Type 0 where
-  none-left : {m : Room} → Placed s [] m []
+pub data Placed (n : ℕ) : List Request → Room → List Place → Type 0 where
+  none-left : {m : Room} → Placed n [] m []
   next : {r : Request} {rs : List Request} {m room : Room} {k j : ℕ} {ps : List Place}
-      → k < counterCount (s .device) → j < width s r → admit r k j m ≡ Admitted room → Placed s rs room ps → Placed s (r ∷ rs) m (placeOf r k j ∷ ps)
+      → k < n → j < width n r → admit r k j m ≡ Admitted room → Placed n rs room ps → Placed n (r ∷ rs) m (placeOf r k j ∷ ps)
 
 -- equal, or before
 abbrev pub NotAfter : List Place → List Place → Type 0
@@ -37,14 +35,14 @@ not-after-rest p ps qs (inl e) = inl (ap (λ (l : List Place). p ∷ l) e)
 not-after-rest p ps qs (inr b) = inr (later b)
 
 -- places go by their two numbers
-place-earlier : (s : Setup) (r : Request) (k j k′ j′ : ℕ) → j < width s r → j′ < width s r → (k < k′) ⊎ ((k ≡ k′) × (j < j′)) → Earlier (placeOf r k j) (placeOf r k′ j′)
+place-earlier : (n : ℕ) (r : Request) (k j k′ j′ : ℕ) → j < width n r → j′ < width n r → (k < k′) ⊎ ((k ≡ k′) × (j < j′)) → Earlier (placeOf r k j) (placeOf r k′ j′)
 unfolding placeOf width first second
-place-earlier s (Event c m a) k j k′ j′ h g (inl l) = inl l
-place-earlier s (Event c m a) k j k′ j′ h g (inr l) = let z = l .1 in absurd (omega arith)
-place-earlier s (Packet x y a) k j k′ j′ h g (inl l) = inl l
-place-earlier s (Packet x y a) k j k′ j′ h g (inr l) = let z = l .1 in absurd (omega arith)
-place-earlier s (Offcore w a) k j k′ j′ h g l = l
-place-earlier s (Latency t a b) k j k′ j′ h g l = l
+place-earlier n (Event c m a) k j k′ j′ h g (inl l) = inl l
+place-earlier n (Event c m a) k j k′ j′ h g (inr l) = let z = l .1 in absurd (omega arith)
+place-earlier n (Packet x y a) k j k′ j′ h g (inl l) = inl l
+place-earlier n (Packet x y a) k j k′ j′ h g (inr l) = let z = l .1 in absurd (omega arith)
+place-earlier n (Offcore w a) k j k′ j′ h g l = l
+place-earlier n (Latency t a b) k j k′ j′ h g l = l
 
 -- and so do their numbers
 digits-before : (w p q : ℕ) → 0 < w → p < q → (p / w < q / w) ⊎ ((p / w ≡ q / w) × (p % w < q % w))
@@ -98,41 +96,40 @@ after-place rest p (Admitted k) ps e = go (rest k) refl e
     go none h e' = let z : _≡_ {A = ℕ} 0 1 = cc in absurd (omega arith)
     go (some qs) h e' = (k, qs, refl, h, (cc))
 
-pub plan-placed : (s : Setup) (rs : List Request) (m : Room) (ps : List Place) → planIn s rs m ≡ some ps → Placed s rs m ps
+pub plan-placed : (n : ℕ) (rs : List Request) (m : Room) (ps : List Place) → planIn n rs m ≡ some ps → Placed n rs m ps
 unfolding planIn tryNumber
-plan-placed s [] m ps e = let h : ps ≡ [] = cc in rw h none-left
-plan-placed s (r ∷ rs) m ps e =
-    let n = counterCount (s .device) in
-    let w = width s r in
-    let q = first-some (tryNumber (planIn s rs) s r m) 0 (n * w) ps e in
+plan-placed n [] m ps e = let h : ps ≡ [] = cc in rw h none-left
+plan-placed n (r ∷ rs) m ps e =
+    let w = width n r in
+    let q = first-some (tryNumber (planIn n rs) n r m) 0 (n * w) ps e in
     let below : q .0 < n * w = omega (arith, q .1) in
     let pos = width-pos n w (q .0) below in
-    let a = after-place (planIn s rs) (placeOf r (q .0 / w) (q .0 % w)) (admit r (q .0 / w) (q .0 % w) m) ps (q .2) in
-    rw (a .4) (next (div-lt-iff-lt-mul pos .1 below) (mod-lt (q .0) pos) (a .2) (plan-placed s rs (a .0) (a .1) (a .3)))
+    let a = after-place (planIn n rs) (placeOf r (q .0 / w) (q .0 % w)) (admit r (q .0 / w) (q .0 % w) m) ps (q .2) in
+    rw (a .4) (next (div-lt-iff-lt-mul pos .1 below) (mod-lt (q .0) pos) (a .2) (plan-placed n rs (a .0) (a .1) (a .3)))
 
 -- the plan c at place number k is not after a plan at a number that is no less
-least-first : (s : Setup) (r : Request) (f : ℕ → Option (List Place)) (k number : ℕ) (p : Place) (c found rest qs : List Place)
-    → placeOf r (number / width s r) (number % width s r) ≡ p → 0 < width s r → k ≤ number → f k ≡ some c → f number ≡ some (p ∷ found)
-    → c ≡ placeOf r (k / width s r) (k % width s r) ∷ rest → NotAfter found qs → NotAfter c (p ∷ qs)
-least-first s r f k number p c found rest qs at pos l fk fn head na = ⊎-elim same less (eq-or-lt-of-le l)
+least-first : (n : ℕ) (r : Request) (f : ℕ → Option (List Place)) (k number : ℕ) (p : Place) (c found rest qs : List Place)
+    → placeOf r (number / width n r) (number % width n r) ≡ p → 0 < width n r → k ≤ number → f k ≡ some c → f number ≡ some (p ∷ found)
+    → c ≡ placeOf r (k / width n r) (k % width n r) ∷ rest → NotAfter found qs → NotAfter c (p ∷ qs)
+least-first n r f k number p c found rest qs at pos l fk fn head na = ⊎-elim same less (eq-or-lt-of-le l)
   where
     same : k ≡ number → NotAfter c (p ∷ qs)
     same x = let e : c ≡ p ∷ found = cc in rw e (not-after-rest p found qs na)
 
     less : k < number → NotAfter c (p ∷ qs)
     less x =
-        let w = width s r in
-        rw (head, ← at) (inr (here (place-earlier s r (k / w) (k % w) (number / w) (number % w) (mod-lt k pos) (mod-lt number pos) (digits-before w k number pos x))))
+        let w = width n r in
+        rw (head, ← at) (inr (here (place-earlier n r (k / w) (k % w) (number / w) (number % w) (mod-lt k pos) (mod-lt number pos) (digits-before w k number pos x))))
 
-pub plan-first : (s : Setup) {rs : List Request} {m : Room} {qs : List Place} → Placed s rs m qs → (ps : List Place) × (planIn s rs m ≡ some ps) × NotAfter ps qs
+pub plan-first : (n : ℕ) {rs : List Request} {m : Room} {qs : List Place} → Placed n rs m qs → (ps : List Place) × (planIn n rs m ≡ some ps) × NotAfter ps qs
 unfolding planIn tryNumber thenRest putFirst
-plan-first s none-left = ([], refl, inl refl)
-plan-first s (next {r = r} {rs = rs} {m = m} {room = room} {k = k} {j = j} {ps = qs} f g e d) =
-    let w : ℕ = width s r in
+plan-first n none-left = ([], refl, inl refl)
+plan-first n (next {r = r} {rs = rs} {m = m} {room = room} {k = k} {j = j} {ps = qs} f g e d) =
+    let w : ℕ = width n r in
     let number : ℕ = k * w + j in
-    let below = plan-first s d in
+    let below = plan-first n d in
     let at : placeOf r (number / w) (number % w) ≡ placeOf r k j = λ i. placeOf r (digits-div k g i) (digits-mod k g i) in
-    let found : tryNumber (planIn s rs) s r m number ≡ some (placeOf r k j ∷ below .0) = rw (digits-div k g, digits-mod k g, e, below .1) in
-    let least = first-least (tryNumber (planIn s rs) s r m) 0 (counterCount (s .device) * w) number (placeOf r k j ∷ below .0) (omega arith) (omega (arith, digits-lt f g)) found in
-    let head = after-place (planIn s rs) (placeOf r (least .0 / w) (least .0 % w)) (admit r (least .0 / w) (least .0 % w) m) (least .1) (least .3) in
-    (least .1, least .4, least-first s r (tryNumber (planIn s rs) s r m) (least .0) number (placeOf r k j) (least .1) (below .0) (head .1) qs at (omega arith) (least .2) (least .3) found (head .4) (below .2))
+    let found : tryNumber (planIn n rs) n r m number ≡ some (placeOf r k j ∷ below .0) = rw (digits-div k g, digits-mod k g, e, below .1) in
+    let least = first-least (tryNumber (planIn n rs) n r m) 0 (n * w) number (placeOf r k j ∷ below .0) (omega arith) (omega (arith, digits-lt f g)) found in
+    let head = after-place (planIn n rs) (placeOf r (least .0 / w) (least .0 % w)) (admit r (least .0 / w) (least .0 % w) m) (least .1) (least .3) in
+    (least .1, least .4, least-first n r (tryNumber (planIn n rs) n r m) (least .0) number (placeOf r k j) (least .1) (below .0) (head .1) qs at (omega arith) (least .2) (least .3) found (head .4) (below .2))

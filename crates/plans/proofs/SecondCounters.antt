@@ -8,9 +8,7 @@ use native.Mathlib.Nat.{mul-le-mul, suc-mul}
 use native.Mathlib.Numerals.{add-one}
 use native.Mathlib.Omega.{arith}
 use Rattle.requests.specs.declared.CounterSet.{CounterSet}
-use Rattle.requests.specs.declared.Device.{Device}
 use Rattle.requests.specs.declared.Request.the-variants.{Latency}
-use Rattle.requests.specs.Devices.{counterCount}
 use Rattle.plans.specs.declared.Place.{Place}
 use Rattle.plans.specs.declared.Place.the-variants.{Counter, Pair}
 use Rattle.plans.specs.declared.Room.{Room}
@@ -19,7 +17,7 @@ use Rattle.plans.specs.Places.{first, second}
 use Rattle.plans.specs.Search.{takeCounter, placeOf, width, firstFrom, putFirst}
 use Rattle.plans.specs.Remaining.{planAfter, planCounter}
 use Rattle.plans.specs.Packed.{codeOf, packed}
-use Rattle.plans.proofs.Unpacking.{counters-few, none-packed, rest-code}
+use Rattle.plans.proofs.Unpacking.{none-packed, rest-code}
 use Rattle.plans.proofs.Trying.{first-none, first-some, triesTaking, triesFrom, place-tried, counters, counter-tried}
 
 -- counter k alone, and the pair (j, k), each before the same rest
@@ -71,33 +69,30 @@ alone-small alone rest one small (suc left) k few = go (alone-small alone rest o
     go later (some ps) f g = rw (first-some alone k left (Counter k ∷ ps) f) (omega (arith, g))
 
 -- the number of a plan that takes one counter for the first of at most 8 requests
-pub second-small : (d : Device) (rows : List ℕ) (next count : ℕ) (b : CounterSet) (room : Room) (x : ℕ) → count - next ≤ 7 → x ≡ packed (planCounter d rows next count b room)
+pub second-small : (n : ℕ) → n ≤ 8 → (rows : List ℕ) (next count : ℕ) (b : CounterSet) (room : Room) (x : ℕ) → count - next ≤ 7 → x ≡ packed (planCounter n rows next count b room)
     → x < 562949953421312
-second-small d rows next count b room x l e =
+second-small n few rows next count b room x l e =
     rw e
-    (alone-small (counters d rows next count b room) _ (counter-tried d rows next count b room)
-    (λ k. rest-code d rows next count (takeCounter b k room) _ l refl) (counterCount d) 0 (omega (arith, counters-few d .1)))
+    (alone-small (counters n rows next count b room) _ (counter-tried n rows next count b room)
+    (λ k. rest-code n few rows next count (takeCounter b k room) _ l refl) n 0 (omega arith))
 
 -- ---- the second counter in the room that the first has left
 
-module _ (d : Device) (rows : List ℕ) (at count : ℕ) (t : ℕ) (a b : CounterSet) (taken : ℕ → ℕ → Admission) (room : Room) (j : ℕ)
-    (below : j < counterCount d) (seconds : (k : ℕ) → taken j k ≡ takeCounter b k room) where
-  abbrev n : ℕ
-  n = counterCount d
-
+module _ (n : ℕ) (few : n ≤ 8) (rows : List ℕ) (at count : ℕ) (t : ℕ) (a b : CounterSet) (taken : ℕ → ℕ → Admission) (room : Room) (j : ℕ)
+    (below : j < n) (seconds : (k : ℕ) → taken j k ≡ takeCounter b k room) where
   abbrev tries : ℕ → Option (List Place)
-  tries = triesTaking d rows at count (Latency t a b) taken
+  tries = triesTaking n rows at count (Latency t a b) taken
 
   abbrev pairs : ℕ → ℕ → Option (List Place)
   pairs = triesFrom n n tries
 
   -- the plan of the rest, where the second counter is k
   abbrev rest : ℕ → Option (List Place)
-  rest k = planAfter d rows (at + 1) count (takeCounter b k room)
+  rest k = planAfter n rows (at + 1) count (takeCounter b k room)
 
   paired : (k p : ℕ) → k < n → p ≡ j * n + k → tries p ≡ putFirst (Pair j k) (rest k)
   unfolding placeOf width
-  paired k p l e = rw (e, ← seconds k) (place-tried d rows at count (Latency t a b) taken n j k refl l)
+  paired k p l e = rw (e, ← seconds k) (place-tried n rows at count (Latency t a b) taken n j k refl l)
 
   -- the pairs with the first counter j, and those behind them
   row : (j + 1) * n ≡ j * n + n
@@ -108,15 +103,15 @@ module _ (d : Device) (rows : List ℕ) (at count : ℕ) (t : ℕ) (a b : Counte
       let inside : (j + 1) * n ≤ n * n = mul-le-mul (omega arith) (omega arith) in
       omega (arith, row, inside)
 
-  module _ (x : ℕ) (e : x ≡ packed (planCounter d rows (at + 1) count b room)) where
+  module _ (x : ℕ) (e : x ≡ packed (planCounter n rows (at + 1) count b room)) where
     pub second-hit : (x ≡ 0 → ⊥) → x / 64 * 64 + j * 8 + x % 64 / 8 ≡ packed (pairs j 0)
     second-hit found =
         rw behind
-        (pair-hit (counters d rows (at + 1) count b room) tries rest j (j * n) n (counters-few d .1) (counter-tried d rows (at + 1) count b room) paired
+        (pair-hit (counters n rows (at + 1) count b room) tries rest j (j * n) n few (counter-tried n rows (at + 1) count b room) paired
         n 0 (j * n + 0) (n * n - ((j + 1) * n + 0)) x (omega arith) refl e found)
 
     pub second-none : x ≡ 0 → pairs j 0 ≡ pairs (j + 1) 0
     second-none z =
         rw behind
-        (pair-none (counters d rows (at + 1) count b room) tries rest j (j * n) n (counters-few d .1) (counter-tried d rows (at + 1) count b room) paired
+        (pair-none (counters n rows (at + 1) count b room) tries rest j (j * n) n few (counter-tried n rows (at + 1) count b room) paired
         n 0 (j * n + 0) ((j + 1) * n + 0) (n * n - ((j + 1) * n + 0)) (omega arith) refl (omega (arith, row)) (sym e ∙ z))

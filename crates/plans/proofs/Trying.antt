@@ -9,7 +9,6 @@ use native.Mathlib.Numerals.{add-one}
 use native.Mathlib.Omega.{arith}
 use lib.Arith.{digits-lt, digits-div, digits-mod}
 use Rattle.requests.specs.declared.CounterSet.{CounterSet}
-use Rattle.requests.specs.declared.Device.{Device}
 use Rattle.requests.specs.declared.Setup.{Setup}
 use Rattle.requests.specs.declared.Request.{Request}
 use Rattle.requests.specs.declared.Request.the-variants.{Event, Packet, Offcore, Latency}
@@ -27,7 +26,7 @@ use Rattle.plans.specs.Rows.{requestAt, rowsFrom}
 use Rattle.plans.specs.Counters.{available}
 use Rattle.plans.specs.Left.{withoutCounter, withPacket}
 use Rattle.plans.specs.Filters.{filterOf, roomOf}
-use Rattle.plans.specs.Remaining.{on, planFrom, planAfter, counterFirst, planCounter}
+use Rattle.plans.specs.Remaining.{planFrom, planAfter, counterFirst, planCounter}
 use Rattle.plans.specs.Packed.{codeOf, packed}
 use Rattle.plans.proofs.RequestRows.{rows-next}
 use Rattle.plans.proofs.Admitting.{counter-taken, counter-missing, counter-chosen, packet-held}
@@ -90,13 +89,13 @@ tries-skipped try total p q l h = go (q - p) p (omega arith) h
 
 -- ---- the request in row `at`
 
-module _ (d : Device) (rows : List ℕ) (at count : ℕ) where
-  pub none-remain : (m : Room) → at ≡ count → 1 ≡ packed (planFrom d rows at count m)
+module _ (n : ℕ) (rows : List ℕ) (at count : ℕ) where
+  pub none-remain : (m : Room) → at ≡ count → 1 ≡ packed (planFrom n rows at count m)
   unfolding planIn rowsFrom packed codeOf
   none-remain m e = let z : count - at ≡ 0 = omega arith in rw z
 
   -- the rest is planned in the room that is left
-  rest-planned : (p : Place) (a : Admission) → thenRest (planIn (on d) (rowsFrom rows at (count - at))) p a ≡ putFirst p (planAfter d rows at count a)
+  rest-planned : (p : Place) (a : Admission) → thenRest (planIn n (rowsFrom rows at (count - at))) p a ≡ putFirst p (planAfter n rows at count a)
   unfolding thenRest putFirst
   rest-planned p (Admitted room) = refl
   rest-planned p NoRoom = refl
@@ -104,54 +103,54 @@ module _ (d : Device) (rows : List ℕ) (at count : ℕ) where
   -- a counter is taken where the register is held, and the plan of the rest is x
   module _ (a : CounterSet) (k : ℕ) (left : Left) (held : Bool) (x : ℕ) where
     pub held-taken : (after : Left) (y : ℕ) → held ≡ true → available a (left .free) k ≡ true → after ≡ withoutCounter left k
-        → y ≡ packed (planFrom d rows at count (roomOf rows after)) → x ≡ y → x ≡ packed (planAfter d rows at count (pick held (takeCounter a k (roomOf rows left)) NoRoom))
+        → y ≡ packed (planFrom n rows at count (roomOf rows after)) → x ≡ y → x ≡ packed (planAfter n rows at count (pick held (takeCounter a k (roomOf rows left)) NoRoom))
     held-taken after y h free e planned is = rw (h, counter-taken rows a k left after free e, is) planned
 
-    pub held-not : held ≡ false → x ≡ 0 → x ≡ packed (planAfter d rows at count (pick held (takeCounter a k (roomOf rows left)) NoRoom))
+    pub held-not : held ≡ false → x ≡ 0 → x ≡ packed (planAfter n rows at count (pick held (takeCounter a k (roomOf rows left)) NoRoom))
     unfolding packed
     held-not h z = rw h z
 
 -- the try of place number p
-abbrev tries : Device → List ℕ → ℕ → ℕ → Request → Room → ℕ → Option (List Place)
-tries d rows at count r m = tryNumber (planIn (on d) (rowsFrom rows (at + 1) (count - (at + 1)))) (on d) r m
+abbrev tries : ℕ → List ℕ → ℕ → ℕ → Request → Room → ℕ → Option (List Place)
+tries n rows at count r m = tryNumber (planIn n (rowsFrom rows (at + 1) (count - (at + 1)))) n r m
 
 -- the same, where `taken` says what each place leaves
-unfoldable pub triesTaking : Device → List ℕ → ℕ → ℕ → Request → (ℕ → ℕ → Admission) → ℕ → Option (List Place)
-triesTaking d rows at count r taken p =
-    let w = width (on d) r in
-    thenRest (planIn (on d) (rowsFrom rows (at + 1) (count - (at + 1)))) (placeOf r (p / w) (p % w)) (taken (p / w) (p % w))
+unfoldable pub triesTaking : ℕ → List ℕ → ℕ → ℕ → Request → (ℕ → ℕ → Admission) → ℕ → Option (List Place)
+triesTaking n rows at count r taken p =
+    let w = width n r in
+    thenRest (planIn n (rowsFrom rows (at + 1) (count - (at + 1)))) (placeOf r (p / w) (p % w)) (taken (p / w) (p % w))
 
 -- the first result from the place (k, j) on
 abbrev pub triesFrom : ℕ → ℕ → (ℕ → Option (List Place)) → ℕ → ℕ → Option (List Place)
 triesFrom n w try k j = firstFrom try (k * w + j) (n * w - (k * w + j))
 
-module _ (d : Device) (rows : List ℕ) (at count : ℕ) (r : Request) (taken : ℕ → ℕ → Admission) where
+module _ (n : ℕ) (rows : List ℕ) (at count : ℕ) (r : Request) (taken : ℕ → ℕ → Admission) where
   abbrev try : ℕ → Option (List Place)
-  try = triesTaking d rows at count r taken
+  try = triesTaking n rows at count r taken
 
   -- `asked` is the row's request, and `r` has the same places
-  pub tries-begin : (asked : Request) (m : Room) (n w : ℕ) → at < count → asked ≡ requestAt rows at → n ≡ counterCount d → w ≡ width (on d) asked
-      → w ≡ width (on d) r → ((k j : ℕ) → placeOf asked k j ≡ placeOf r k j) → ((k j : ℕ) → admit asked k j m ≡ taken k j)
-      → planFrom d rows at count m ≡ triesFrom n w try 0 0
+  pub tries-begin : (asked : Request) (m : Room) (w : ℕ) → at < count → asked ≡ requestAt rows at → w ≡ width n asked
+      → w ≡ width n r → ((k j : ℕ) → placeOf asked k j ≡ placeOf r k j) → ((k j : ℕ) → admit asked k j m ≡ taken k j)
+      → planFrom n rows at count m ≡ triesFrom n w try 0 0
   unfolding planIn tryNumber triesTaking
-  tries-begin asked m n w l e f g h places same =
+  tries-begin asked m w l e g h places same =
       let z : 0 * w + 0 ≡ 0 = omega arith in
-      rw (rows-next rows at count l, ← e, ← g, ← f, z) (rw (sub-zero (n * w)) (λ i. firstFrom (λ p. number p i) 0 (n * w)))
+      rw (rows-next rows at count l, ← e, ← g, z) (rw (sub-zero (n * w)) (λ i. firstFrom (λ p. number p i) 0 (n * w)))
     where
-      number : (p : ℕ) → tries d rows at count asked m p ≡ try p
+      number : (p : ℕ) → tries n rows at count asked m p ≡ try p
       number p = rw (← g, ← h, places (p / w) (p % w), same (p / w) (p % w))
 
-  module _ (w k j : ℕ) (e : w ≡ width (on d) r) (l : j < w) where
-    pub place-tried : try (k * w + j) ≡ putFirst (placeOf r k j) (planAfter d rows (at + 1) count (taken k j))
+  module _ (w k j : ℕ) (e : w ≡ width n r) (l : j < w) where
+    pub place-tried : try (k * w + j) ≡ putFirst (placeOf r k j) (planAfter n rows (at + 1) count (taken k j))
     unfolding triesTaking
-    place-tried = rw (← e, digits-div k l, digits-mod k l) (rest-planned d rows (at + 1) count (placeOf r k j) (taken k j))
+    place-tried = rw (← e, digits-div k l, digits-mod k l) (rest-planned n rows (at + 1) count (placeOf r k j) (taken k j))
 
-    module _ (n : ℕ) (below : k < n) (x : ℕ) (g : x ≡ packed (planAfter d rows (at + 1) count (taken k j))) where
+    module _ (below : k < n) (x : ℕ) (g : x ≡ packed (planAfter n rows (at + 1) count (taken k j))) where
       inside : k * w + j < n * w
       inside = digits-lt below l
 
       pub tries-hit : (x ≡ 0 → ⊥) → x * 64 + k * 8 + j ≡ packed (triesFrom n w try k j)
-      tries-hit plan = rw (place-first r k j, place-second (on d) r k j (rw (← e) l)) at (try-hit try (k * w + j) (n * w) (placeOf r k j) _ x inside place-tried g plan)
+      tries-hit plan = rw (place-first r k j, place-second n r k j (rw (← e) l)) at (try-hit try (k * w + j) (n * w) (placeOf r k j) _ x inside place-tried g plan)
 
       pub tries-next : x ≡ 0 → triesFrom n w try k j ≡ triesFrom n w try k (j + 1)
       tries-next z =
@@ -165,10 +164,10 @@ module _ (d : Device) (rows : List ℕ) (at count : ℕ) (r : Request) (taken : 
           rw s (try-next try (k * w + j) (n * w) (placeOf r k j) _ x inside place-tried g z)
 
   -- counters that are not there are passed over
-  pub places-skipped : (n w k l : ℕ) → w ≡ width (on d) r → 1 ≤ w → k ≤ l → ((i : ℕ) → k ≤ i → i < l → (j : ℕ) → taken i j ≡ NoRoom)
+  pub places-skipped : (w k l : ℕ) → w ≡ width n r → 1 ≤ w → k ≤ l → ((i : ℕ) → k ≤ i → i < l → (j : ℕ) → taken i j ≡ NoRoom)
       → triesFrom n w try k 0 ≡ triesFrom n w try l 0
   unfolding triesTaking thenRest
-  places-skipped n w k l e wide lower missing =
+  places-skipped w k l e wide lower missing =
       tries-skipped try (n * w) (k * w + 0) (l * w + 0) (omega (arith, mul-le-mul lower (le-refl w)))
       (λ p from below. rw (← e, missing (p / w) (le-div-iff-mul-le wide .1 (omega arith)) (div-lt-iff-lt-mul wide .1 (omega arith)) (p % w)))
 
@@ -178,52 +177,52 @@ tries-done n w k j try h =
     try-done try (k * w + j) (n * w) (omega (arith, row))
 
 -- a request that is admitted nowhere
-pub nowhere-admitted : (d : Device) (rows : List ℕ) (at count : ℕ) (m : Room) (r : Request) → at < count → r ≡ requestAt rows at → ((k j : ℕ) → admit r k j m ≡ NoRoom)
-    → 0 ≡ packed (planFrom d rows at count m)
+pub nowhere-admitted : (n : ℕ) (rows : List ℕ) (at count : ℕ) (m : Room) (r : Request) → at < count → r ≡ requestAt rows at → ((k j : ℕ) → admit r k j m ≡ NoRoom)
+    → 0 ≡ packed (planFrom n rows at count m)
 unfolding packed planIn tryNumber thenRest
-nowhere-admitted d rows at count m r l e h =
-    rw (rows-next rows at count l, ← e, none-tried (tries d rows at count r m) (λ p. rw (h (p / width (on d) r) (p % width (on d) r))) 0 (counterCount d * width (on d) r))
+nowhere-admitted n rows at count m r l e h =
+    rw (rows-next rows at count l, ← e, none-tried (tries n rows at count r m) (λ p. rw (h (p / width n r) (p % width n r))) 0 (n * width n r))
 
 -- ---- a request that takes one counter
 
 -- its place number p is counter p
-counter-plan : (d : Device) (rows : List ℕ) (at count : ℕ) (m room : Room) (r : Request) (a : CounterSet) → at < count → r ≡ requestAt rows at
-    → width (on d) r ≡ 1 → ((k : ℕ) → placeOf r k 0 ≡ Counter k) → ((k : ℕ) → admit r k 0 m ≡ takeCounter a k room)
-    → planFrom d rows at count m ≡ planCounter d rows (at + 1) count a room
+counter-plan : (n : ℕ) (rows : List ℕ) (at count : ℕ) (m room : Room) (r : Request) (a : CounterSet) → at < count → r ≡ requestAt rows at
+    → width n r ≡ 1 → ((k : ℕ) → placeOf r k 0 ≡ Counter k) → ((k : ℕ) → admit r k 0 m ≡ takeCounter a k room)
+    → planFrom n rows at count m ≡ planCounter n rows (at + 1) count a room
 unfolding planIn tryNumber counterFirst
-counter-plan d rows at count m room r a l e w place same =
+counter-plan n rows at count m room r a l e w place same =
     rw (rows-next rows at count l, ← e) (λ i. firstFrom (λ p. number p i) 0 (total i))
   where
-    total : counterCount d * width (on d) r ≡ counterCount d
-    total = rw w (mul-one (counterCount d))
+    total : n * width n r ≡ n
+    total = rw w (mul-one (n))
 
-    number : (p : ℕ) → tries d rows at count r m p ≡ counterFirst d rows (at + 1) count a room p
+    number : (p : ℕ) → tries n rows at count r m p ≡ counterFirst n rows (at + 1) count a room p
     number p =
         let whole : p / 1 ≡ p = omega arith in
         let low : p % 1 ≡ 0 = omega arith in
         rw (w, whole, low, place p, same p)
 
-module _ (d : Device) (rows : List ℕ) (at count : ℕ) (left : Left) (l : at < count) where
+module _ (n : ℕ) (rows : List ℕ) (at count : ℕ) (left : Left) (l : at < count) where
   pub event-plan : (c m : ℕ) (a : CounterSet) → Event c m a ≡ requestAt rows at
-      → planFrom d rows at count (roomOf rows left) ≡ planCounter d rows (at + 1) count a (roomOf rows left)
+      → planFrom n rows at count (roomOf rows left) ≡ planCounter n rows (at + 1) count a (roomOf rows left)
   unfolding width placeOf admit
-  event-plan c m a e = counter-plan d rows at count _ _ (Event c m a) a l e refl (λ k. refl) (λ k. refl)
+  event-plan c m a e = counter-plan n rows at count _ _ (Event c m a) a l e refl (λ k. refl) (λ k. refl)
 
   pub packet-plan : (x y : ℕ) (a : CounterSet) (used : Left) → used ≡ withPacket left (at + 1) → Packet x y a ≡ requestAt rows at
       → holdsPacket (filterOf rows (left .packet)) x y ≡ true
-      → planFrom d rows at count (roomOf rows left) ≡ planCounter d rows (at + 1) count a (roomOf rows used)
+      → planFrom n rows at count (roomOf rows left) ≡ planCounter n rows (at + 1) count a (roomOf rows used)
   unfolding width placeOf
-  packet-plan x y a used u e h = counter-plan d rows at count _ _ (Packet x y a) a l e refl (λ k. refl) (λ k. packet-held rows at left x y a k 0 used u e h)
+  packet-plan x y a used u e h = counter-plan n rows at count _ _ (Packet x y a) a l e refl (λ k. refl) (λ k. packet-held rows at left x y a k 0 used u e h)
 
-module _ (d : Device) (rows : List ℕ) (next count : ℕ) (a : CounterSet) (room : Room) where
+module _ (n : ℕ) (rows : List ℕ) (next count : ℕ) (a : CounterSet) (room : Room) where
   abbrev pub counters : ℕ → Option (List Place)
-  counters = counterFirst d rows next count a room
+  counters = counterFirst n rows next count a room
 
-  pub counter-tried : (k : ℕ) → counters k ≡ putFirst (Counter k) (planAfter d rows next count (takeCounter a k room))
+  pub counter-tried : (k : ℕ) → counters k ≡ putFirst (Counter k) (planAfter n rows next count (takeCounter a k room))
   unfolding counterFirst
-  counter-tried k = rest-planned d rows next count (Counter k) (takeCounter a k room)
+  counter-tried k = rest-planned n rows next count (Counter k) (takeCounter a k room)
 
-  module _ (n k x : ℕ) (l : k < n) (g : x ≡ packed (planAfter d rows next count (takeCounter a k room))) where
+  module _ (k x : ℕ) (l : k < n) (g : x ≡ packed (planAfter n rows next count (takeCounter a k room))) where
     pub counter-hit : (x ≡ 0 → ⊥) → x * 64 + k * 8 ≡ packed (firstFrom counters k (n - k))
     unfolding first second
     counter-hit plan =
@@ -234,38 +233,22 @@ module _ (d : Device) (rows : List ℕ) (next count : ℕ) (a : CounterSet) (roo
     counter-next z = try-next counters k n (Counter k) _ x l (counter-tried k) g z
 
   -- counters that the set does not have are passed over
-  pub counters-skipped : (n p q : ℕ) → p ≤ q → ((i : ℕ) → p ≤ i → i < q → has a i ≡ false) → firstFrom counters p (n - p) ≡ firstFrom counters q (n - q)
+  pub counters-skipped : (p q : ℕ) → p ≤ q → ((i : ℕ) → p ≤ i → i < q → has a i ≡ false) → firstFrom counters p (n - p) ≡ firstFrom counters q (n - q)
   unfolding counterFirst thenRest available both
-  counters-skipped n p q l h = tries-skipped counters n p q l (λ i x y. rw (counter-missing a i room (rw (h i x y))))
+  counters-skipped p q l h = tries-skipped counters n p q l (λ i x y. rw (counter-missing a i room (rw (h i x y))))
 
   -- the counters of the set that are free, in place of the set
-  pub choice-plan : (choice : CounterSet) → ((k : ℕ) → has choice k ≡ available a (room .free) k) → planCounter d rows next count a room ≡ planCounter d rows next count choice room
+  pub choice-plan : (choice : CounterSet) → ((k : ℕ) → has choice k ≡ available a (room .free) k) → planCounter n rows next count a room ≡ planCounter n rows next count choice room
   unfolding counterFirst
-  choice-plan choice chosen = λ i. firstFrom (λ k. number k i) 0 (counterCount d)
+  choice-plan choice chosen = λ i. firstFrom (λ k. number k i) 0 (n)
     where
-      number : (k : ℕ) → counterFirst d rows next count a room k ≡ counterFirst d rows next count choice room k
+      number : (k : ℕ) → counterFirst n rows next count a room k ≡ counterFirst n rows next count choice room k
       number k = rw (counter-chosen a choice k room (chosen k))
 
-  pub counter-done : (n k : ℕ) → n ≤ k → firstFrom counters k (n - k) ≡ none
-  counter-done n k l = try-done counters k n l
+  pub counter-done : (k : ℕ) → n ≤ k → firstFrom counters k (n - k) ≡ none
+  counter-done k l = try-done counters k n l
 
--- ---- in a given room the usable set is not looked at
-
-width-on : (s : Setup) (r : Request) → width s r ≡ width (on (s .device)) r
-unfolding width
-width-on s (Event c m a) = refl
-width-on s (Packet x y a) = refl
-width-on s (Offcore w a) = refl
-width-on s (Latency t a b) = refl
-
-plan-on : (s : Setup) (rs : List Request) → planIn s rs ≡ planIn (on (s .device)) rs
-unfolding planIn tryNumber
-plan-on s [] = refl
-plan-on s (r ∷ rs) =
-    let w = width-on s r in
-    let rest = plan-on s rs in
-    λ i m. firstFrom (λ p. thenRest (rest i) (placeOf r (p / w i) (p % w i)) (admit r (p / w i) (p % w i) m)) 0 (counterCount (s .device) * w i)
-
-pub whole-plan : (s : Setup) (rows : List ℕ) (count : ℕ) → planFrom (s .device) rows 0 count (emptyRoom s) ≡ firstPlan s (rowsFrom rows 0 count)
+-- the search from the first row on
+pub whole-plan : (s : Setup) (rows : List ℕ) (count : ℕ) → planFrom (counterCount (s .device)) rows 0 count (emptyRoom s) ≡ firstPlan s (rowsFrom rows 0 count)
 unfolding firstPlan
-whole-plan s rows count = rw (sub-zero count, plan-on s (rowsFrom rows 0 count))
+whole-plan s rows count = rw (sub-zero count)

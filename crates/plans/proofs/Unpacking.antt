@@ -26,7 +26,7 @@ use Rattle.plans.specs.declared.Admission.the-variants.{Admitted, NoRoom
 use Rattle.plans.specs.Places.{first, second}
 use Rattle.plans.specs.Search.{emptyRoom, placeOf, width, planIn, firstPlan, hasPlan}
 use Rattle.plans.specs.Rows.{rowsFrom}
-use Rattle.plans.specs.Remaining.{on, planAfter}
+use Rattle.plans.specs.Remaining.{planAfter}
 use Rattle.plans.specs.Packed.{codeOf, packed, placeAt, placesFrom}
 use Rattle.plans.proofs.Placing.{Placed, none-left, next, plan-placed}
 use Rattle.plans.proofs.RequestRows.{rows-length}
@@ -40,23 +40,23 @@ place-first (Packet x y a) k j = refl
 place-first (Offcore w a) k j = refl
 place-first (Latency t a b) k j = refl
 
-pub place-second : (s : Setup) (r : Request) (k j : ℕ) → j < width s r → second (placeOf r k j) ≡ j
+pub place-second : (n : ℕ) (r : Request) (k j : ℕ) → j < width n r → second (placeOf r k j) ≡ j
 unfolding placeOf second width
-place-second s (Event c m a) k j l = omega arith
-place-second s (Packet x y a) k j l = omega arith
-place-second s (Offcore w a) k j l = refl
-place-second s (Latency t a b) k j l = refl
+place-second n (Event c m a) k j l = omega arith
+place-second n (Packet x y a) k j l = omega arith
+place-second n (Offcore w a) k j l = refl
+place-second n (Latency t a b) k j l = refl
 
 -- a device has at least one counter, and at most as many as six bits a place allow
 pub counters-few : (d : Device) → (1 ≤ counterCount d) × (counterCount d ≤ 8)
 counters-few d = (numbers d .counters-some, omega (arith, numbers d .counters-few))
 
-width-fits : (s : Setup) (r : Request) → width s r ≤ 8
+width-fits : (n : ℕ) (r : Request) → n ≤ 8 → width n r ≤ 8
 unfolding width
-width-fits s (Event c m a) = omega arith
-width-fits s (Packet x y a) = omega arith
-width-fits s (Offcore w a) = omega arith
-width-fits s (Latency t a b) = counters-few (s .device) .1
+width-fits n (Event c m a) few = omega arith
+width-fits n (Packet x y a) few = omega arith
+width-fits n (Offcore w a) few = omega arith
+width-fits n (Latency t a b) few = few
 
 -- ---- whether there is a plan
 
@@ -85,24 +85,23 @@ plan-packed s rs = go (firstPlan s rs)
 
 -- ---- its places
 
-placed-back : (s : Setup) {rs : List Request} {m : Room} {ps : List Place} → Placed s rs m ps → (code i : ℕ) → code / 2 ^ (6 * i) ≡ codeOf ps → placesFrom code i rs ≡ ps
+placed-back : (n : ℕ) → n ≤ 8 → {rs : List Request} {m : Room} {ps : List Place} → Placed n rs m ps → (code i : ℕ) → code / 2 ^ (6 * i) ≡ codeOf ps → placesFrom code i rs ≡ ps
 unfolding codeOf placesFrom placeAt
-placed-back s none-left code i e = refl
-placed-back s (next {r = r} {k = k} {j = j} {ps = ps} f g a d) code i e =
+placed-back n few none-left code i e = refl
+placed-back n few (next {r = r} {k = k} {j = j} {ps = ps} f g a d) code i e =
     let fk = place-first r k j in
-    let sj = place-second s r k j g in
-    let wide = width-fits s r in
-    let few = counters-few (s .device) .1 in
+    let sj = place-second n r k j g in
+    let wide = width-fits n r few in
     let whole : code / 2 ^ (6 * i) ≡ codeOf ps * 64 + k * 8 + j = e ∙ rw (fk, sj) in
     let high : code / 2 ^ (6 * i) / 8 % 8 ≡ k = omega (arith, whole, f, g, wide, few) in
     let low : code / 2 ^ (6 * i) % 8 ≡ j = omega (arith, whole, f, g, wide, few) in
     let shift : 6 * (i + 1) ≡ 6 * i + 6 = omega arith in
     let rest : code / 2 ^ (6 * (i + 1)) ≡ codeOf ps = rw (shift, ← shr-shr code (6 * i) 6) (omega (arith, whole, f, g, wide, few)) in
-    rw (high, low, placed-back s d code (i + 1) rest)
+    rw (high, low, placed-back n few d code (i + 1) rest)
 
 pub plan-unpacked : (s : Setup) (rs : List Request) (ps : List Place) → firstPlan s rs ≡ some ps → placesFrom (packed (firstPlan s rs)) 0 rs ≡ ps
 unfolding firstPlan packed
-plan-unpacked s rs ps e = placed-back s (plan-placed s rs (emptyRoom s) ps e) (packed (firstPlan s rs)) 0 (rw e (omega arith))
+plan-unpacked s rs ps e = placed-back (counterCount (s .device)) (counters-few (s .device) .1) (plan-placed (counterCount (s .device)) rs (emptyRoom s) ps e) (packed (firstPlan s rs)) 0 (rw e (omega arith))
 
 -- ---- how large the number is
 
@@ -123,22 +122,22 @@ limit-le (suc (suc (suc (suc (suc (suc zero)))))) h = omega arith
 limit-le (suc (suc (suc (suc (suc (suc (suc zero))))))) h = omega arith
 limit-le (suc (suc (suc (suc (suc (suc (suc (suc k)))))))) h = absurd (omega arith)
 
-placed-code : (s : Setup) {rs : List Request} {m : Room} {ps : List Place} → Placed s rs m ps → codeOf ps < limit (length rs)
+placed-code : (n : ℕ) → n ≤ 8 → {rs : List Request} {m : Room} {ps : List Place} → Placed n rs m ps → codeOf ps < limit (length rs)
 unfolding codeOf limit
-placed-code s none-left = omega arith
-placed-code s (next {r = r} {k = k} {j = j} f g a d) =
-    omega (arith, placed-code s d, f, g, width-fits s r, counters-few (s .device) .1, place-first r k j, place-second s r k j g)
+placed-code n few none-left = omega arith
+placed-code n few (next {r = r} {k = k} {j = j} f g a d) =
+    omega (arith, placed-code n few d, f, g, width-fits n r few, place-first r k j, place-second n r k j g)
 
-plan-code : (s : Setup) (rs : List Request) (m : Room) → length rs ≤ 7 → packed (planIn s rs m) < 8796093022208
+plan-code : (n : ℕ) → n ≤ 8 → (rs : List Request) (m : Room) → length rs ≤ 7 → packed (planIn n rs m) < 8796093022208
 unfolding packed
-plan-code s rs m l = go (planIn s rs m) refl
+plan-code n few rs m l = go (planIn n rs m) refl
   where
-    go : (o : Option (List Place)) → planIn s rs m ≡ o → packed o < 8796093022208
+    go : (o : Option (List Place)) → planIn n rs m ≡ o → packed o < 8796093022208
     go none e = omega arith
-    go (some ps) e = omega (arith, placed-code s (plan-placed s rs m ps e), limit-le (length rs) l)
+    go (some ps) e = omega (arith, placed-code n few (plan-placed n rs m ps e), limit-le (length rs) l)
 
 -- the plan of at most 7 requests is below 2^43
-pub rest-code : (d : Device) (rows : List ℕ) (at count : ℕ) (a : Admission) (x : ℕ) → count - at ≤ 7 → x ≡ packed (planAfter d rows at count a) → x < 8796093022208
+pub rest-code : (n : ℕ) → n ≤ 8 → (rows : List ℕ) (at count : ℕ) (a : Admission) (x : ℕ) → count - at ≤ 7 → x ≡ packed (planAfter n rows at count a) → x < 8796093022208
 unfolding packed
-rest-code d rows at count (Admitted m) x l e = rw e (plan-code (on d) (rowsFrom rows at (count - at)) m (omega (arith, rows-length rows at (count - at))))
-rest-code d rows at count NoRoom x l e = rw e (omega arith)
+rest-code n few rows at count (Admitted m) x l e = rw e (plan-code n few (rowsFrom rows at (count - at)) m (omega (arith, rows-length rows at (count - at))))
+rest-code n few rows at count NoRoom x l e = rw e (omega arith)

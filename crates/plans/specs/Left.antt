@@ -1,7 +1,5 @@
 -- What the requests placed so far leave, as it changes with each of them.
 use Prim.Native.Nat.{ℕ, _^_, _<_, _≤_}
-use Rattle.requests.specs.declared.Device.{Device}
-use Rattle.requests.specs.Devices.{counterCount}
 use Rattle.plans.specs.declared.left.Left.{Left}
 use Rattle.plans.specs.Counters.{without}
 
@@ -9,9 +7,11 @@ use Rattle.plans.specs.Counters.{without}
 abbrev pub InRows : Left → Type 0
 InRows left = (left .rsp0 ≤ 8) × (left .rsp1 ≤ 8) × (left .packet ≤ 8)
 
--- no counter is free that the device does not have
-abbrev pub OnDevice : Device → Left → Type 0
-OnDevice d left = left .free .0 < 2 ^ counterCount d
+-- there are n counters, as many as six bits a place allow, and no other is free
+pub record OnCounters (n : ℕ) (left : Left) : Type 0 where
+  pub some : 1 ≤ n
+  pub few : n ≤ 8
+  pub below : left .free .0 < 2 ^ n
 
 -- what is left without counter k
 abbrev pub withoutCounter : Left → ℕ → Left

@@ -1,4 +1,4 @@
--- Document 01, 'Bench tries': the first plans that tries A to G turn on, and those of packets on S; and the sets of counters that the
+-- Document 01, 'Bench tries': the first plans that tries A to G turn on, those of packets on S, and those of six counters on C; and the sets of counters that the
 -- requests of some of them can leave.
 use mathlib.Core.Path.{_≡_}
 use mathlib.Core.List.{List, [], _∷_, map}
@@ -6,7 +6,7 @@ use mathlib.Core.Option.{Option, none, some}
 use Prim.Native.Nat.{ℕ, _+_, _^_}
 use Rattle.requests.specs.declared.CounterSet.{CounterSet}
 use Rattle.requests.specs.declared.Device.{Device}
-use Rattle.requests.specs.declared.Device.the-variants.{G, S}
+use Rattle.requests.specs.declared.Device.the-variants.{G, S, C}
 use Rattle.requests.specs.declared.Setup.{Setup}
 use Rattle.requests.specs.declared.Request.{Request}
 use Rattle.requests.specs.declared.Request.the-variants.{Event, Packet, Offcore, Latency}
@@ -44,6 +44,10 @@ cycles allowed = Event 0x3C 0x00 (set allowed)
 -- RBOX_SNP_BYPASS, unit mask 3, with an allowed set
 abbrev bypass : ℕ → Request
 bypass allowed = Event 0x51 0x03 (set allowed)
+
+-- TRANS_IRQ with an allowed set
+abbrev transactions : ℕ → Request
+transactions allowed = Event 0x19 0x00 (set allowed)
 
 -- an offcore word at any counter
 abbrev offcore : ℕ → Request
@@ -105,9 +109,15 @@ planTries =
     ∷ row S 15 [] (some [])
     ∷ row S 15 (bypass 15 ∷ bypass 15 ∷ bypass 15 ∷ bypass 15 ∷ []) (some (counter 0 ∷ counter 1 ∷ counter 2 ∷ counter 3 ∷ []))
     ∷ row S 15 (bypass 15 ∷ bypass 15 ∷ bypass 15 ∷ bypass 15 ∷ bypass 15 ∷ []) none
-    -- counter 4 is none of either device, whatever the sets say
+    -- counter 4 is none of G or S, whatever the sets say
     ∷ row G 31 (instructions 16 ∷ []) none
     ∷ row S 31 (bypass 16 ∷ []) none
+    -- C has six counters
+    ∷ row (C 7) 63 (transactions 63 ∷ transactions 63 ∷ transactions 63 ∷ transactions 63 ∷ transactions 63 ∷ transactions 1 ∷ [])
+    (some (counter 1 ∷ counter 2 ∷ counter 3 ∷ counter 4 ∷ counter 5 ∷ counter 0 ∷ []))
+    ∷ row (C 7) 63 (transactions 32 ∷ []) (some (counter 5 ∷ []))
+    ∷ row (C 1) 48 (transactions 63 ∷ transactions 63 ∷ []) (some (counter 4 ∷ counter 5 ∷ []))
+    ∷ row (C 0) 127 (transactions 64 ∷ []) none
     ∷ []
 
 -- a plan as document 01 prints it
@@ -157,6 +167,9 @@ leftTries =
     -- packets, as many as there are counters, and one more
     ∷ leaves S 15 (Packet 5 7 (set 1) ∷ bypass 3 ∷ Packet 5 7 (set 7) ∷ bypass 15 ∷ []) (2 ^ 0)
     ∷ leaves S 15 (bypass 15 ∷ bypass 15 ∷ bypass 15 ∷ bypass 15 ∷ bypass 15 ∷ []) 0
+    -- C: four of six counters, and two requests for one
+    ∷ leaves (C 0) 63 (transactions 1 ∷ transactions 2 ∷ transactions 4 ∷ transactions 8 ∷ []) (2 ^ 48)
+    ∷ leaves (C 0) 63 (transactions 32 ∷ transactions 32 ∷ []) 0
     ∷ []
 
 -- the sets that the requests leave

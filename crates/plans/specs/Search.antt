@@ -81,12 +81,12 @@ admit (Latency t a b) k j room =
     andThen (andThen (andThen (takeWord 0 (latencyWord 0 t) room) (takeWord 1 (latencyWord 1 t))) (takeCounter a k))
     (takeCounter b j)
 
--- how many values j has
-unfoldable pub width : Setup → Request → ℕ
-width s (Event c m a) = 1
-width s (Packet x y a) = 1
-width s (Offcore w a) = 2
-width s (Latency t a b) = counterCount (s .device)
+-- how many values j has, where there are n counters
+unfoldable pub width : ℕ → Request → ℕ
+width n (Event c m a) = 1
+width n (Packet x y a) = 1
+width n (Offcore w a) = 2
+width n (Latency t a b) = n
 
 -- ---- all requests
 
@@ -106,17 +106,17 @@ thenRest rest p (Admitted m) = putFirst p (rest m)
 thenRest rest p NoRoom = none
 
 -- the request is given its place number p: places are numbered in the order of document 01, j rising faster than k
-unfoldable pub tryNumber : (Room → Option (List Place)) → Setup → Request → Room → ℕ → Option (List Place)
-tryNumber rest s r m p = thenRest rest (placeOf r (p / width s r) (p % width s r)) (admit r (p / width s r) (p % width s r) m)
+unfoldable pub tryNumber : (Room → Option (List Place)) → ℕ → Request → Room → ℕ → Option (List Place)
+tryNumber rest n r m p = thenRest rest (placeOf r (p / width n r) (p % width n r)) (admit r (p / width n r) (p % width n r) m)
 
--- the first plan of the requests in the room
-unfoldable pub planIn : Setup → List Request → Room → Option (List Place)
-planIn s [] m = some []
-planIn s (r ∷ rs) m = firstFrom (tryNumber (planIn s rs) s r m) 0 (counterCount (s .device) * width s r)
+-- the first plan of the requests on n counters, in the room
+unfoldable pub planIn : ℕ → List Request → Room → Option (List Place)
+planIn n [] m = some []
+planIn n (r ∷ rs) m = firstFrom (tryNumber (planIn n rs) n r m) 0 (n * width n r)
 
 -- the first plan of the requests
 unfoldable pub firstPlan : Setup → List Request → Option (List Place)
-firstPlan s rs = planIn s rs (emptyRoom s)
+firstPlan s rs = planIn (counterCount (s .device)) rs (emptyRoom s)
 
 -- whether the requests have a plan
 unfoldable pub hasPlan : Setup → List Request → Bool

@@ -3,7 +3,7 @@ ghost use mathlib.Core.Path.{_≡_};
 ghost use Prim.Native.Nat.{_<_, _≤_};
 ghost use Rattle.requests.specs.declared.Request.the-variants.{Latency};
 ghost use Rattle.plans.specs.Rows.{requestAt};
-ghost use Rattle.plans.specs.Left.{InRows, OnDevice};
+ghost use Rattle.plans.specs.Left.{InRows, OnCounters};
 ghost use Rattle.plans.specs.Filters.{roomOf};
 ghost use Rattle.plans.specs.Remaining.{planFrom};
 ghost use Rattle.plans.specs.Packed.{packed};
@@ -17,13 +17,12 @@ use crate::left::without_counter;
 use crate::remaining::place_counter;
 use crate::rows::ROW_NUMBERS;
 use requests::CounterSet;
-use requests::Device;
 use requests::bits::latency_word;
 
 // The plan from row `at` on, where a latency request stands: each first counter that is allowed and free is tried in order, and the second
 // is placed behind it like that of a request which takes one counter.
 pub fn place_latency(
-    device: Device,
+    n: u64,
     rows: &[u64; ROW_NUMBERS],
     count: usize,
     at: usize,
@@ -32,9 +31,9 @@ pub fn place_latency(
     seconds: CounterSet,
     left: Left,
 ) -> u64
-    requires { ⌜ (count ≤ 8) × (at < count) × InRows left × OnDevice device left ⌝ }
+    requires { ⌜ (count ≤ 8) × (at < count) × InRows left × OnCounters n left ⌝ }
     requires { ⌜ Latency types firsts seconds ≡ requestAt (now rows) at ⌝ }
-    ensures { λ r. ⌜ r ≡ packed (planFrom device (now (rows .entry)) at count (roomOf (now (rows .entry)) left)) ⌝ }
+    ensures { λ r. ⌜ r ≡ packed (planFrom n (now (rows .entry)) at count (roomOf (now (rows .entry)) left)) ⌝ }
 {
     if !holds_word(rows, 0, left.rsp0, latency_word(0, types)) {
         return 0;
@@ -48,7 +47,7 @@ pub fn place_latency(
     let choice = available(firsts, free);
     let mut j = next_in(choice, 0);
     while j < 64 {
-        let rest = place_counter(device, rows, count, next, seconds, without_counter(used, j));
+        let rest = place_counter(n, rows, count, next, seconds, without_counter(used, j));
         if rest != 0 {
             // The second counter stands where a counter alone does, and goes behind the first.
             return rest / 64 * 64 + j * 8 + rest % 64 / 8;

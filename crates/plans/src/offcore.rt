@@ -3,7 +3,7 @@ ghost use mathlib.Core.Path.{_≡_};
 ghost use Prim.Native.Nat.{_<_, _≤_};
 ghost use Rattle.requests.specs.declared.Request.the-variants.{Offcore};
 ghost use Rattle.plans.specs.Rows.{requestAt};
-ghost use Rattle.plans.specs.Left.{InRows, OnDevice};
+ghost use Rattle.plans.specs.Left.{InRows, OnCounters};
 ghost use Rattle.plans.specs.Filters.{roomOf};
 ghost use Rattle.plans.specs.Remaining.{planFrom};
 ghost use Rattle.plans.specs.Packed.{packed};
@@ -17,12 +17,11 @@ use crate::left::without_counter;
 use crate::remaining::place_from;
 use crate::rows::ROW_NUMBERS;
 use requests::CounterSet;
-use requests::Device;
 
 // The plan from row `at` on, where an offcore request stands: each counter that is allowed and free is tried in order, with RSP0 and then
 // with RSP1.
 pub fn place_offcore(
-    device: Device,
+    n: u64,
     rows: &[u64; ROW_NUMBERS],
     count: usize,
     at: usize,
@@ -30,9 +29,9 @@ pub fn place_offcore(
     allowed: CounterSet,
     left: Left,
 ) -> u64
-    requires { ⌜ (count ≤ 8) × (at < count) × InRows left × OnDevice device left ⌝ }
+    requires { ⌜ (count ≤ 8) × (at < count) × InRows left × OnCounters n left ⌝ }
     requires { ⌜ Offcore word allowed ≡ requestAt (now rows) at ⌝ }
-    ensures { λ r. ⌜ r ≡ packed (planFrom device (now (rows .entry)) at count (roomOf (now (rows .entry)) left)) ⌝ }
+    ensures { λ r. ⌜ r ≡ packed (planFrom n (now (rows .entry)) at count (roomOf (now (rows .entry)) left)) ⌝ }
 {
     let held0 = holds_word(rows, 0, left.rsp0, word);
     let held1 = holds_word(rows, 1, left.rsp1, word);
@@ -44,7 +43,7 @@ pub fn place_offcore(
         let mut rest0: u64 = 0;
         if held0 {
             rest0 = place_from(
-                device,
+                n,
                 rows,
                 count,
                 next,
@@ -57,7 +56,7 @@ pub fn place_offcore(
         let mut rest1: u64 = 0;
         if held1 {
             rest1 = place_from(
-                device,
+                n,
                 rows,
                 count,
                 next,

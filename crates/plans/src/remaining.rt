@@ -1,8 +1,8 @@
-// The plan of the requests that remain, packed into one number, found by placing them one after another.
+// The plan of the requests that remain on n counters, packed into one number, found by placing them one after another.
 // Everywhere 0 is no plan. `next` is the row behind the request that is placed, and so also its number as a register's user.
 ghost use mathlib.Core.Path.{_≡_};
 ghost use Prim.Native.Nat.{_≤_};
-ghost use Rattle.plans.specs.Left.{InRows, OnDevice};
+ghost use Rattle.plans.specs.Left.{InRows, OnCounters};
 ghost use Rattle.plans.specs.Filters.{roomOf};
 ghost use Rattle.plans.specs.Remaining.{planFrom, planCounter};
 ghost use Rattle.plans.specs.Packed.{packed};
@@ -17,27 +17,26 @@ use crate::offcore::place_offcore;
 use crate::rows::ROW_NUMBERS;
 use crate::rows::request_at;
 use requests::CounterSet;
-use requests::Device;
 use requests::Request;
 
 // The plan of a request that takes one counter, and of the rest from row `next` on: each counter that is allowed and free is tried in
 // order.
 pub fn place_counter(
-    device: Device,
+    n: u64,
     rows: &[u64; ROW_NUMBERS],
     count: usize,
     next: usize,
     allowed: CounterSet,
     left: Left,
 ) -> u64
-    requires { ⌜ (count ≤ 8) × (1 ≤ next) × (next ≤ count) × InRows left × OnDevice device left ⌝ }
-    ensures { λ r. ⌜ r ≡ packed (planCounter device (now (rows .entry)) next count allowed (roomOf (now (rows .entry)) left)) ⌝ }
+    requires { ⌜ (count ≤ 8) × (1 ≤ next) × (next ≤ count) × InRows left × OnCounters n left ⌝ }
+    ensures { λ r. ⌜ r ≡ packed (planCounter n (now (rows .entry)) next count allowed (roomOf (now (rows .entry)) left)) ⌝ }
 {
     let free = left.free;
     let choice = available(allowed, free);
     let mut k = next_in(choice, 0);
     while k < 64 {
-        let rest = place_from(device, rows, count, next, without_counter(left, k));
+        let rest = place_from(n, rows, count, next, without_counter(left, k));
         if rest != 0 {
             return rest * 64 + k * 8;
         }
@@ -47,15 +46,9 @@ pub fn place_counter(
 }
 
 // The plan from row `at` on: that row's request is given each of its places in order, and the rest is planned in the room that is left.
-pub fn place_from(
-    device: Device,
-    rows: &[u64; ROW_NUMBERS],
-    count: usize,
-    at: usize,
-    left: Left,
-) -> u64
-    requires { ⌜ (count ≤ 8) × (at ≤ count) × InRows left × OnDevice device left ⌝ }
-    ensures { λ r. ⌜ r ≡ packed (planFrom device (now (rows .entry)) at count (roomOf (now (rows .entry)) left)) ⌝ }
+pub fn place_from(n: u64, rows: &[u64; ROW_NUMBERS], count: usize, at: usize, left: Left) -> u64
+    requires { ⌜ (count ≤ 8) × (at ≤ count) × InRows left × OnCounters n left ⌝ }
+    ensures { λ r. ⌜ r ≡ packed (planFrom n (now (rows .entry)) at count (roomOf (now (rows .entry)) left)) ⌝ }
 {
     if at == count {
         return 1;
@@ -67,7 +60,7 @@ pub fn place_from(
             code: _,
             mask: _,
             allowed,
-        } => place_counter(device, rows, count, next, allowed, left),
+        } => place_counter(n, rows, count, next, allowed, left),
         Request::Packet {
             match_word,
             mask_word,
@@ -75,17 +68,17 @@ pub fn place_from(
         } => {
             let user = left.packet;
             if holds_packet(rows, user, match_word, mask_word) {
-                return place_counter(device, rows, count, next, allowed, with_packet(left, next));
+                return place_counter(n, rows, count, next, allowed, with_packet(left, next));
             }
             0
         }
         Request::Offcore { word, allowed } => {
-            place_offcore(device, rows, count, at, word, allowed, left)
+            place_offcore(n, rows, count, at, word, allowed, left)
         }
         Request::Latency {
             types,
             first,
             second,
-        } => place_latency(device, rows, count, at, types, first, second, left),
+        } => place_latency(n, rows, count, at, types, first, second, left),
     }
 }

@@ -10,6 +10,7 @@ use crate::rows::ROW_NUMBERS;
 use requests::CounterSet;
 use requests::Setup;
 use requests::devices::all_counters;
+use requests::devices::counter_count;
 
 // The first plan of the requests in the first `count` rows, packed; 0 where there is none.
 pub fn plan_rows(setup: Setup, rows: &[u64; ROW_NUMBERS], count: usize) -> u64
@@ -25,5 +26,5 @@ pub fn plan_rows(setup: Setup, rows: &[u64; ROW_NUMBERS], count: usize) -> u64
         rsp1: 0,
         packet: 0,
     };
-    place_from(device, rows, count, 0, left)
+    place_from(counter_count(device), rows, count, 0, left)
 }

@@ -7,7 +7,7 @@ use Prim.Native.Nat.{ℕ, _+_, _-_, _*_, _<_}
 use native.Mathlib.Nat.{sub-zero}
 use native.Mathlib.Omega.{arith}
 use Rattle.requests.specs.declared.CounterSet.{CounterSet}
-use Rattle.requests.specs.Devices.{has, counterCount}
+use Rattle.requests.specs.Devices.{has}
 use Rattle.plans.specs.declared.Place.{Place}
 use Rattle.plans.specs.declared.Room.{Room}
 use Rattle.plans.specs.Counters.{NextIn}
@@ -16,7 +16,8 @@ use Rattle.plans.specs.Filters.{roomOf}
 use Rattle.plans.specs.Remaining.{planAfter, planCounter}
 use Rattle.plans.specs.Packed.{packed}
 use Rattle.plans.proofs.CounterBits.{has-below, chosen-free, chosen-available}
-use Rattle.plans.proofs.Unpacking.{counters-few, rest-code}
+use Rattle.plans.proofs.Unpacking.{rest-code}
+use Rattle.plans.proofs.Leaving.{counter-leaves}
 use Rattle.plans.proofs.Admitting.{counter-taken}
 use Rattle.plans.proofs.Trying.{counters, choice-plan, counter-hit, counter-next, counters-skipped, counter-done}
 use Rattle.plans.proofs.+latency-place_latency+offcore-place_offcore+remaining-place_counter+remaining-place_from.Proof.Measures.{place-counter-at, place-from-below}
@@ -28,12 +29,12 @@ use Rattle.plans.proofs.counters.next_in.Reads as next-in-reads
 use Rattle.plans.proofs.left.without_counter.Reads as without-counter-reads
 
 abbrev pub place-counter-Inv-loop : place-counter-lts.InvT-loop
-place-counter-Inv-loop device rows count next left choice k₀ k =
-    let tried = counters device rows next count choice (roomOf rows left) in
-    (k < 64 → has choice k ≡ true) × (firstFrom tried 0 (counterCount device - 0) ≡ firstFrom tried k (counterCount device - k))
+place-counter-Inv-loop n rows count next left choice k₀ k =
+    let tried = counters n rows next count choice (roomOf rows left) in
+    (k < 64 → has choice k ≡ true) × (firstFrom tried 0 (n - 0) ≡ firstFrom tried k (n - k))
 
 abbrev pub place-counter-μ-loop : place-counter-lts.MeasureT-loop
-place-counter-μ-loop device rows count next left choice k₀ k = 64 - k
+place-counter-μ-loop n rows count next left choice k₀ k = 64 - k
 
 abbrev pub place-counter-claims : ℕ → place-counter-lts.Claims
 place-counter-claims t = (
@@ -79,17 +80,17 @@ module _ (t : ℕ) where
     abbrev planned : ℕ → Option (List Place)
     planned k =
         let a = start .args in
-        firstFrom (counters (a .device) (a .rows .now) (a .next) (a .count) choice room) k (counterCount (a .device) - k)
+        firstFrom (counters (a .n) (a .rows .now) (a .next) (a .count) choice room) k ((a .n) - k)
 
-    begun : planCounter (start .args .device) (start .args .rows .now) (start .args .next) (start .args .count) (start .args .allowed) room ≡ planned 0
+    begun : planCounter (start .args .n) (start .args .rows .now) (start .args .next) (start .args .count) (start .args .allowed) room ≡ planned 0
     begun =
         let a = start .args in
-        rw (sub-zero (counterCount (a .device))) (choice-plan (a .device) (a .rows .now) (a .next) (a .count) (a .allowed) room choice (c .before .available .ensures))
+        rw (sub-zero (a .n)) (choice-plan (a .n) (a .rows .now) (a .next) (a .count) (a .allowed) room choice (c .before .available .ensures))
 
     skipped : (k r : ℕ) → NextIn choice k r → planned k ≡ planned r
     skipped k r next =
         let a = start .args in
-        counters-skipped (a .device) (a .rows .now) (a .next) (a .count) choice room (counterCount (a .device)) k r (next .not-before) (next .none-between)
+        counters-skipped (a .n) (a .rows .now) (a .next) (a .count) choice room k r (next .not-before) (next .none-between)
 
   module _ (c : Trying) where
     abbrev ready : Ready
@@ -104,8 +105,8 @@ module _ (t : ℕ) where
     free : has (start ready .args .left .free) k ≡ true
     free = let a = start ready .args in chosen-free (a .allowed) (a .left .free) (choice ready) k (ready .before .available .ensures k) there
 
-    below : k < counterCount (start ready .args .device)
-    below = let s = start ready in has-below (counterCount (s .args .device)) (s .args .left .free) k (s .pre .1 .4) free
+    below : k < start ready .args .n
+    below = let s = start ready in has-below (s .args .n) (s .args .left .free) k (s .pre .1 .4 .below) free
 
   module _ (c : Tried) where
     abbrev trying : Trying
@@ -118,7 +119,7 @@ module _ (t : ℕ) where
     rest = c .place-from .result
 
     rest-planned : let a = start begin .args in
-        rest ≡ packed (planAfter (a .device) (a .rows .now) (a .next) (a .count) (takeCounter (choice begin) (k trying) (room begin)))
+        rest ≡ packed (planAfter (a .n) (a .rows .now) (a .next) (a .count) (takeCounter (choice begin) (k trying) (room begin)))
     rest-planned =
         let a = start begin .args in
         let available = chosen-available (a .allowed) (a .left .free) (choice begin) (k trying) (begin .before .available .ensures (k trying)) (there trying) in
@@ -127,17 +128,17 @@ module _ (t : ℕ) where
     rest-small : rest < 8796093022208
     rest-small =
         let a = start begin .args in
-        rest-code (a .device) (a .rows .now) (a .next) (a .count) (takeCounter (choice begin) (k trying) (room begin)) rest (omega arith) rest-planned
+        rest-code (a .n) (start begin .pre .1 .4 .few) (a .rows .now) (a .next) (a .count) (takeCounter (choice begin) (k trying) (room begin)) rest (omega arith) rest-planned
 
     taken : (rest ≡ 0 → ⊥) → rest * 64 + k trying * 8 ≡ packed (planned begin (k trying))
     taken =
         let a = start begin .args in
-        counter-hit (a .device) (a .rows .now) (a .next) (a .count) (choice begin) (room begin) (counterCount (a .device)) (k trying) rest (below trying) rest-planned
+        counter-hit (a .n) (a .rows .now) (a .next) (a .count) (choice begin) (room begin) (k trying) rest (below trying) rest-planned
 
     passed : rest ≡ 0 → planned begin (k trying) ≡ planned begin (k trying + 1)
     passed =
         let a = start begin .args in
-        counter-next (a .device) (a .rows .now) (a .next) (a .count) (choice begin) (room begin) (counterCount (a .device)) (k trying) rest (below trying) rest-planned
+        counter-next (a .n) (a .rows .now) (a .next) (a .count) (choice begin) (room begin) (k trying) rest (below trying) rest-planned
 
 -- ---- the needs of `place_counter`
 
@@ -153,7 +154,9 @@ pub place-counter-place-from-requires : (t : ℕ)
     → place-counter-lts.Need-place-from-requires (place-counter-claims t) (place-counter-at t) place-counter.Post place-counter-Inv-loop place-counter-μ-loop
 place-counter-place-from-requires t c κs =
     let s = start t (ready t (c .before)) in
-    (rw (← s .pre .0) (omega arith), rw (c .without-counter .ensures) (omega arith))
+    let asked = s .pre .1 in
+    let after = counter-leaves (s .args .n) (s .args .left) _ (asked .3) (asked .4) _ (c .without-counter .ensures) in
+    (rw (← s .pre .0) (omega arith), (asked .0, asked .2, after .0, after .1))
 
 pub place-counter-mul-result : (t : ℕ)
     → place-counter-lts.Need-mul-result (place-counter-claims t) (place-counter-at t) place-counter.Post place-counter-Inv-loop place-counter-μ-loop
@@ -173,7 +176,7 @@ pub place-counter-next-in-requires-2 : (t : ℕ)
     → place-counter-lts.Need-next-in-requires-2 (place-counter-claims t) (place-counter-at t) place-counter.Post place-counter-Inv-loop place-counter-μ-loop
 place-counter-next-in-requires-2 t c κs =
     let trying = trying t (c .before) in
-    omega (arith, below t trying, counters-few (start t (ready t trying) .args .device) .1)
+    omega (arith, below t trying, start t (ready t trying) .pre .1 .4 .few)
 
 pub place-counter-loop-less : (t : ℕ)
     → place-counter-lts.Need-loop-less (place-counter-claims t) (place-counter-at t) place-counter.Post place-counter-Inv-loop place-counter-μ-loop
@@ -198,6 +201,6 @@ place-counter-returns-2 t c =
     rw (
       begun t ready,
       loop .loop .inv .1,
-      counter-done (a .device) (a .rows .now) (a .next) (a .count) (choice t ready) (room t ready) (counterCount (a .device)) (loop .loop .k)
-          (omega (arith, counters-few (a .device) .1)),
+      counter-done (a .n) (a .rows .now) (a .next) (a .count) (choice t ready) (room t ready) (loop .loop .k)
+          (omega (arith, start t ready .pre .1 .4 .few)),
     )

@@ -11,19 +11,18 @@ use Rattle.requests.specs.declared.CounterSet.{CounterSet}
 use Rattle.requests.specs.declared.Request.{Request}
 use Rattle.requests.specs.declared.Request.the-variants.{Latency}
 use Rattle.requests.specs.Bits.{latencyWord}
-use Rattle.requests.specs.Devices.{has, counterCount}
+use Rattle.requests.specs.Devices.{has}
 use Rattle.plans.specs.declared.Place.{Place}
 use Rattle.plans.specs.declared.Room.{Room}
 use Rattle.plans.specs.declared.left.Left.{Left}
 use Rattle.plans.specs.declared.Admission.{Admission}
 use Rattle.plans.specs.Counters.{available, NextIn}
-use Rattle.plans.specs.Left.{InRows, OnDevice}
+use Rattle.plans.specs.Left.{InRows, OnCounters}
 use Rattle.plans.specs.Search.{holds, placeOf, width, takeCounter}
 use Rattle.plans.specs.Filters.{roomOf}
-use Rattle.plans.specs.Remaining.{on, planFrom}
+use Rattle.plans.specs.Remaining.{planFrom}
 use Rattle.plans.specs.Packed.{packed}
 use Rattle.plans.proofs.CounterBits.{has-below, chosen-free, chosen-available}
-use Rattle.plans.proofs.Unpacking.{counters-few}
 use Rattle.plans.proofs.Leaving.{rsp0-leaves, rsp1-leaves}
 use Rattle.plans.proofs.Admitting.{word-told, pairTaken, latency-held, pair-chosen, pair-first, pair-missing, rsp0-differs, rsp1-differs}
 use Rattle.plans.proofs.Trying.{triesTaking, triesFrom, tries-begin, places-skipped, nowhere-admitted}
@@ -41,13 +40,12 @@ use Rattle.plans.proofs.left.with_rsp1.Reads as with-rsp1-reads
 use Rattle.plans.proofs.left.without_counter.Reads as without-counter-reads
 
 abbrev pub place-latency-Inv-loop : place-latency-lts.InvT-loop
-place-latency-Inv-loop device rows count at types seconds next used choice j₀ j =
-    let n = counterCount device in
-    let pairs = triesFrom n n (triesTaking device rows at count (Latency types choice seconds) (pairTaken rows choice seconds used)) in
+place-latency-Inv-loop n rows count at types seconds next used choice j₀ j =
+    let pairs = triesFrom n n (triesTaking n rows at count (Latency types choice seconds) (pairTaken rows choice seconds used)) in
     (j < 64 → has choice j ≡ true) × (pairs 0 0 ≡ pairs j 0)
 
 abbrev pub place-latency-μ-loop : place-latency-lts.MeasureT-loop
-place-latency-μ-loop device rows count at types seconds next used choice j₀ j = 64 - j
+place-latency-μ-loop n rows count at types seconds next used choice j₀ j = 64 - j
 
 abbrev pub place-latency-claims : ℕ → place-latency-lts.Claims
 place-latency-claims t = (
@@ -101,19 +99,19 @@ module _ (t : ℕ) where
     room = roomOf (c .args .rows .now) (c .args .left)
 
     abbrev planned : Option (List Place)
-    planned = planFrom (c .args .device) (c .args .rows .now) (c .args .at) (c .args .count) room
+    planned = planFrom (c .args .n) (c .args .rows .now) (c .args .at) (c .args .count) room
 
     pub rsp0-refuses : holds (room .rsp0) (latencyWord 0 (c .args .types)) ≡ false → 0 ≡ packed planned
     rsp0-refuses differs =
         let a = c .args in
-        nowhere-admitted (a .device) (a .rows .now) (a .at) (a .count) room request (omega arith) (c .pre .1 .1)
+        nowhere-admitted (a .n) (a .rows .now) (a .at) (a .count) room request (omega arith) (c .pre .1 .1)
         (λ j k. rsp0-differs (a .rows .now) (a .at) (a .left) (a .types) (a .firsts) (a .seconds) j k differs)
 
     pub rsp1-refuses : holds (room .rsp0) (latencyWord 0 (c .args .types)) ≡ true → holds (room .rsp1) (latencyWord 1 (c .args .types)) ≡ false
         → 0 ≡ packed planned
     rsp1-refuses holds differs =
         let a = c .args in
-        nowhere-admitted (a .device) (a .rows .now) (a .at) (a .count) room request (omega arith) (c .pre .1 .1)
+        nowhere-admitted (a .n) (a .rows .now) (a .at) (a .count) room request (omega arith) (c .pre .1 .1)
         (λ j k. rsp1-differs (a .rows .now) (a .at) (a .left) (a .types) (a .firsts) (a .seconds) j k holds differs)
 
   module _ (c : Rsp0Held) where
@@ -142,7 +140,7 @@ module _ (t : ℕ) where
     start = entered (first-held both-held)
 
     abbrev pub n : ℕ
-    n = counterCount (start .args .device)
+    n = start .args .n
 
     abbrev pub used : Left
     used = c .before .before .before .with-rsp1 .result
@@ -163,10 +161,10 @@ module _ (t : ℕ) where
 
     -- the pairs from the given one on
     abbrev pairs : ℕ → ℕ → Option (List Place)
-    pairs = triesFrom n n (triesTaking (start .args .device) (start .args .rows .now) (start .args .at) (start .args .count) narrowed taken)
+    pairs = triesFrom n n (triesTaking (start .args .n) (start .args .rows .now) (start .args .at) (start .args .count) narrowed taken)
 
     -- each first counter is tried with every second one
-    every-second : n ≡ width (on (start .args .device)) narrowed
+    every-second : n ≡ width (start .args .n) narrowed
     unfolding width
     every-second = refl
 
@@ -174,24 +172,24 @@ module _ (t : ℕ) where
     unfolding width placeOf
     begun =
         let a = start .args in
-        tries-begin (a .device) (a .rows .now) (a .at) (a .count) narrowed taken (request start) (room start) n n
-        (start .pre .1 .0 .1) (start .pre .1 .1) refl refl every-second (λ j k. refl)
+        tries-begin (a .n) (a .rows .now) (a .at) (a .count) narrowed taken (request start) (room start) n
+        (start .pre .1 .0 .1) (start .pre .1 .1) refl every-second (λ j k. refl)
         (λ j k. latency-held (a .rows .now) (a .at) (a .left) (a .types) (a .firsts) (a .seconds) j k _ used
         (c .before .before .before .before .with-rsp0 .ensures) (c .before .before .before .with-rsp1 .ensures) (start .pre .1 .1) (rsp0-holds (first-held both-held)) (rsp1-holds both-held)
         ∙ pair-chosen (a .rows .now) choice (a .seconds) used j (a .firsts) k (chosen j))
 
     -- the registers taken leave the rows and the counters
-    pub kept : InRows used × OnDevice (start .args .device) used
+    pub kept : InRows used × OnCounters (start .args .n) used
     kept =
         let s = start in
         let asked = s .pre .1 .0 in
-        let half = rsp0-leaves (s .args .device) (s .args .left) _ (asked .2) (asked .3) (s .args .at + 1) (omega arith) (c .before .before .before .before .with-rsp0 .ensures) in
-        rsp1-leaves (s .args .device) _ used (half .0) (half .1) (s .args .at + 1) (omega arith) (c .before .before .before .with-rsp1 .ensures)
+        let half = rsp0-leaves (s .args .n) (s .args .left) _ (asked .2) (asked .3) (s .args .at + 1) (omega arith) (c .before .before .before .before .with-rsp0 .ensures) in
+        rsp1-leaves (s .args .n) _ used (half .0) (half .1) (s .args .at + 1) (omega arith) (c .before .before .before .with-rsp1 .ensures)
 
     pub skipped : (j r : ℕ) → NextIn choice j r → pairs j 0 ≡ pairs r 0
     skipped j r next =
         let a = start .args in
-        places-skipped (a .device) (a .rows .now) (a .at) (a .count) narrowed taken n n j r every-second (counters-few (a .device) .0) (next .not-before)
+        places-skipped (a .n) (a .rows .now) (a .at) (a .count) narrowed taken n j r every-second (start .pre .1 .0 .3 .some) (next .not-before)
         (λ i l m k. pair-missing (a .rows .now) choice (a .seconds) used i k (next .none-between i l m))
 
   module _ (c : Trying) where
@@ -208,7 +206,7 @@ module _ (t : ℕ) where
     free = chosen-free (start ready .args .firsts) (used ready .free) (choice ready) j (chosen ready j) there
 
     pub below : j < n ready
-    below = has-below (n ready) (used ready .free) j (kept ready .1) free
+    below = has-below (n ready) (used ready .free) j (kept ready .1 .below) free
 
   module _ (c : Tried) where
     abbrev pub trying : Trying
@@ -234,17 +232,17 @@ module _ (t : ℕ) where
     rest-small =
         let a = start begin .args in
         let asked = start begin .pre .1 .0 in
-        second-small (a .device) (a .rows .now) (a .at + 1) (a .count) (a .seconds) left rest (omega arith) (c .place-counter .ensures)
+        second-small (a .n) (asked .3 .few) (a .rows .now) (a .at + 1) (a .count) (a .seconds) left rest (omega arith) (c .place-counter .ensures)
 
     pub pair-taken : (rest ≡ 0 → ⊥) → rest / 64 * 64 + j trying * 8 + rest % 64 / 8 ≡ packed (pairs begin (j trying) 0)
     pair-taken =
         let a = start begin .args in
-        second-hit (a .device) (a .rows .now) (a .at) (a .count) (a .types) (choice begin) (a .seconds) (taken begin) left (j trying) (below trying) seconds rest (c .place-counter .ensures)
+        second-hit (a .n) (start begin .pre .1 .0 .3 .few) (a .rows .now) (a .at) (a .count) (a .types) (choice begin) (a .seconds) (taken begin) left (j trying) (below trying) seconds rest (c .place-counter .ensures)
 
     pair-passed : rest ≡ 0 → pairs begin (j trying) 0 ≡ pairs begin (j trying + 1) 0
     pair-passed =
         let a = start begin .args in
-        second-none (a .device) (a .rows .now) (a .at) (a .count) (a .types) (choice begin) (a .seconds) (taken begin) left (j trying) (below trying) seconds rest (c .place-counter .ensures)
+        second-none (a .n) (start begin .pre .1 .0 .3 .few) (a .rows .now) (a .at) (a .count) (a .types) (choice begin) (a .seconds) (taken begin) left (j trying) (below trying) seconds rest (c .place-counter .ensures)
 
     pub passed-on : rest ≡ 0 → (r : ℕ) → NextIn (choice begin) (j trying + 1) r → pairs begin 0 0 ≡ pairs begin r 0
     passed-on none r next = rw (trying .before .loop .inv .1, pair-passed none) (skipped begin (j trying + 1) r next)

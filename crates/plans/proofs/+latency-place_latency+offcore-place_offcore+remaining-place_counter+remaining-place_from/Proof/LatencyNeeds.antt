@@ -3,7 +3,6 @@ use Prim.Native.Nat.{ℕ}
 use native.Mathlib.Omega.{arith}
 use borrow.Author.Tests.{not-true}
 use Rattle.plans.specs.Packed.{packed}
-use Rattle.plans.proofs.Unpacking.{counters-few}
 use Rattle.plans.proofs.Leaving.{counter-leaves}
 use Rattle.plans.proofs.Admitting.{word-told}
 use Rattle.plans.proofs.Trying.{tries-done}
@@ -41,7 +40,7 @@ place-latency-place-counter-requires t c κs =
     let ready = ready t (c .before) in
     let s = start t ready in
     let asked = s .pre .1 .0 in
-    let after = counter-leaves (s .args .device) (used t ready) (c .without-counter .result) (kept t ready .0) (kept t ready .1) _ (c .without-counter .ensures) in
+    let after = counter-leaves (s .args .n) (used t ready) (c .without-counter .result) (kept t ready .0) (kept t ready .1) _ (c .without-counter .ensures) in
     (rw (← s .pre .0) (omega arith), (asked .0, omega arith, omega arith, after .0, after .1))
 
 pub place-latency-add-result : (t : ℕ)
@@ -62,7 +61,7 @@ pub place-latency-next-in-requires-2 : (t : ℕ)
     → place-latency-lts.Need-next-in-requires-2 (place-latency-claims t) (place-latency-at t) place-latency.Post place-latency-Inv-loop place-latency-μ-loop
 place-latency-next-in-requires-2 t c κs =
     let trying = trying t (c .before) in
-    omega (arith, below t trying, counters-few (start t (ready t trying) .args .device) .1)
+    omega (arith, below t trying, start t (ready t trying) .pre .1 .0 .3 .few)
 
 pub place-latency-loop-less : (t : ℕ)
     → place-latency-lts.Need-loop-less (place-latency-claims t) (place-latency-at t) place-latency.Post place-latency-Inv-loop place-latency-μ-loop
@@ -80,4 +79,4 @@ unfolding packed
 place-latency-returns-4 t c =
     let loop = c .before in
     let ready = loop .before in
-    rw (begun t ready, loop .loop .inv .1, tries-done (n t ready) (n t ready) (loop .loop .j) 0 _ (omega (arith, counters-few (start t ready .args .device) .1)))
+    rw (begun t ready, loop .loop .inv .1, tries-done (n t ready) (n t ready) (loop .loop .j) 0 _ (omega (arith, start t ready .pre .1 .0 .3 .few)))

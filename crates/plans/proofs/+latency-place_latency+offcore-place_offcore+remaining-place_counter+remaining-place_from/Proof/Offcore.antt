@@ -11,7 +11,7 @@ use lib.Dec.{lit<}
 use Rattle.requests.specs.declared.CounterSet.{CounterSet}
 use Rattle.requests.specs.declared.Request.{Request}
 use Rattle.requests.specs.declared.Request.the-variants.{Offcore}
-use Rattle.requests.specs.Devices.{has, counterCount}
+use Rattle.requests.specs.Devices.{has}
 use Rattle.plans.specs.declared.Place.{Place}
 use Rattle.plans.specs.declared.Room.{Room}
 use Rattle.plans.specs.declared.left.Left.{Left}
@@ -20,7 +20,7 @@ use Rattle.plans.specs.Counters.{available, NextIn}
 use Rattle.plans.specs.Left.{withoutCounter, withRsp0, withRsp1}
 use Rattle.plans.specs.Search.{placeOf, width}
 use Rattle.plans.specs.Filters.{roomOf}
-use Rattle.plans.specs.Remaining.{on, planFrom, planAfter}
+use Rattle.plans.specs.Remaining.{planFrom, planAfter}
 use Rattle.plans.specs.Packed.{packed}
 use Rattle.plans.proofs.CounterBits.{has-below, chosen-free, chosen-available}
 use Rattle.plans.proofs.Unpacking.{rest-code}
@@ -38,13 +38,13 @@ use Rattle.plans.proofs.left.with_rsp1.Reads as with-rsp1-reads
 use Rattle.plans.proofs.left.without_counter.Reads as without-counter-reads
 
 abbrev pub place-offcore-Inv-loop : place-offcore-lts.InvT-loop
-place-offcore-Inv-loop device rows count at word left held0 held1 next choice k₀ k =
+place-offcore-Inv-loop n rows count at word left held0 held1 next choice k₀ k =
     let taken = offcoreTaken rows choice held0 held1 (withRsp0 left (at + 1)) (withRsp1 left (at + 1)) in
-    let places = triesFrom (counterCount device) 2 (triesTaking device rows at count (Offcore word choice) taken) in
+    let places = triesFrom (n) 2 (triesTaking n rows at count (Offcore word choice) taken) in
     (k < 64 → has choice k ≡ true) × (places 0 0 ≡ places k 0)
 
 abbrev pub place-offcore-μ-loop : place-offcore-lts.MeasureT-loop
-place-offcore-μ-loop device rows count at word left held0 held1 next choice k₀ k = 64 - k
+place-offcore-μ-loop n rows count at word left held0 held1 next choice k₀ k = 64 - k
 
 abbrev pub place-offcore-claims : ℕ → place-offcore-lts.Claims
 place-offcore-claims t = (
@@ -96,7 +96,7 @@ module _ (t : ℕ) where
     room = roomOf (c .args .rows .now) (c .args .left)
 
     abbrev planned : Option (List Place)
-    planned = planFrom (c .args .device) (c .args .rows .now) (c .args .at) (c .args .count) room
+    planned = planFrom (c .args .n) (c .args .rows .now) (c .args .at) (c .args .count) room
 
   module _ (c : Ready) where
     abbrev looked : Looked
@@ -106,7 +106,7 @@ module _ (t : ℕ) where
     start = looked .before .before
 
     abbrev pub n : ℕ
-    n = counterCount (start .args .device)
+    n = start .args .n
 
     -- what is left with RSP0 used, and with RSP1
     abbrev left0 : Left
@@ -127,7 +127,7 @@ module _ (t : ℕ) where
 
     -- the plan of the rest
     abbrev after : ℕ → ℕ → Option (List Place)
-    after k j = planAfter (start .args .device) (start .args .rows .now) (start .args .at + 1) (start .args .count) (taken k j)
+    after k j = planAfter (start .args .n) (start .args .rows .now) (start .args .at + 1) (start .args .count) (taken k j)
 
     -- the request, for the counters that are free
     abbrev narrowed : Request
@@ -135,9 +135,9 @@ module _ (t : ℕ) where
 
     -- the places from counter k with register j on
     abbrev places : ℕ → ℕ → Option (List Place)
-    places = triesFrom n 2 (triesTaking (start .args .device) (start .args .rows .now) (start .args .at) (start .args .count) narrowed taken)
+    places = triesFrom n 2 (triesTaking (start .args .n) (start .args .rows .now) (start .args .at) (start .args .count) narrowed taken)
 
-    two : 2 ≡ width (on (start .args .device)) narrowed
+    two : 2 ≡ width (start .args .n) narrowed
     unfolding width
     two = refl
 
@@ -145,8 +145,8 @@ module _ (t : ℕ) where
     unfolding width placeOf
     begun =
         let a = start .args in
-        tries-begin (a .device) (a .rows .now) (a .at) (a .count) narrowed taken (request start) (room start) n 2
-        (start .pre .1 .0 .1) (start .pre .1 .1) refl refl two (λ k j. refl)
+        tries-begin (a .n) (a .rows .now) (a .at) (a .count) narrowed taken (request start) (room start) 2
+        (start .pre .1 .0 .1) (start .pre .1 .1) refl two (λ k j. refl)
         (λ k j. offcore-asked (a .rows .now) (a .at) (a .left) (a .word) (a .allowed) (looked .before .holds-word .result) (looked .holds-word2 .result)
         (start .pre .1 .1) (looked .before .holds-word .ensures) (looked .holds-word2 .ensures) k j
         ∙ offcore-chosen (a .rows .now) choice (a .allowed) (looked .before .holds-word .result) (looked .holds-word2 .result) left0 left1 k j (chosen k) (chosen k))
@@ -154,30 +154,30 @@ module _ (t : ℕ) where
     pub skipped : (k r : ℕ) → NextIn choice k r → places k 0 ≡ places r 0
     skipped k r next =
         let a = start .args in
-        places-skipped (a .device) (a .rows .now) (a .at) (a .count) narrowed taken n 2 k r two (omega arith) (next .not-before)
+        places-skipped (a .n) (a .rows .now) (a .at) (a .count) narrowed taken 2 k r two (omega arith) (next .not-before)
         (λ i l m j. offcore-missing (a .rows .now) choice (looked .before .holds-word .result) (looked .holds-word2 .result) left0 left1 i j (next .none-between i l m))
 
     module _ (k j x : ℕ) (e : x ≡ packed (after k j)) where
       rest-small : x < 8796093022208
       rest-small =
           let a = start .args in
-          rest-code (a .device) (a .rows .now) (a .at + 1) (a .count) (taken k j) x (omega arith) e
+          rest-code (a .n) (start .pre .1 .0 .3 .few) (a .rows .now) (a .at + 1) (a .count) (taken k j) x (omega arith) e
 
       module _ (l : j < 2) (below : k < n) where
         pub place-taken : (x ≡ 0 → ⊥) → x * 64 + k * 8 + j ≡ packed (places k j)
         place-taken =
             let a = start .args in
-            tries-hit (a .device) (a .rows .now) (a .at) (a .count) narrowed taken 2 k j two l n below x e
+            tries-hit (a .n) (a .rows .now) (a .at) (a .count) narrowed taken 2 k j two l below x e
 
         place-next : x ≡ 0 → places k j ≡ places k (j + 1)
         place-next =
             let a = start .args in
-            tries-next (a .device) (a .rows .now) (a .at) (a .count) narrowed taken 2 k j two l n below x e
+            tries-next (a .n) (a .rows .now) (a .at) (a .count) narrowed taken 2 k j two l below x e
 
         pub place-carry : x ≡ 0 → j + 1 ≡ 2 → places k j ≡ places (k + 1) 0
         place-carry =
             let a = start .args in
-            tries-carry (a .device) (a .rows .now) (a .at) (a .count) narrowed taken 2 k j two l n below x e
+            tries-carry (a .n) (a .rows .now) (a .at) (a .count) narrowed taken 2 k j two l below x e
 
   module _ (c : Trying) where
     abbrev pub ready : Ready
@@ -196,7 +196,7 @@ module _ (t : ℕ) where
     can-take = chosen-available (start ready .args .allowed) (start ready .args .left .free) (choice ready) k (chosen ready k) there
 
     pub below : k < n ready
-    below = has-below (n ready) (start ready .args .left .free) k (start ready .pre .1 .0 .3) free
+    below = has-below (n ready) (start ready .args .left .free) k (start ready .pre .1 .0 .3 .below) free
 
   module _ (c : Rsp0Tried) where
     abbrev pub trying0 : Trying
@@ -208,9 +208,9 @@ module _ (t : ℕ) where
         let a = start r .args in
         elim (c .if1 .came) [
           | inl p ↦
-              held-taken (a .device) (a .rows .now) (a .at + 1) (a .count) (choice r) (k trying0) (left0 r) _ _ _ _ (p .0 .taken) (can-take trying0)
+              held-taken (a .n) (a .rows .now) (a .at + 1) (a .count) (choice r) (k trying0) (left0 r) _ _ _ _ (p .0 .taken) (can-take trying0)
               (p .2 .ensures ∙ ap (λ (l : Left). withoutCounter l (k trying0)) (p .1 .ensures)) (p .3 .ensures) (p .4)
-          | inr p ↦ held-not (a .device) (a .rows .now) (a .at + 1) (a .count) (choice r) (k trying0) (left0 r) _ _ (p .0 .left) (p .1)
+          | inr p ↦ held-not (a .n) (a .rows .now) (a .at + 1) (a .count) (choice r) (k trying0) (left0 r) _ _ (p .0 .left) (p .1)
         ]
 
     pub rest0-small : c .if1 .rest0 < 8796093022208
@@ -235,9 +235,9 @@ module _ (t : ℕ) where
         let a = start r .args in
         elim (c .if3 .came) [
           | inl p ↦
-              held-taken (a .device) (a .rows .now) (a .at + 1) (a .count) (choice r) (k trying1) (left1 r) _ _ _ _ (p .0 .taken) (can-take trying1)
+              held-taken (a .n) (a .rows .now) (a .at + 1) (a .count) (choice r) (k trying1) (left1 r) _ _ _ _ (p .0 .taken) (can-take trying1)
               (p .2 .ensures ∙ ap (λ (l : Left). withoutCounter l (k trying1)) (p .1 .ensures)) (p .3 .ensures) (p .4)
-          | inr p ↦ held-not (a .device) (a .rows .now) (a .at + 1) (a .count) (choice r) (k trying1) (left1 r) _ _ (p .0 .left) (p .1)
+          | inr p ↦ held-not (a .n) (a .rows .now) (a .at + 1) (a .count) (choice r) (k trying1) (left1 r) _ _ (p .0 .left) (p .1)
         ]
 
     pub rest1-small : c .if3 .rest1 < 8796093022208

@@ -7,7 +7,6 @@ use lib.Dec.{lit<}
 use Rattle.requests.specs.Devices.{has}
 use Rattle.plans.specs.declared.left.Left.{Left}
 use Rattle.plans.specs.Packed.{packed}
-use Rattle.plans.proofs.Unpacking.{counters-few}
 use Rattle.plans.proofs.Leaving.{counter-leaves, rsp0-leaves, rsp1-leaves}
 use Rattle.plans.proofs.Trying.{tries-done}
 use Rattle.plans.proofs.+latency-place_latency+offcore-place_offcore+remaining-place_counter+remaining-place_from.Proof.Measures.{place-offcore-at}
@@ -30,8 +29,8 @@ pub place-offcore-place-from-requires : (t : ℕ)
 place-offcore-place-from-requires t c κs =
     let s = start t (ready t (c .before .before .before)) in
     let asked = s .pre .1 .0 in
-    let used = rsp0-leaves (s .args .device) (s .args .left) _ (asked .2) (asked .3) (s .args .at + 1) (omega arith) (c .before .with-rsp0 .ensures) in
-    let after = counter-leaves (s .args .device) _ (c .without-counter .result) (used .0) (used .1) _ (c .without-counter .ensures) in
+    let used = rsp0-leaves (s .args .n) (s .args .left) _ (asked .2) (asked .3) (s .args .at + 1) (omega arith) (c .before .with-rsp0 .ensures) in
+    let after = counter-leaves (s .args .n) _ (c .without-counter .result) (used .0) (used .1) _ (c .without-counter .ensures) in
     (rw (← s .pre .0) (omega arith), (asked .0, omega arith, after .0, after .1))
 
 pub place-offcore-mul-result : (t : ℕ)
@@ -62,8 +61,8 @@ pub place-offcore-place-from-requires-2 : (t : ℕ)
 place-offcore-place-from-requires-2 t c κs =
     let s = start t (ready t (c .before .before .before .before .before)) in
     let asked = s .pre .1 .0 in
-    let used = rsp1-leaves (s .args .device) (s .args .left) _ (asked .2) (asked .3) (s .args .at + 1) (omega arith) (c .before .with-rsp1 .ensures) in
-    let after = counter-leaves (s .args .device) _ (c .without-counter2 .result) (used .0) (used .1) _ (c .without-counter2 .ensures) in
+    let used = rsp1-leaves (s .args .n) (s .args .left) _ (asked .2) (asked .3) (s .args .at + 1) (omega arith) (c .before .with-rsp1 .ensures) in
+    let after = counter-leaves (s .args .n) _ (c .without-counter2 .result) (used .0) (used .1) _ (c .without-counter2 .ensures) in
     (rw (← s .pre .0) (omega arith), (asked .0, omega arith, after .0, after .1))
 
 pub place-offcore-mul-result-3 : (t : ℕ)
@@ -90,7 +89,7 @@ pub place-offcore-next-in-requires-2 : (t : ℕ)
     → place-offcore-lts.Need-next-in-requires-2 (place-offcore-claims t) (place-offcore-at t) place-offcore.Post place-offcore-Inv-loop place-offcore-μ-loop
 place-offcore-next-in-requires-2 t c κs =
     let trying = trying1 t (c .before) in
-    omega (arith, below t trying, counters-few (start t (ready t trying) .args .device) .1)
+    omega (arith, below t trying, start t (ready t trying) .pre .1 .0 .3 .few)
 
 pub place-offcore-loop-less : (t : ℕ)
     → place-offcore-lts.Need-loop-less (place-offcore-claims t) (place-offcore-at t) place-offcore.Post place-offcore-Inv-loop place-offcore-μ-loop
@@ -114,4 +113,4 @@ unfolding packed
 place-offcore-returns-3 t c =
     let loop = c .before in
     let ready = loop .before in
-    rw (begun t ready, loop .loop .inv .1, tries-done (n t ready) 2 (loop .loop .k) 0 _ (omega (arith, counters-few (start t ready .args .device) .1)))
+    rw (begun t ready, loop .loop .inv .1, tries-done (n t ready) 2 (loop .loop .k) 0 _ (omega (arith, start t ready .pre .1 .0 .3 .few)))
