@@ -14,14 +14,14 @@ use Rattle.requests.specs.Refusals.{numberOf, answerNumber}
 use Rattle.plans.specs.Legal.{wordsOf, packetsOf, ofAll, counters}
 use Rattle.plans.specs.Places.{countedOf, countersOf, first, second}
 use Rattle.layouts.specs.Examples.{plans, writesOf, readingFor, acceptances, tellsOf, refusals, AcceptedAs, Examples, Plan, RefusedAs}
-use Rattle.layouts.specs.Layout.{tabulate, layoutOf, rsp0At, rsp1At, mmCfgAt, matchAt, maskAt, mmEnable, enabled, eventWord, codeOf, maskOf, offcoreCode, rspMask, rspWord, packetWord}
+use Rattle.layouts.specs.Layout.{tabulate, cboxGlobals, cboxGlobal, layoutOf, rsp0At, rsp1At, mmCfgAt, matchAt, maskAt, mmEnable, enabled, eventWord, codeOf, maskOf, offcoreCode, rspMask, rspWord, packetWord}
 use Rattle.layouts.specs.Read.{ours, count, filterWord, controlFits, rsp1Fits, latencyFits, rsp0Fits, filtersFit, accepts, filterOf, tell, readingOf, refusedReading, readOf}
 use Rattle.layouts.specs.Settings.{usesOf, wordAt, settingsOf}
 use Rattle.layouts.specs.Told.{told, toldBy}
 use Rattle.layouts.specs.Writes.{rows, zeros, unusable, fixedAt, fixedEnables, firstGlobal, lastGlobal, offcoreWrites, packetWrites, filterWrites, writesFor, writes}
 
 written : map writesOf plans ≡ map (λ (p : Plan). p .written) plans
-unfolding flatMap setFrom bit inList anyResponse outstanding latencyWord either has capacity counterCount allCounters fixedCount wordsOf packetsOf ofAll counters countedOf countersOf first second plans writesOf tabulate layoutOf rsp0At rsp1At mmCfgAt matchAt maskAt mmEnable enabled eventWord offcoreCode rspMask rspWord packetWord usesOf wordAt settingsOf rows zeros unusable fixedAt fixedEnables firstGlobal lastGlobal offcoreWrites packetWrites filterWrites writesFor writes
+unfolding flatMap setFrom bit inList anyResponse outstanding latencyWord either has capacity counterCount allCounters fixedCount wordsOf packetsOf ofAll counters countedOf countersOf first second plans writesOf tabulate cboxGlobals cboxGlobal layoutOf rsp0At rsp1At mmCfgAt matchAt maskAt mmEnable enabled eventWord offcoreCode rspMask rspWord packetWord usesOf wordAt settingsOf rows zeros unusable fixedAt fixedEnables firstGlobal lastGlobal offcoreWrites packetWrites filterWrites writesFor writes
 written = refl
 
 told-as : map (λ (e : AcceptedAs). toldBy (readingFor (e .given))) acceptances ≡ map tellsOf acceptances

@@ -4,29 +4,32 @@
 --     in-room   arrays have room for its counters
 use mathlib.Core.Path.{_≡_, refl}
 use mathlib.Core.Bool.{true}
-use Prim.Native.Nat.{ℕ, _+_, _*_, _%_, _^_, _≤_, _<_}
+use Prim.Native.Nat.{ℕ, zero, suc, _+_, _*_, _%_, _^_, _≤_, _<_}
 use native.Mathlib.Omega.{arith}
 use Rattle.requests.specs.Choice.{both, either, every}
 use Rattle.requests.specs.declared.Device.{Device}
-use Rattle.requests.specs.declared.Device.the-variants.{G, S}
+use Rattle.requests.specs.declared.Device.the-variants.{G, S, C}
 use Rattle.requests.specs.Bits.{bit, inList, onlyBits}
+use Rattle.requests.specs.CBoxEvents.{sinkMasks, ringMasks, starvedMasks, bypassMasks, cboxEvents}
 use Rattle.requests.specs.Catalogue.{eventsOf}
 use Rattle.requests.specs.Devices.{capacity, counterCount, fixedCount}
 use Rattle.plans.specs.Lists.{All, nil, cons}
 use Rattle.plans.proofs.PlanLengthHolds.{plan-length}
-use Rattle.layouts.specs.Layout.{tabulate, field, globalBits, controlBits, enabled, offcoreCode, layoutOf, controlAt, counterAt, filtersAt, rsp0At, rsp1At, mmCfgAt, matchAt, maskAt}
+use Rattle.layouts.specs.Layout.{tabulate, field, globalBits, controlBits, enabled, offcoreCode, cboxGlobals, cboxGlobal, layoutOf, controlAt, counterAt, filtersAt, rsp0At, rsp1At, mmCfgAt, matchAt, maskAt}
 use Rattle.layouts.specs.WriteCount.{writeLimit}
-use Rattle.layouts.proofs.ListedEvents.{belowMask, table}
+use Rattle.layouts.proofs.ListedEvents.{allBelow, belowMask, table}
 
 -- the code of the device's filter events
 unfoldable pub filterCode : Device → ℕ
 filterCode G = offcoreCode
 filterCode S = 0
+filterCode (C b) = 0
 
 -- a device's filter registers take at most this many writes
 unfoldable pub filterRoom : Device → ℕ
 filterRoom G = 2
 filterRoom S = 4
+filterRoom (C b) = 0
 
 -- no two registers have one address
 pub record Apart (d : Device) : Type 0 where
@@ -61,8 +64,21 @@ pub record DeviceFacts (d : Device) : Type 0 where
   pub step-small : layoutOf d .step ≤ 2
   pub apart : Apart d
 
+-- the address of a box's global control register
+cbox-small : (b : ℕ) → cboxGlobal b ≤ 0x0DE0
+unfolding cboxGlobal cboxGlobals
+cbox-small zero = omega arith
+cbox-small (suc zero) = omega arith
+cbox-small (suc (suc zero)) = omega arith
+cbox-small (suc (suc (suc zero))) = omega arith
+cbox-small (suc (suc (suc (suc zero)))) = omega arith
+cbox-small (suc (suc (suc (suc (suc zero))))) = omega arith
+cbox-small (suc (suc (suc (suc (suc (suc zero)))))) = omega arith
+cbox-small (suc (suc (suc (suc (suc (suc (suc zero))))))) = omega arith
+cbox-small (suc (suc (suc (suc (suc (suc (suc (suc b)))))))) = omega arith
+
 pub facts : (d : Device) → DeviceFacts d
-unfolding capacity counterCount fixedCount layoutOf controlAt counterAt filtersAt rsp0At rsp1At mmCfgAt matchAt maskAt enabled controlBits globalBits field tabulate inList bit onlyBits every both either belowMask table eventsOf filterCode offcoreCode filterRoom writeLimit
+unfolding capacity counterCount fixedCount layoutOf controlAt counterAt filtersAt rsp0At rsp1At mmCfgAt matchAt maskAt enabled controlBits globalBits field tabulate inList bit onlyBits every both either belowMask table allBelow eventsOf cboxEvents sinkMasks ringMasks starvedMasks bypassMasks filterCode offcoreCode filterRoom writeLimit
 facts G =
     record {
       enabled-some = omega arith;
@@ -113,6 +129,32 @@ facts S =
         filter-control = λ k a. cons {a = mmCfgAt} (λ e. omega arith) (cons {a = matchAt} (λ e. omega arith) (cons {a = maskAt} (λ e. omega arith) nil));
         filter-counter = λ k a. cons {a = mmCfgAt} (λ e. omega arith) (cons {a = matchAt} (λ e. omega arith) (cons {a = maskAt} (λ e. omega arith) nil));
         filter-global = cons {a = mmCfgAt} (λ e. omega arith) (cons {a = matchAt} (λ e. omega arith) (cons {a = maskAt} (λ e. omega arith) nil));
+      };
+    }
+facts (C b) =
+    record {
+      enabled-some = omega arith;
+      enabled-above = refl;
+      enabled-small = omega arith;
+      enabled-permitted = refl;
+      low-permitted = refl;
+      enables = refl;
+      fixed-enables = refl;
+      events = refl;
+      filter-small = omega arith;
+      write-room = omega arith;
+      control-small = omega (arith, cbox-small b);
+      counter-small = omega (arith, cbox-small b);
+      step-small = omega arith;
+      apart = record {
+        control-control = λ j k e. omega arith;
+        counter-counter = λ j k e. omega arith;
+        counter-control = λ j k l m e. omega arith;
+        global-control = λ k l e. omega arith;
+        global-counter = λ k l e. omega arith;
+        filter-control = λ k l. nil;
+        filter-counter = λ k l. nil;
+        filter-global = nil;
       };
     }
 

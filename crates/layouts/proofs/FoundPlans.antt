@@ -2,10 +2,10 @@
 --     Words         control words that fit, on usable counters
 --     plain         a plan without latency requests
 --     paired        a plan with a latency request for each counter on RSP0
---     built-G, built-S   a plan for words and filter values that fit
+--     plain-G, plain-S, plain-bare   a plan for words and filter values that fit, on G, on S, and where there are no filter registers
 use mathlib.Core.Path.{_≡_, refl, sym, ap, _∙_, subst}
 use mathlib.Core.Logic.{_⊎_, inl, inr, ⊎-elim}
-use mathlib.Core.Bool.{true}
+use mathlib.Core.Bool.{true, false, true≢false}
 use mathlib.Core.List.{[], _∷_}
 use Prim.Native.Nat.{ℕ, zero, suc, _+_, _≤_, _<_}
 use native.Mathlib.Decide.{ℕ-discrete}
@@ -13,6 +13,7 @@ use native.Mathlib.Omega.{arith}
 use borrow.Author.Tests.{eqb-true, eq-eqb, ne-eqb}
 use lib.Dec.{eqb}
 use Rattle.requests.specs.Choice.{both, pick}
+use Rattle.requests.specs.declared.Device.{Device}
 use Rattle.requests.specs.declared.Device.the-variants.{G, S}
 use Rattle.requests.specs.declared.Setup.{Setup}
 use Rattle.requests.specs.declared.Request.the-variants.{Event, Packet, Offcore, Latency}
@@ -150,6 +151,16 @@ module _ (u : Setup) where
           (λ h. packet-item (on S u) within a b q k (f k) us refl (eqb-true (f k) (packetWord S) h))
           (λ h. event-item (on S u) within a b q k (f k) us h)
           (word-cases (on S u) (f k) (w .fits k) n)
+
+  -- a device without filter registers: every word is that of an event
+  pub plain-bare : (d : Device) → ((w : ℕ) → filterWord d w ≡ false) → Within (on d u) → (a b : ℕ) (q : ℕ × ℕ) (f : ℕ → ℕ) → Words (on d u) f → Built (on d u) a b q f
+  plain-bare d bare within a b q f w =
+      build (on d u) a b q (counterCount d) f (words-past (on d u) f w)
+      (λ k. elim (ℕ-discrete (f k) 0) [ yes e ↦ inl e | no n ↦ inr (words-usable (on d u) f w k n, item k n (words-usable (on d u) f w k n)) ])
+    where
+      item : (k : ℕ) → (f k ≡ 0 → ⊥) → Usable (on d u) k → Item (on d u) a b q k (f k)
+      item k n us =
+          ⊎-elim (λ h. absurd (true≢false (sym h ∙ bare (f k)))) (λ h. event-item (on d u) within a b q k (f k) us h) (word-cases (on d u) (f k) (w .fits k) n)
 
 -- ---- latency requests
 

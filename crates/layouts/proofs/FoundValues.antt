@@ -15,7 +15,7 @@ use lib.ListN.{length, getD}
 use Rattle.requests.specs.Choice.{every, pick}
 use Rattle.requests.specs.declared.CounterSet.{CounterSet}
 use Rattle.requests.specs.declared.Device.{Device}
-use Rattle.requests.specs.declared.Device.the-variants.{G, S}
+use Rattle.requests.specs.declared.Device.the-variants.{G, S, C}
 use Rattle.requests.specs.declared.Setup.{Setup}
 use Rattle.requests.specs.declared.Request.the-variants.{Offcore, Latency}
 use Rattle.requests.specs.Bits.{inList, outstanding, latencyWord}
@@ -30,7 +30,7 @@ use Rattle.layouts.specs.Layout.{layoutOf, controlAt, filtersAt, matchAt
 use Rattle.requests.specs.BitSets.{setFrom}
 use Rattle.layouts.specs.Settings.{wordAt, headOr, nonempty}
 use Rattle.layouts.specs.Writes.{rows, lastGlobal, writes, apply}
-use Rattle.layouts.specs.Read.{ours, noCounter, count, controlFits, rsp0Fits, rsp1Fits, latencyFits, filtersFit, accepts}
+use Rattle.layouts.specs.Read.{ours, noCounter, count, controlFits, rsp0Fits, rsp1Fits, latencyFits, filtersFit, accepts, filterWord}
 use Rattle.layouts.specs.ExactReader.{FiltersShow, LeavesValues}
 use Rattle.layouts.specs.declared.RegisterValues.{RegisterValues}
 use Rattle.layouts.proofs.ListLaws.{all-member}
@@ -45,7 +45,7 @@ use Rattle.layouts.proofs.PlanWords.{usesIn, used-word, count-uses, con
 use Rattle.layouts.proofs.PlanFilters.{packets-fit, rsp-hits, packet-hits, rsp-some, packet-some}
 use Rattle.layouts.proofs.LeftValues.{rsp0-left, rsp1-left, mm-cfg-left, match-left, mask-left, kept, zero-fits}
 use Rattle.layouts.proofs.BuiltPlans.{Built}
-use Rattle.layouts.proofs.FoundPlans.{Words, plain-G, plain-S, paired}
+use Rattle.layouts.proofs.FoundPlans.{Words, plain-G, plain-S, plain-bare, paired}
 
 -- ---- registers from which the values are left
 
@@ -250,8 +250,10 @@ module _ (u : Setup) (v : RegisterValues) where
       (eqb-true (v .filters .«mm_cfg») (pick (eqb (count (counterCount S) (ours (on S u) v) (packetWord S)) 0) 0 (2 ^ mmEnable)) t) e
 
   found : (d : Device) → Within (on d u) → Words (on d u) (ours (on d u) v) → filtersFit (on d u) (ours (on d u) v) (v .filters) ≡ true → Counted u v d → LeavesValues (on d u) v
+  unfolding filterWord
   found G within w t e = found-G within w t e
   found S within w t e = found-S within w t e
+  found (C b) within w t e = built-leaves (on (C b) u) v 0 0 (0, 0) (plain-bare u (C b) (λ x. refl) within 0 0 (0, 0) (ours (on (C b) u) v) w) tt e
 
 pub accepted-left : (s : Setup) (v : RegisterValues) → Within s → accepts s v ≡ true → LeavesValues s v
 unfolding accepts

@@ -11,7 +11,7 @@ use lib.Dec.{eqb}
 use lib.ListN.{getD}
 use Rattle.requests.specs.Choice.{either, pick}
 use Rattle.requests.specs.declared.Device.{Device}
-use Rattle.requests.specs.declared.Device.the-variants.{G, S}
+use Rattle.requests.specs.declared.Device.the-variants.{G, S, C}
 use Rattle.requests.specs.declared.Setup.{Setup}
 use Rattle.requests.specs.declared.Request.{Request}
 use Rattle.requests.specs.declared.Request.the-variants.{Event}
@@ -42,7 +42,7 @@ use Rattle.layouts.proofs.ControlWords.{ControlWord, listed-event, rsp-
 use Rattle.layouts.proofs.AskedWords.{none-within}
 use Rattle.layouts.proofs.FormedRequests.{describe-all, described-passes}
 use Rattle.layouts.proofs.PlanWords.{usesIn, used-word, unused-word, control-left, global-left, filter-left}
-use Rattle.layouts.proofs.PlanFilters.{devices-differ, LeftFilters, filters-fit}
+use Rattle.layouts.proofs.PlanFilters.{devices-differ, c-not-g, c-not-s, LeftFilters, filters-fit}
 use Rattle.layouts.proofs.PlanTold.{Holds, tell-plan}
 
 -- ---- filter values
@@ -119,6 +119,7 @@ filters-left S u rs ps registers v legal shown =
     let held = packets-held (flatMap packetsOf rs) (v .«match_word») (v .«mask_word») (registers matchAt) (registers maskAt) (legal .one-packet)
     (shown .1 ∙ match-left u rs ps registers) (shown .2 ∙ mask-left u rs ps registers) in
     ((shown .0 ∙ mm-cfg-left u rs ps registers, held), held)
+filters-left (C b) u rs ps registers v legal shown = (tt, tt)
 
 -- ---- control values
 
@@ -137,11 +138,13 @@ rsp-filter G zero g l = refl
 rsp-filter G (suc zero) g l = refl
 rsp-filter G (suc (suc i)) g l = absurd (omega arith)
 rsp-filter S i g l = absurd (devices-differ (sym g))
+rsp-filter (C b) i g l = absurd (c-not-g b g)
 
 packet-filter : (d : Device) → d ≡ S → filterWord d (packetWord d) ≡ true
 unfolding filterWord packetWord eventWord enabled
 packet-filter G g = absurd (devices-differ g)
 packet-filter S g = refl
+packet-filter (C b) g = absurd (c-not-s b g)
 
 control-fits : (s : Setup) (w : ℕ) → ControlWord s w → controlFits s w ≡ true
 unfolding controlFits

@@ -17,6 +17,7 @@ pub mod FormedRequests
 pub mod OffcoreWords
 pub mod AskedWords
 pub mod PermittedBits
+pub mod CBoxAddresses
 pub mod NoReservedBit
 pub mod PlanWords
 pub mod PlanFilters

@@ -8,7 +8,7 @@ use native.Mathlib.Omega.{arith}
 use lib.ListN.{getD}
 use Rattle.requests.specs.Choice.{both, either, every}
 use Rattle.requests.specs.declared.Device.{Device}
-use Rattle.requests.specs.declared.Device.the-variants.{G, S}
+use Rattle.requests.specs.declared.Device.the-variants.{G, S, C}
 use Rattle.requests.specs.declared.Setup.{Setup}
 use Rattle.requests.specs.declared.Request.{Request}
 use Rattle.requests.specs.declared.Request.the-variants.{Offcore}
@@ -43,11 +43,13 @@ use Rattle.layouts.proofs.FormedRequests.{describe-all}
 filterRegisters : Device → List Register
 filterRegisters G = (rsp0At, rsp0Bits) ∷ (rsp1At, rsp1Bits) ∷ []
 filterRegisters S = (mmCfgAt, mmEnable ∷ []) ∷ []
+filterRegisters (C b) = []
 
 filter-among : (d : Device) → All (λ (r : Register). List·Memᴰ (r .0) (filtersAt d)) (filterRegisters d)
 unfolding filterRegisters filtersAt
 filter-among G = cons (List·Memᴰ·head refl) (cons (List·Memᴰ·tail (List·Memᴰ·head refl)) nil)
 filter-among S = cons (List·Memᴰ·head refl) nil
+filter-among (C b) = nil
 
 -- what holds of each of them
 registers-all : (d : Device) (P : Register → Type 0) → P (layoutOf d .global, globalBits d) → All P (filterRegisters d)
@@ -67,6 +69,7 @@ registers-all d P global filters controls r m = go d global filters controls m
         ⊎-elim (λ e. subst P (sym e) global)
         (λ m1. ⊎-elim (λ e. subst P (sym e) f0) (λ m2. control-among S controls m2) (List·Memᴰ·cases-cons m1))
         (List·Memᴰ·cases-cons m)
+    go (C b) global nil controls m = ⊎-elim (λ e. subst P (sym e) global) (λ m1. control-among (C b) controls m1) (List·Memᴰ·cases-cons m)
 
 -- ---- writes
 
@@ -131,6 +134,7 @@ filters-clean G u rs ps f h =
     cons (filter-clean (on G u) rsp0At _ (List·Memᴰ·head refl) (cons (λ e. first) (cons (λ e. absurd (omega arith)) nil)))
     (cons (filter-clean (on G u) rsp1At _ (List·Memᴰ·tail (List·Memᴰ·head refl)) (cons (λ e. absurd (omega arith)) (cons (λ e. second) nil))) nil)
 filters-clean S u rs ps f h = packets-clean u (nonempty (flatMap packetsOf rs)) (headOr (0, 0) (flatMap packetsOf rs) .0) (headOr (0, 0) (flatMap packetsOf rs) .1)
+filters-clean (C b) u rs ps f h = nil
 
 -- ---- the list
 
@@ -163,6 +167,7 @@ latency-writes G u rs ps g f h =
     all-head {P = λ w. bit outstanding w ≡ true → AsksOutstanding rs w} 0 (ofAll (wordsOf 0) rs ps) (λ e. absurd (true≢false (sym e ∙ bit-zero outstanding)))
     (all-imp (λ w a. first-latency (on G u) rs w a) (first-words (on G u) f h)) in
     cons (λ e. first) (cons (λ (e : rsp1At ≡ rsp0At). absurd (omega arith)) nil)
+latency-writes (C b) u rs ps g f h = nil
 latency-writes S u rs ps g f h = let z : _≡_ {A = ℕ} 0 1 = cc in absurd (omega arith)
 
 rsp0-filter : List·Memᴰ rsp0At (filtersAt G)

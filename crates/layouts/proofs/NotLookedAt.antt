@@ -12,7 +12,7 @@ use lib.Dec.{eqb}
 use lib.ListN.{getD}
 use Rattle.requests.specs.Choice.{both, every, pick}
 use Rattle.requests.specs.declared.Device.{Device}
-use Rattle.requests.specs.declared.Device.the-variants.{G, S}
+use Rattle.requests.specs.declared.Device.the-variants.{G, S, C}
 use Rattle.requests.specs.declared.Opening.{Opening}
 use Rattle.requests.specs.declared.Setup.{Setup}
 use Rattle.requests.specs.declared.Answer.the-variants.{Accepted}
@@ -37,6 +37,7 @@ filters-fit : (d : Device) (u : Setup) (f : ℕ → ℕ) (v w : FilterValues) �
 unfolding filtersFit
 filters-fit G u f v w h = rw (h .0, h .1)
 filters-fit S u f v w h = rw (h .0)
+filters-fit (C b) u f v w h = refl
 
 -- where MM_CFG is 0 and fits, no counter counts packets
 no-packets : (u : Setup) (f : ℕ → ℕ) (v : FilterValues) → filtersFit (on S u) f v ≡ true → v .«mm_cfg» ≡ 0 → count (counterCount S) f (packetWord S) ≡ 0
@@ -58,6 +59,7 @@ tell-same S u f v w k a h l = go (h .1)
     go : (v .«mm_cfg» ≡ 0) ⊎ ((v .«match_word» ≡ w .«match_word») × (v .«mask_word» ≡ w .«mask_word»)) → tell S v (f k) ≡ tell S w (f k)
     go (inl z) = rw (ne-eqb (f k) (packetWord S) (λ e. count-zero (counterCount S) k (packetWord S) f (no-packets u f v a z) l e))
     go (inr e) = rw (e .0, e .1)
+tell-same (C b) u f v w k a h l = refl
 
 -- the test, given the control values that are looked at
 abbrev test : Setup → (ℕ → ℕ) → ℕ → FilterValues → Bool

@@ -1,14 +1,24 @@
 -- The permitted bits, by computation. Assumes nothing.
 use mathlib.Core.Path.{refl}
+use Prim.Native.Nat.{zero, suc}
 use Rattle.requests.specs.Choice.{either}
-use Rattle.requests.specs.declared.Device.the-variants.{G, S}
+use Rattle.requests.specs.declared.Device.the-variants.{G, S, C}
 use Rattle.requests.specs.Bits.{inList, typeBits, anyResponse, answerBits, outstanding, rsp0Bits, rsp1Bits}
 use Rattle.requests.specs.Devices.{counterCount}
-use Rattle.layouts.specs.Layout.{tabulate, layoutOf, controlAt, rsp0At, rsp1At, mmCfgAt, field, controlBits, globalBits, mmEnable, registersOf}
+use Rattle.layouts.specs.Layout.{tabulate, cboxGlobals, cboxGlobal, layoutOf, controlAt, rsp0At, rsp1At, mmCfgAt, field, controlBits, globalBits, mmEnable, registersOf}
 use Rattle.requests.specs.BitSets.{setFrom}
 use Rattle.layouts.specs.PermittedBits.{permittedOf, bitsTogether, PermittedBits}
 
 pub permitted-bits : PermittedBits
-unfolding permittedOf bitsTogether registersOf setFrom either inList typeBits anyResponse answerBits outstanding rsp0Bits rsp1Bits counterCount tabulate layoutOf controlAt rsp0At rsp1At mmCfgAt field controlBits globalBits mmEnable
+unfolding permittedOf bitsTogether registersOf setFrom either inList typeBits anyResponse answerBits outstanding rsp0Bits rsp1Bits counterCount tabulate cboxGlobals cboxGlobal layoutOf controlAt rsp0At rsp1At mmCfgAt field controlBits globalBits mmEnable
 permitted-bits G = refl
 permitted-bits S = refl
+permitted-bits (C zero) = refl
+permitted-bits (C (suc zero)) = refl
+permitted-bits (C (suc (suc zero))) = refl
+permitted-bits (C (suc (suc (suc zero)))) = refl
+permitted-bits (C (suc (suc (suc (suc zero))))) = refl
+permitted-bits (C (suc (suc (suc (suc (suc zero)))))) = refl
+permitted-bits (C (suc (suc (suc (suc (suc (suc zero))))))) = refl
+permitted-bits (C (suc (suc (suc (suc (suc (suc (suc zero)))))))) = refl
+permitted-bits (C (suc (suc (suc (suc (suc (suc (suc (suc b))))))))) = refl

@@ -14,7 +14,7 @@ use lib.ListN.{length}
 use Rattle.requests.specs.Choice.{pick}
 use Rattle.requests.specs.declared.CounterSet.{CounterSet}
 use Rattle.requests.specs.declared.Device.{Device}
-use Rattle.requests.specs.declared.Device.the-variants.{G, S}
+use Rattle.requests.specs.declared.Device.the-variants.{G, S, C}
 use Rattle.requests.specs.declared.Setup.{Setup}
 use Rattle.requests.specs.declared.Request.{Request}
 use Rattle.requests.specs.declared.Request.the-variants.{Offcore, Latency}
@@ -44,6 +44,13 @@ use Rattle.layouts.proofs.PlanWords.{count-uses}
 
 pub devices-differ : G ≡ S → ⊥
 devices-differ e = let z : _≡_ {A = ℕ} 0 1 = cc in omega arith
+
+-- a C-Box is neither
+pub c-not-g : (b : ℕ) → C b ≡ G → ⊥
+c-not-g b e = let z : _≡_ {A = ℕ} 0 1 = cc in omega arith
+
+pub c-not-s : (b : ℕ) → C b ≡ S → ⊥
+c-not-s b e = let z : _≡_ {A = ℕ} 0 1 = cc in omega arith
 
 -- ---- control words of filter events
 
@@ -152,6 +159,7 @@ LeftFilters G rs ps v = (v .rsp0 ≡ headOr 0 (ofAll (wordsOf 0) rs ps)) × (v .
 LeftFilters S rs ps v =
     (v .«mm_cfg» ≡ pick (nonempty (flatMap packetsOf rs)) (2 ^ mmEnable) 0)
     × All (λ (p : ℕ × ℕ). p ≡ (v .«match_word», v .«mask_word»)) (flatMap packetsOf rs)
+LeftFilters (C b) rs ps v = Unit {0}
 
 latency-below : (s : Setup) (t : ℕ) (a b : CounterSet) → Described s (Latency t a b) → t < 2 ^ 38
 latency-below s t a b (latency g h o c d) = omega (arith, types-below t h)
@@ -207,3 +215,4 @@ filters-fit G u rs ps v f legal left =
 filters-fit S u rs ps v f legal left =
     let on0 = count-uses (on S u) rs ps legal (packetWord S) packet-some ∙ packet-hits u f (legal .allowed) in
     rw on0 (eq-eqb _ _ (left .0 ∙ packets-fit (flatMap packetsOf rs)))
+filters-fit (C b) u rs ps v f legal left = refl

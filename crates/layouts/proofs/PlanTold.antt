@@ -11,7 +11,7 @@ use lib.Dec.{eqb}
 use Rattle.requests.specs.Choice.{pick}
 use Rattle.requests.specs.declared.Setup.{Setup}
 use Rattle.requests.specs.declared.Device.{Device}
-use Rattle.requests.specs.declared.Device.the-variants.{G, S}
+use Rattle.requests.specs.declared.Device.the-variants.{G, S, C}
 use Rattle.requests.specs.declared.Request.{Request}
 use Rattle.requests.specs.Bits.{latencyWord}
 use Rattle.requests.specs.Catalogue.{eventsOf, pairIn}
@@ -29,7 +29,7 @@ use Rattle.layouts.specs.Told.{Told, counting, told, toldOf, toldAt}
 use Rattle.layouts.specs.declared.FilterValues.{FilterValues}
 use Rattle.layouts.proofs.UsableSets.{on}
 use Rattle.layouts.proofs.ControlWords.{listed, word-parts}
-use Rattle.layouts.proofs.PlanFilters.{devices-differ, event-not-rsp, event-not-packet}
+use Rattle.layouts.proofs.PlanFilters.{devices-differ, c-not-g, c-not-s, event-not-rsp, event-not-packet}
 
 -- ---- one word
 
@@ -48,6 +48,10 @@ tell-event S v c m h =
     let l = listed S c m h in
     let p = word-parts S c m (l .code) (l .mask) in
     rw (ne-eqb (eventWord S c m) 0 (p .some-bit), p .code, p .mask, ne-eqb (eventWord S c m) (packetWord S) (event-not-packet c m h))
+tell-event (C b) v c m h =
+    let l = listed (C b) c m h in
+    let p = word-parts (C b) c m (l .code) (l .mask) in
+    rw (ne-eqb (eventWord (C b) c m) 0 (p .some-bit), p .code, p .mask)
 
 tell-rsp0 : (v : FilterValues) → told (tell G v (rspWord G 0)) ≡ counting offcoreCode (rspMask 0) (some 0) (v .rsp0 ∷ [])
 unfolding tell told filterOf rspWord eventWord enabled offcoreCode rspMask codeOf maskOf
@@ -78,6 +82,7 @@ module _ (d : Device) (v : FilterValues) (k : ℕ) where
 abbrev pub Holds : Device → List Request → List Place → FilterValues → Type 0
 Holds G rs ps v = All (λ (w : ℕ). w ≡ v .rsp0) (ofAll (wordsOf 0) rs ps) × All (λ (w : ℕ). w ≡ v .rsp1) (ofAll (wordsOf 1) rs ps)
 Holds S rs ps v = All (λ (p : ℕ × ℕ). p ≡ (v .«match_word», v .«mask_word»)) (flatMap packetsOf rs)
+Holds (C b) rs ps v = Unit {0}
 
 module _ (u : Setup) (v : FilterValues) (k : ℕ) where
   tell-G : {rs : List Request} {ps : List Place} → All (Described (on G u)) rs → Each Allowed rs ps
@@ -115,7 +120,19 @@ module _ (u : Setup) (v : FilterValues) (k : ℕ) where
   tell-S (cons (offcore g h t o c) fs) (and (plans.offcore b l) es) xs = absurd (devices-differ (sym g))
   tell-S (cons (latency g h o c d) fs) (and (plans.latency x y) es) xs = absurd (devices-differ (sym g))
 
+  -- a device that has events only
+  tell-bare : (d : Device) → (d ≡ G → ⊥) → (d ≡ S → ⊥) → {rs : List Request} {ps : List Place} → All (Described (on d u)) rs → Each Allowed rs ps
+      → told (tell d v (wordAt (ofAll (usesOf d) rs ps) k)) ≡ toldAt (ofAll toldOf rs ps) k
+  unfolding ofAll usesOf toldOf first second
+  tell-bare d no-g no-s nil lists.none = tell-none d v k
+  tell-bare d no-g no-s (cons (event {c = c} {m = m} h a) fs) (and {s = rs} {t = ps} (plans.event {k = j} x) es) =
+      tell-use d v k j (eventWord d c m) (counting c m none []) (ofAll (usesOf d) rs ps) (ofAll toldOf rs ps) (tell-event d v c m h) (tell-bare d no-g no-s fs es)
+  tell-bare d no-g no-s (cons (packet g a) fs) (and (plans.packet x) es) = absurd (no-s g)
+  tell-bare d no-g no-s (cons (offcore g h t o c) fs) (and (plans.offcore x l) es) = absurd (no-g g)
+  tell-bare d no-g no-s (cons (latency g h o c e) fs) (and (plans.latency x y) es) = absurd (no-g g)
+
 pub tell-plan : (d : Device) (u : Setup) (rs : List Request) (ps : List Place) (v : FilterValues) (k : ℕ) → All (Described (on d u)) rs → Each Allowed rs ps → Holds d rs ps v
     → told (tell d v (wordAt (ofAll (usesOf d) rs ps) k)) ≡ toldAt (ofAll toldOf rs ps) k
 tell-plan G u rs ps v k f es h = tell-G u v k f es (h .0) (h .1)
 tell-plan S u rs ps v k f es h = tell-S u v k f es h
+tell-plan (C b) u rs ps v k f es h = tell-bare u v k (C b) (c-not-g b) (c-not-s b) f es

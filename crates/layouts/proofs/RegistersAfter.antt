@@ -15,7 +15,7 @@ use lib.ListN.{getD}
 use Rattle.requests.specs.Choice.{pick}
 use Rattle.requests.specs.declared.CounterSet.{CounterSet}
 use Rattle.requests.specs.declared.Device.{Device}
-use Rattle.requests.specs.declared.Device.the-variants.{G, S}
+use Rattle.requests.specs.declared.Device.the-variants.{G, S, C}
 use Rattle.requests.specs.declared.Setup.{Setup}
 use Rattle.requests.specs.Devices.{has, counterCount, capacity}
 use Rattle.plans.specs.Lists.{All, nil, cons}
@@ -101,6 +101,7 @@ filter-addresses S t = go (t .packets)
         (cons (List·Memᴰ·tail (List·Memᴰ·head refl))
         (cons (List·Memᴰ·tail (List·Memᴰ·tail (List·Memᴰ·head refl))) (cons (List·Memᴰ·head refl) nil)))
     go false = cons (List·Memᴰ·head refl) nil
+filter-addresses (C b) t = nil
 
 module _ (s : Setup) (t : Settings) where
   abbrev d : Device

@@ -2,7 +2,7 @@
 use mathlib.Core.Path.{_≡_, refl, sym, ap, subst, _∙_}
 use mathlib.Core.Logic.{_≢_}
 use mathlib.Core.Bool.{Bool, true, false, not, true≢false, false≢true}
-use mathlib.Core.List.{List, [], _∷_, _++_, List·Memᴰ, List·Memᴰ·head, List·Memᴰ·tail, flatMap}
+use mathlib.Core.List.{List, [], _∷_, _++_, List·Memᴰ, List·Memᴰ·head, List·Memᴰ·tail, flatMap, append-nil}
 use Prim.Native.Nat.{ℕ, suc, _+_, _^_, _≤_, _<_}
 use native.Mathlib.Nat.{le-refl}
 use native.Mathlib.Decide.{ℕ-discrete}
@@ -10,7 +10,7 @@ use native.Mathlib.Omega.{arith}
 use lib.ListN.{getD}
 use Rattle.requests.specs.Choice.{either}
 use Rattle.requests.specs.declared.Device.{Device}
-use Rattle.requests.specs.declared.Device.the-variants.{G, S}
+use Rattle.requests.specs.declared.Device.the-variants.{G, S, C}
 use Rattle.requests.specs.declared.Setup.{Setup}
 use Rattle.requests.specs.declared.Request.{Request}
 use Rattle.requests.specs.Bits.{bit, inList}
@@ -100,6 +100,7 @@ filters-rest G u rs ps b q =
     (filter-along s rs b q rsp0At (t .rsp0) (List·Memᴰ·head refl) (λ g. absurd (devices-differ g)) (λ g. absurd (devices-differ g)))
     (λ c i. filter-along s rs c i rsp1At (t .rsp1) (List·Memᴰ·tail (List·Memᴰ·head refl)) (λ g. absurd (devices-differ g)) (λ g. absurd (devices-differ g)))
 filters-rest S u rs ps b q = let asked = flatMap packetsOf rs in packets-rest u rs (nonempty asked) (headOr (0, 0) asked .0) (headOr (0, 0) asked .1) (asked-first asked) b q
+filters-rest (C b) u rs ps b′ q = (tt, rw (append-nil b′) q)
 
 -- ---- the list
 

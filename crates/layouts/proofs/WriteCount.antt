@@ -1,34 +1,39 @@
 -- The number of writes: at most the device's limit, which a plan that uses every counter has. By the lengths of the parts of the list. Assumes nothing.
-use mathlib.Core.Path.{refl}
+use mathlib.Core.Path.{_≡_, refl, ap, _∙_}
 use mathlib.Core.Logic.{_≢_}
-use mathlib.Core.Bool.{Bool, true, false}
+use mathlib.Core.Bool.{Bool, true, false, not}
 use mathlib.Core.List.{List, [], _∷_, flatMap}
-use Prim.Native.Nat.{ℕ, zero, suc, _+_, _*_, _≤_}
-use native.Mathlib.Nat.{le-refl}
+use Prim.Native.Nat.{ℕ, zero, suc, _+_, _*_, _-_, _%_, _^_, _≤_, _<_}
+use native.Mathlib.Nat.{le-refl, mod-eq-of-lt}
 use native.Mathlib.Omega.{arith}
-use lib.ListN.{length, getD, length-append}
+use lib.ListN.{length, getD, replicate, length-append}
+use lib.Pow.{pow-pos}
 use Rattle.requests.specs.Choice.{both, either, firstHolding}
 use Rattle.requests.specs.declared.CounterSet.{CounterSet}
 use Rattle.requests.specs.declared.Device.{Device}
-use Rattle.requests.specs.declared.Device.the-variants.{G, S}
+use Rattle.requests.specs.declared.Device.the-variants.{G, S, C}
 use Rattle.requests.specs.declared.Setup.{Setup}
+use Rattle.requests.specs.declared.Request.{Request}
 use Rattle.requests.specs.declared.Request.the-variants.{Event, Packet}
 use Rattle.requests.specs.Bits.{bit, inList}
 use Rattle.requests.specs.Devices.{has, counterCount, capacity, allCounters, packetsOn, offcoreOn, pairsJudged}
 use Rattle.requests.specs.MaskRules.{allows}
+use Rattle.requests.specs.CBoxEvents.{sinkMasks, ringMasks, starvedMasks, bypassMasks, cboxEvents}
 use Rattle.requests.specs.Catalogue.{eventsOf, codeIn, pairIn, maskNotListed}
-use Rattle.requests.specs.Checks.{kindNotOn, notListed, tooWide, outOfRange, incomplete, conflicting, requestRows, requestRefusal}
+use Rattle.requests.specs.Checks.{kindNotOn, notListed, tooWide, outOfRange, incomplete, conflicting, requestRows, requestRefusal, Formed}
 use Rattle.plans.specs.declared.Place.{Place}
 use Rattle.plans.specs.declared.Place.the-variants.{Counter}
-use Rattle.plans.specs.Lists.{nil, cons, Pairwise, empty, add, none, and}
+use Rattle.plans.specs.Lists.{All, nil, cons, Pairwise, empty, add, OneValue, Each, none, and}
 use Rattle.plans.specs.Places.{countedOf, countersOf}
-use Rattle.plans.specs.Legal.{event, packet, wordsOf, packetsOf, ofAll, counters}
+use Rattle.plans.specs.Legal.{Usable, Allowed, Legal, event, packet, wordsOf, packetsOf, ofAll, counters}
 use Rattle.layouts.specs.Layout.{tabulate, layoutOf}
 use Rattle.requests.specs.BitSets.{setFrom}
 use Rattle.layouts.specs.Settings.{usesOf, settingsOf}
 use Rattle.layouts.specs.Writes.{row, rows, offcoreWrites, packetWrites, filterWrites, zeros, writesFor, writes}
 use Rattle.layouts.specs.WriteCount.{writeLimit, Reached, WriteCount}
 use Rattle.layouts.specs.declared.Settings.{Settings}
+use Rattle.requests.proofs.CounterSets.{bit-set, set-left}
+use Rattle.layouts.proofs.WordBits.{bit-zero}
 use Rattle.layouts.proofs.DeviceFacts.{filterRoom, facts}
 
 rows-length : (n : ℕ) (s : CounterSet) (base step : ℕ) (values : List ℕ) → length (rows n s base step values) ≤ n
@@ -50,6 +55,7 @@ filter-length S t = go (t .packets)
     go : (b : Bool) → length (packetWrites b (t .«match_word») (t .«mask_word»)) ≤ 4
     go true = le-refl 4
     go false = omega arith
+filter-length (C b) t = le-refl 0
 
 at-most : (s : Setup) (t : Settings) → length (writesFor s t) ≤ writeLimit (s .device)
 unfolding writesFor
@@ -71,54 +77,91 @@ at-most s t =
 all : Device → CounterSet
 all d = record { 0 = allCounters d }
 
--- counters 0 to 3, one for each request
-places : List Place
-places = Counter 0 ∷ Counter 1 ∷ Counter 2 ∷ Counter 3 ∷ []
+has-all : (d : Device) (k : ℕ) → k < counterCount d → has (all d) k ≡ true
+unfolding all allCounters has
+has-all d k l =
+    let n = counterCount d in
+    let none : 0 % 2 ^ n ≡ 0 = mod-eq-of-lt (pow-pos n) in
+    let every-one : 2 ^ n - 1 ≡ setFrom n 0 (λ j. not (bit j 0)) = omega (arith, none, set-left n 0) in
+    ap (bit k) every-one ∙ bit-set n 0 k (λ j. not (bit j 0)) l ∙ ap not (bit-zero (0 + k))
 
 setup : Device → Setup
 setup d = record { device = d; usable = all d; fixed = 0 }
 
-apart : Pairwise _≢_ (counters places)
-unfolding places counters countersOf countedOf flatMap
-apart =
-    add {a = 0} (cons {a = 1} (λ e. omega arith) (cons {a = 2} (λ e. omega arith) (cons {a = 3} (λ e. omega arith) nil)))
-    (add {a = 1} (cons {a = 2} (λ e. omega arith) (cons {a = 3} (λ e. omega arith) nil)) (add {a = 2} (cons {a = 3} (λ e. omega arith) nil) (add {a = 3} nil empty)))
+-- n places, from counter k on
+placesFrom : ℕ → ℕ → List Place
+placesFrom zero k = []
+placesFrom (suc n) k = Counter k ∷ placesFrom n (suc k)
 
--- a device's longest list: four events, the first of them a packet event where the device has one
+-- they are all different
+rising : (n k : ℕ) → Pairwise _≢_ (counters (placesFrom n k))
+unfolding placesFrom counters countersOf countedOf flatMap
+rising zero k = empty
+rising (suc n) k = add (above n (suc k) k (omega arith)) (rising n (suc k))
+  where
+    above : (m j i : ℕ) → i < j → All (λ (x : ℕ). i ≢ x) (counters (placesFrom m j))
+    above zero j i l = nil
+    above (suc m) j i l = cons {a = j} (λ e. omega (arith, e)) (above m (suc j) i (omega arith))
+
+-- and all usable
+usable-from : (d : Device) (n k : ℕ) → k + n ≤ counterCount d → All (Usable (setup d)) (counters (placesFrom n k))
+unfolding placesFrom counters countersOf countedOf flatMap setup all
+usable-from d zero k l = nil
+usable-from d (suc n) k l = cons {a = k} (omega arith, has-all d k (omega arith)) (usable-from d n (suc k) (omega arith))
+
+-- a device's longest list: a request for each counter, the first of them a packet request where the device has one
+requests : Device → List Request
+requests G = replicate 4 (Event 0xC0 0 (all G))
+requests S = Packet 0 0 (all S) ∷ replicate 3 (Event 0x52 0 (all S))
+requests (C b) = replicate 6 (Event 0x19 0 (all (C b)))
+
+places : Device → List Place
+places d = placesFrom (counterCount d) 0
+
+formed : (d : Device) → All (Formed (setup d)) (requests d)
+unfolding setup requests all both either firstHolding packetsOn offcoreOn pairsJudged allows inList eventsOf cboxEvents sinkMasks ringMasks starvedMasks bypassMasks codeIn pairIn maskNotListed kindNotOn notListed tooWide outOfRange incomplete conflicting requestRows requestRefusal allCounters counterCount
+formed G = cons refl (cons refl (cons refl (cons refl nil)))
+formed S = cons refl (cons refl (cons refl (cons refl nil)))
+formed (C b) = cons refl (cons refl (cons refl (cons refl (cons refl (cons refl nil)))))
+
+allowed : (d : Device) → Each Allowed (requests d) (places d)
+unfolding requests places placesFrom all allCounters counterCount has bit
+allowed G = and (event refl) (and (event refl) (and (event refl) (and (event refl) none)))
+allowed S = and (packet refl) (and (event refl) (and (event refl) (and (event refl) none)))
+allowed (C b) = and (event refl) (and (event refl) (and (event refl) (and (event refl) (and (event refl) (and (event refl) none)))))
+
+one-word : (d : Device) (i : ℕ) → OneValue (ofAll (wordsOf i) (requests d) (places d))
+unfolding requests places placesFrom counterCount ofAll wordsOf
+one-word G i = (0, nil)
+one-word S i = (0, nil)
+one-word (C b) i = (0, nil)
+
+one-packet : (d : Device) → OneValue (flatMap packetsOf (requests d))
+unfolding requests flatMap packetsOf
+one-packet G = ((0, 0), nil)
+one-packet S = ((0, 0), cons refl nil)
+one-packet (C b) = ((0, 0), nil)
+
+legal : (d : Device) → Legal (setup d) (requests d) (places d)
+unfolding places
+legal d =
+    record {
+      differ = rising (counterCount d) 0;
+      usable-only = usable-from d (counterCount d) 0 (omega arith);
+      allowed = allowed d;
+      one-word = λ i l. one-word d i;
+      one-packet = one-packet d;
+    }
+
+length-is : (d : Device) → length (writes (setup d) (requests d) (places d)) ≡ writeLimit d
+unfolding writeLimit setup requests places placesFrom all allCounters counterCount has bit ofAll usesOf wordsOf flatMap packetsOf counters countersOf countedOf settingsOf setFrom inList either tabulate capacity layoutOf rows filterWrites offcoreWrites packetWrites writesFor writes
+length-is G = refl
+length-is S = refl
+length-is (C b) = refl
+
 reached : (d : Device) → Reached d
-unfolding setup places all both either firstHolding packetsOn offcoreOn pairsJudged allows eventsOf codeIn pairIn maskNotListed kindNotOn notListed tooWide outOfRange incomplete conflicting requestRows requestRefusal writeLimit allCounters counterCount has bit ofAll usesOf wordsOf flatMap packetsOf counters countersOf countedOf settingsOf setFrom inList tabulate capacity layoutOf rows filterWrites offcoreWrites packetWrites writesFor writes
-reached G =
-    record {
-      setup = setup G;
-      requests = Event 0xC0 0 (all G) ∷ Event 0xC0 0 (all G) ∷ Event 0xC0 0 (all G) ∷ Event 0xC0 0 (all G) ∷ [];
-      places = places;
-      device = refl;
-      formed = cons refl (cons refl (cons refl (cons refl nil)));
-      legal = record {
-        differ = apart;
-        usable-only = cons {a = 0} (omega arith, refl) (cons {a = 1} (omega arith, refl) (cons {a = 2} (omega arith, refl) (cons {a = 3} (omega arith, refl) nil)));
-        allowed = and (event refl) (and (event refl) (and (event refl) (and (event refl) none)));
-        one-word = λ i l. (0, nil);
-        one-packet = ((0, 0), nil);
-      };
-      length-is = refl;
-    }
-reached S =
-    record {
-      setup = setup S;
-      requests = Packet 0 0 (all S) ∷ Event 0x52 0 (all S) ∷ Event 0x52 0 (all S) ∷ Event 0x52 0 (all S) ∷ [];
-      places = places;
-      device = refl;
-      formed = cons refl (cons refl (cons refl (cons refl nil)));
-      legal = record {
-        differ = apart;
-        usable-only = cons {a = 0} (omega arith, refl) (cons {a = 1} (omega arith, refl) (cons {a = 2} (omega arith, refl) (cons {a = 3} (omega arith, refl) nil)));
-        allowed = and (packet refl) (and (event refl) (and (event refl) (and (event refl) none)));
-        one-word = λ i l. (0, nil);
-        one-packet = ((0, 0), cons refl nil);
-      };
-      length-is = refl;
-    }
+unfolding setup
+reached d = record { setup = setup d; requests = requests d; places = places d; device = refl; formed = formed d; legal = legal d; length-is = length-is d }
 
 pub write-count : WriteCount
 unfolding writes

@@ -1,12 +1,14 @@
--- Document 01, tries A, C and F, the empty plan, and a plan on S: whole write lists; and readings of such values, and of values that no plan leaves. All computed.
+-- Document 01, tries A, C and F, the empty plan, and plans on S and C: whole write lists; and readings of such values, and of values that no plan leaves. All computed.
 use mathlib.Core.Path.{_≡_}
 use mathlib.Core.List.{List, [], _∷_, _++_, map}
 use mathlib.Core.Option.{none, some}
-use Prim.Native.Nat.{ℕ}
+use Prim.Native.Nat.{ℕ, _-_}
+use lib.ListN.{length, replicate}
 use Rattle.requests.specs.Refusals.{answerNumber}
+use Rattle.requests.specs.Devices.{capacity}
 use Rattle.requests.specs.declared.CounterSet.{CounterSet}
 use Rattle.requests.specs.declared.Device.{Device}
-use Rattle.requests.specs.declared.Device.the-variants.{G, S}
+use Rattle.requests.specs.declared.Device.the-variants.{G, S, C}
 use Rattle.requests.specs.declared.Opening.{Opening}
 use Rattle.requests.specs.declared.Setup.{Setup}
 use Rattle.requests.specs.declared.Request.{Request}
@@ -155,6 +157,40 @@ plans =
           ∷ (0x038F, 0x0000000200000003)
           ∷ [];
     }
+    -- order 3: "Writes are S's without the filter registers". C-Box 7: TRANS_IRQ takes counter 1, STARVED_EGRESS with mask 18 counter 0
+    ∷ record {
+      setup = opened (C 7) 63 0;
+      requests = Event 0x19 0x00 (set 63) ∷ Event 0x0B 0x18 (set 1) ∷ [];
+      places = Counter 1 ∷ Counter 0 ∷ [];
+      written =
+          (0x0DE0, 0x0000000000000000)
+          ∷ (0x0DF0, 0x0000000000000000)
+          ∷ (0x0DF2, 0x0000000000000000)
+          ∷ (0x0DF4, 0x0000000000000000)
+          ∷ (0x0DF6, 0x0000000000000000)
+          ∷ (0x0DF8, 0x0000000000000000)
+          ∷ (0x0DFA, 0x0000000000000000)
+          ∷ (0x0DF1, 0x0000000000000000)
+          ∷ (0x0DF3, 0x0000000000000000)
+          ∷ (0x0DF0, 0x000000000040180B)
+          ∷ (0x0DF2, 0x0000000000400019)
+          ∷ (0x0DE0, 0x0000000000000003)
+          ∷ [];
+    }
+    -- C-Box 1 with usable 48: TRANS_MAF takes counter 4
+    ∷ record {
+      setup = opened (C 1) 48 0;
+      requests = Event 0x1F 0x00 (set 63) ∷ [];
+      places = Counter 4 ∷ [];
+      written =
+          (0x0D80, 0x000000000000000F)
+          ∷ (0x0D98, 0x0000000000000000)
+          ∷ (0x0D9A, 0x0000000000000000)
+          ∷ (0x0D99, 0x0000000000000000)
+          ∷ (0x0D98, 0x000000000040001F)
+          ∷ (0x0D80, 0x000000000000001F)
+          ∷ [];
+    }
     ∷ []
 
 -- the write list of a plan
@@ -173,6 +209,10 @@ abbrev onS : List ℕ → ℕ → ℕ → ℕ → ℕ → RegisterValues
 onS control c x y g =
     record { control = control ++ 0 ∷ 0 ∷ 0 ∷ 0 ∷ []; filters = record { rsp0 = 0; rsp1 = 0; «mm_cfg» = c; «match_word» = x; «mask_word» = y }; global = g }
 
+-- values on C: control values, global control
+abbrev onC : List ℕ → ℕ → RegisterValues
+onC control g = record { control = control ++ 0 ∷ 0 ∷ []; filters = record { rsp0 = 0; rsp1 = 0; «mm_cfg» = 0; «match_word» = 0; «mask_word» = 0 }; global = g }
+
 -- an opening, with register values
 pub record Given : Type 0 where
   pub opening : Opening
@@ -180,13 +220,17 @@ pub record Given : Type 0 where
 
 -- the letter of a device, a usable set and fixed enables
 abbrev given : ℕ → ℕ → ℕ → RegisterValues → Given
-given letter usable fixed v = record { opening = record { device = letter; usable = set usable; fixed = fixed }; values = v }
+given letter usable fixed v = record { opening = record { device = letter; usable = set usable; fixed = fixed; cbox = 0 }; values = v }
+
+-- a C-Box and a usable set
+abbrev givenBox : ℕ → ℕ → RegisterValues → Given
+givenBox box usable v = record { opening = record { device = 67; usable = set usable; fixed = 0; cbox = box }; values = v }
 
 -- what the reader answers
 unfoldable pub readingFor : Given → Reading
 readingFor e = readOf (e .opening) (e .values)
 
--- what is given, and what is told of counters 0 to 3
+-- what is given, and what is told of the device's counters
 pub record AcceptedAs : Type 0 where
   pub given : Given
   pub tells : List Told
@@ -218,11 +262,17 @@ acceptances =
     ∷ record { given = given 83 15 0 (onS (0 ∷ 0 ∷ 0 ∷ 0 ∷ []) 0 5 6 0); tells = off ∷ off ∷ off ∷ off ∷ [] }
     -- order 2: the number that the reader is given stands in bits 34:32
     ∷ record { given = given 71 15 5 (onG (0 ∷ 0 ∷ 0 ∷ 0 ∷ []) 0 0 0x500000000); tells = off ∷ off ∷ off ∷ off ∷ [] }
+    -- order 3: six control values and no filter registers
+    ∷ record {
+      given = givenBox 7 63 (onC (0x40180B ∷ 0x400019 ∷ 0 ∷ 0 ∷ 0 ∷ 0x40FF28 ∷ []) 0x23);
+      tells = counting 0x0B 0x18 none [] ∷ counting 0x19 0x00 none [] ∷ off ∷ off ∷ off ∷ counting 0x28 0xFF none [] ∷ [];
+    }
+    ∷ record { given = givenBox 1 48 (onC (0xFFFF ∷ 0 ∷ 0 ∷ 0 ∷ 0x40001F ∷ 0 ∷ []) 0x1F); tells = notOurs ∷ notOurs ∷ notOurs ∷ notOurs ∷ counting 0x1F 0x00 none [] ∷ off ∷ [] }
     ∷ []
 
--- what is told of an example; counters 4 to 7 are on neither device
+-- what is told of an example; the counters past the device's are not ours
 unfoldable pub tellsOf : AcceptedAs → List Told
-tellsOf e = e .tells ++ notOurs ∷ notOurs ∷ notOurs ∷ notOurs ∷ []
+tellsOf e = e .tells ++ replicate (capacity - length (e .tells)) notOurs
 
 -- what is given, and the number that refuses it
 pub record RefusedAs : Type 0 where
@@ -266,6 +316,13 @@ refusals =
     -- MM_CFG is 2^63 where a counter counts packets, and otherwise 0
     ∷ refusedAs 15 (given 83 15 0 (onS (0x400351 ∷ 0 ∷ 0 ∷ 0 ∷ []) 0x8000000000000000 5 6 1))
     ∷ refusedAs 15 (given 83 15 0 (onS (0x400000 ∷ 0 ∷ 0 ∷ 0 ∷ []) 0 5 6 1))
+    -- order 3: a box that document 004 does not have, a set above 63, a box on S; packets are not on C, and 0B has no mask 05
+    ∷ refusedAs 3 (givenBox 8 63 (onC (0 ∷ 0 ∷ 0 ∷ 0 ∷ 0 ∷ 0 ∷ []) 0))
+    ∷ refusedAs 3 (givenBox 0 64 (onC (0 ∷ 0 ∷ 0 ∷ 0 ∷ 0 ∷ 0 ∷ []) 0))
+    ∷ refusedAs 3 (record { opening = record { device = 83; usable = set 15; fixed = 0; cbox = 1 }; values = onS (0 ∷ 0 ∷ 0 ∷ 0 ∷ []) 0 0 0 0 })
+    ∷ refusedAs 15 (givenBox 0 63 (onC (0x400000 ∷ 0 ∷ 0 ∷ 0 ∷ 0 ∷ 0 ∷ []) 1))
+    ∷ refusedAs 15 (givenBox 0 63 (onC (0x40050B ∷ 0 ∷ 0 ∷ 0 ∷ 0 ∷ 0 ∷ []) 1))
+    ∷ refusedAs 15 (givenBox 0 63 (onC (0 ∷ 0 ∷ 0 ∷ 0 ∷ 0 ∷ 0 ∷ []) 0x40))
     ∷ []
 
 pub record Examples : Type 0 where

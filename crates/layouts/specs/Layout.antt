@@ -1,11 +1,13 @@
 -- Register tables: addresses, and the bits of each layout. G: SDM volume 3, documents 001, 002. S: document 004, section 2.5, but for
 -- the addresses of MM_CFG, MATCH and MASK, which our extract of 004 lacks: they are the kernel driver's (docs/DECISIONS.md, 1).
+-- C: document 004, section 2.3, where our extract has GLOBAL_CTL and EVT_SEL0 of box 0; the rest is the kernel driver's.
 use mathlib.Core.List.{List, [], _∷_, _++_}
 use Prim.Native.Nat.{ℕ, zero, suc, _+_, _*_, _-_, _/_, _%_}
 use lib.Dec.{eqb}
+use lib.ListN.{getD}
 use Rattle.requests.specs.Choice.{pick}
 use Rattle.requests.specs.declared.Device.{Device}
-use Rattle.requests.specs.declared.Device.the-variants.{G, S}
+use Rattle.requests.specs.declared.Device.the-variants.{G, S, C}
 use Rattle.requests.specs.Bits.{rsp0Bits, rsp1Bits}
 use Rattle.requests.specs.Devices.{counterCount}
 use Rattle.layouts.specs.declared.Layout.{Layout}
@@ -17,10 +19,29 @@ tabulate (suc k) f = tabulate k f ++ (f k ∷ [])
 
 -- ---- addresses
 
--- G: IA32_PERF_GLOBAL_CTRL, IA32_PERFEVTSEL0, IA32_PMC0. S: S_MSR_PMON_GLOBAL_CTL, S_MSR_PMON_CTL0, S_MSR_PMON_CTR0
+-- CBx_CR_C_MSR_PMON_GLOBAL_CTL of each C-Box
+unfoldable pub cboxGlobals : List ℕ
+cboxGlobals =
+    0x0D00  -- box 0: document 004, 2.3.3
+    ∷ 0x0D80  -- box 1: kernel driver, as all that follow
+    ∷ 0x0D40  -- box 2
+    ∷ 0x0DC0  -- box 3
+    ∷ 0x0D20  -- box 4
+    ∷ 0x0DA0  -- box 5
+    ∷ 0x0D60  -- box 6
+    ∷ 0x0DE0  -- box 7
+    ∷ []
+
+-- that of the box of a number; open takes none above 7, for which the row of box 0 stands
+unfoldable pub cboxGlobal : ℕ → ℕ
+cboxGlobal b = getD cboxGlobals b 0x0D00
+
+-- G: IA32_PERF_GLOBAL_CTRL, IA32_PERFEVTSEL0, IA32_PMC0. S: S_MSR_PMON_GLOBAL_CTL, S_MSR_PMON_CTL0, S_MSR_PMON_CTR0.
+-- C: CBx_CR_C_MSR_PMON_GLOBAL_CTL, .._EVT_SEL_0, .._CTR_0
 unfoldable pub layoutOf : Device → Layout
 layoutOf G = record { global = 0x038F; control = 0x0186; counter = 0x00C1; step = 1 }
 layoutOf S = record { global = 0x0C40; control = 0x0C50; counter = 0x0C51; step = 2 }
+layoutOf (C b) = record { global = cboxGlobal b; control = cboxGlobal b + 0x10; counter = cboxGlobal b + 0x11; step = 2 }
 
 -- the control register of counter k
 unfoldable pub controlAt : Device → ℕ → ℕ
@@ -54,6 +75,7 @@ maskAt = 0x0E4A
 unfoldable pub filtersAt : Device → List ℕ
 filtersAt G = rsp0At ∷ rsp1At ∷ []
 filtersAt S = mmCfgAt ∷ matchAt ∷ maskAt ∷ []
+filtersAt (C b) = []
 
 -- ---- fields
 
@@ -62,15 +84,18 @@ unfoldable pub field : ℕ → ℕ → List ℕ
 field high low = tabulate (suc high - low) (λ k. low + k)
 
 -- what a control register has. G: event 7:0, unit mask 15:8, USR, OS, E, PC, INT 20:16, EN, INV, CMASK 31:22.
--- S: ev_sel 7:0, umask 15:8, reset_occ_cnt 17, edge_detect 18, pmi_en 20, enable 22, invert 23, threshold 31:24
+-- S: ev_sel 7:0, umask 15:8, reset_occ_cnt 17, edge_detect 18, pmi_en 20, enable 22, invert 23, threshold 31:24.
+-- C (table 2-13): ev_sel 7:0, umask 15:8, edge_detect 18, pmi_en 20, en 22, invert 23, threshold 31:24
 unfoldable pub controlBits : Device → List ℕ
 controlBits G = field 7 0 ++ field 15 8 ++ field 20 16 ++ field 31 22
 controlBits S = field 7 0 ++ field 15 8 ++ field 18 17 ++ field 20 20 ++ field 22 22 ++ field 23 23 ++ field 31 24
+controlBits (C b) = field 7 0 ++ field 15 8 ++ field 18 18 ++ field 20 20 ++ field 22 22 ++ field 23 23 ++ field 31 24
 
--- what the global control register has. G: general counters 3:0, fixed counters 34:32. S: ctr_en 3:0
+-- what the global control register has. G: general counters 3:0, fixed counters 34:32. S: ctr_en 3:0. C (table 2-10): ctr_en 5:0
 unfoldable pub globalBits : Device → List ℕ
 globalBits G = field 3 0 ++ field 34 32
 globalBits S = field 3 0
+globalBits (C b) = field 5 0
 
 -- MM_CFG: enable (004, 2.5.3.4: "reg bit 63")
 unfoldable pub mmEnable : ℕ
@@ -78,12 +103,13 @@ mmEnable = 63
 
 -- ---- control words
 
--- the bits that every event word has. G: USR 16, OS 17, EN 22. S: enable 22
+-- the bits that every event word has. G: USR 16, OS 17, EN 22. S: enable 22. C: en 22
 unfoldable pub enabled : Device → ℕ
 enabled G = 0x430000
 enabled S = 0x400000
+enabled (C b) = 0x400000
 
--- "The event word is 430000 + 100 × mask + code (all hex: user, OS and enable bits)", on S 400000 + 100 × mask + code
+-- "The event word is 430000 + 100 × mask + code (all hex: user, OS and enable bits)", on S and C 400000 + 100 × mask + code
 unfoldable pub eventWord : Device → ℕ → ℕ → ℕ
 eventWord d c m = enabled d + 0x100 * m + c
 
@@ -122,3 +148,4 @@ unfoldable pub registersOf : Device → List Register
 registersOf G =
     (layoutOf G .global, globalBits G) ∷ (rsp0At, rsp0Bits) ∷ (rsp1At, rsp1Bits) ∷ tabulate (counterCount G) (λ k. (controlAt G k, controlBits G))
 registersOf S = (layoutOf S .global, globalBits S) ∷ (mmCfgAt, mmEnable ∷ []) ∷ tabulate (counterCount S) (λ k. (controlAt S k, controlBits S))
+registersOf (C b) = (layoutOf (C b) .global, globalBits (C b)) ∷ tabulate (counterCount (C b)) (λ k. (controlAt (C b) k, controlBits (C b)))

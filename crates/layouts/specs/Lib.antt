@@ -6,6 +6,7 @@ pub mod Read
 pub mod Told
 -- Statements: what is claimed of it.
 pub mod PermittedBits
+pub mod CBoxAddresses
 pub mod NoReservedBit
 pub mod OthersUntouched
 pub mod FixedEnables

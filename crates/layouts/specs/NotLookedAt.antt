@@ -5,7 +5,7 @@ use mathlib.Core.Option.{some}
 use Prim.Native.Nat.{ℕ}
 use lib.ListN.{getD}
 use Rattle.requests.specs.declared.Device.{Device}
-use Rattle.requests.specs.declared.Device.the-variants.{G, S}
+use Rattle.requests.specs.declared.Device.the-variants.{G, S, C}
 use Rattle.requests.specs.declared.Opening.{Opening}
 use Rattle.requests.specs.declared.Setup.{Setup}
 use Rattle.requests.specs.Devices.{setupOf}
@@ -14,10 +14,11 @@ use Rattle.layouts.specs.Read.{readOf}
 use Rattle.layouts.specs.declared.FilterValues.{FilterValues}
 use Rattle.layouts.specs.declared.RegisterValues.{RegisterValues}
 
--- equal filter values, as far as they are looked at; those of the other device are not
+-- equal filter values, as far as they are looked at; those of other devices are not
 abbrev pub SameFilters : Device → FilterValues → FilterValues → Type 0
 SameFilters G v w = (v .rsp0 ≡ w .rsp0) × (v .rsp1 ≡ w .rsp1)
 SameFilters S v w = (v .«mm_cfg» ≡ w .«mm_cfg») × ((v .«mm_cfg» ≡ 0) ⊎ ((v .«match_word» ≡ w .«match_word») × (v .«mask_word» ≡ w .«mask_word»)))
+SameFilters (C b) v w = Unit {0}
 
 -- equal values, as far as they are looked at
 pub record SameLookedAt (s : Setup) (v w : RegisterValues) : Type 0 where

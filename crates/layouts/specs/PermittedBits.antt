@@ -1,11 +1,11 @@
 -- The permitted bits of every register that has reserved ones, each register's together as one word: no other bit passes as published.
 use mathlib.Core.Path.{_≡_}
 use mathlib.Core.List.{List, [], _∷_, map}
-use Prim.Native.Nat.{ℕ}
+use Prim.Native.Nat.{ℕ, _+_}
 use Rattle.requests.specs.declared.Device.{Device}
-use Rattle.requests.specs.declared.Device.the-variants.{G, S}
+use Rattle.requests.specs.declared.Device.the-variants.{G, S, C}
 use Rattle.requests.specs.Bits.{inList}
-use Rattle.layouts.specs.Layout.{Register, registersOf}
+use Rattle.layouts.specs.Layout.{cboxGlobal, Register, registersOf}
 use Rattle.requests.specs.BitSets.{setFrom}
 
 -- address and permitted bits
@@ -32,6 +32,18 @@ permittedOf S =
     ∷ (0x0C52, 0x00000000FFD6FFFF)
     ∷ (0x0C54, 0x00000000FFD6FFFF)
     ∷ (0x0C56, 0x00000000FFD6FFFF)
+    ∷ []
+permittedOf (C b) =
+    -- 004, table 2-10: ctr_en 5:0
+    let global = cboxGlobal b in
+    (global, 0x000000000000003F)
+    -- 004, table 2-13: 31:0 without the ignored bits 16, 17, 19 and 21
+    ∷ (global + 0x10, 0x00000000FFD4FFFF)
+    ∷ (global + 0x12, 0x00000000FFD4FFFF)
+    ∷ (global + 0x14, 0x00000000FFD4FFFF)
+    ∷ (global + 0x16, 0x00000000FFD4FFFF)
+    ∷ (global + 0x18, 0x00000000FFD4FFFF)
+    ∷ (global + 0x1A, 0x00000000FFD4FFFF)
     ∷ []
 
 -- the word that has the bits of the list

@@ -6,7 +6,7 @@ use lib.Dec.{leb, eqb}
 use lib.ListN.{getD, replicate}
 use Rattle.requests.specs.declared.CounterSet.{CounterSet}
 use Rattle.requests.specs.declared.Device.{Device}
-use Rattle.requests.specs.declared.Device.the-variants.{G, S}
+use Rattle.requests.specs.declared.Device.the-variants.{G, S, C}
 use Rattle.requests.specs.declared.Opening.{Opening}
 use Rattle.requests.specs.declared.Setup.{Setup}
 use Rattle.requests.specs.declared.Request.the-variants.{Event, Offcore, Latency}
@@ -44,10 +44,11 @@ noCounter = record { 0 = 0 }
 
 -- ---- which values some plan leaves
 
--- the control word of a filter event: of an RSP register on G, of the match/mask register on S
+-- the control word of a filter event: of an RSP register on G, of the match/mask register on S; C has none
 unfoldable pub filterWord : Device → ℕ → Bool
 filterWord G w = either (eqb w (rspWord G 0)) (eqb w (rspWord G 1))
 filterWord S w = eqb w (packetWord S)
+filterWord (C b) w = false
 
 -- a control value: 0, or the word of a well-formed event or of a filter event
 unfoldable pub controlFits : Setup → ℕ → Bool
@@ -79,6 +80,7 @@ filtersFit s f v =
           let n1 = count n f (rspWord G 1) in
           both (rsp1Fits s n1 (v .rsp1)) (rsp0Fits s n0 n1 (v .rsp0) (v .rsp1))
       | S ↦ eqb (v .«mm_cfg») (pick (eqb (count n f (packetWord S)) 0) 0 (2 ^ mmEnable))
+      | C b ↦ true
     ]
 
 -- whether some plan leaves the values
@@ -95,6 +97,7 @@ accepts s v =
 unfoldable pub filterOf : Device → FilterValues → ℕ → FilterRead
 filterOf G v w = pick (eqb w (rspWord G 0)) (Rsp 0 (v .rsp0)) (pick (eqb w (rspWord G 1)) (Rsp 1 (v .rsp1)) NoFilter)
 filterOf S v w = pick (eqb w (packetWord S)) (MatchMask (v .«match_word») (v .«mask_word»)) NoFilter
+filterOf (C b) v w = NoFilter
 
 -- "off, or event with its filter register and words"
 unfoldable pub tell : Device → FilterValues → ℕ → CounterState

@@ -1,10 +1,10 @@
--- "At most 16 writes on G and 18 on S."
+-- "At most 16 writes on G and 18 on S." On C 20: six counters, and no filter registers.
 use mathlib.Core.Path.{_≡_}
 use mathlib.Core.List.{List}
 use Prim.Native.Nat.{ℕ, _≤_}
 use lib.ListN.{length}
 use Rattle.requests.specs.declared.Device.{Device}
-use Rattle.requests.specs.declared.Device.the-variants.{G, S}
+use Rattle.requests.specs.declared.Device.the-variants.{G, S, C}
 use Rattle.requests.specs.declared.Setup.{Setup}
 use Rattle.requests.specs.declared.Request.{Request}
 use Rattle.requests.specs.Checks.{Formed}
@@ -17,6 +17,7 @@ use Rattle.layouts.specs.Writes.{writes}
 unfoldable pub writeLimit : Device → ℕ
 writeLimit G = 16
 writeLimit S = 18
+writeLimit (C b) = 20
 
 -- a legal plan of well-formed requests that has as many writes
 pub record Reached (d : Device) : Type 0 where

@@ -6,7 +6,7 @@ use lib.Dec.{eqb}
 use lib.ListN.{length, getD, drop, replicate}
 use Rattle.requests.specs.declared.CounterSet.{CounterSet}
 use Rattle.requests.specs.declared.Device.{Device}
-use Rattle.requests.specs.declared.Device.the-variants.{G, S}
+use Rattle.requests.specs.declared.Device.the-variants.{G, S, C}
 use Rattle.requests.specs.declared.Setup.{Setup}
 use Rattle.requests.specs.declared.Request.{Request}
 use Rattle.requests.specs.Choice.{pick}
@@ -67,6 +67,7 @@ packetWrites false x y = (mmCfgAt, 0) ∷ []
 unfoldable pub filterWrites : Device → Settings → List Write
 filterWrites G t = offcoreWrites (t .rsp0) (t .rsp1)
 filterWrites S t = packetWrites (t .packets) (t .«match_word») (t .«mask_word»)
+filterWrites (C b) t = []
 
 -- the list for register values: global control with its first value; control 0 for usable k; the filter registers;
 -- count 0 for used k; control for used k; global control with its last value
