@@ -2,10 +2,13 @@
 --     facts     the facts of a device
 --     apart     no two of its registers have one address
 --     in-room   arrays have room for its counters
+--     cbox-small, cbox-row, cbox-past   the table of the C-Boxes
 use mathlib.Core.Path.{_≡_, refl}
 use mathlib.Core.Bool.{true}
+use mathlib.Core.List.{List, [], _∷_}
 use Prim.Native.Nat.{ℕ, zero, suc, _+_, _*_, _%_, _^_, _≤_, _<_}
 use native.Mathlib.Omega.{arith}
+use lib.ListN.{length, getD, List·getD-eq-default}
 use Rattle.requests.specs.Choice.{both, either, every}
 use Rattle.requests.specs.declared.Device.{Device}
 use Rattle.requests.specs.declared.Device.the-variants.{G, S, C}
@@ -65,7 +68,7 @@ pub record DeviceFacts (d : Device) : Type 0 where
   pub apart : Apart d
 
 -- the address of a box's global control register
-cbox-small : (b : ℕ) → cboxGlobal b ≤ 0x0DE0
+pub cbox-small : (b : ℕ) → cboxGlobal b ≤ 0x0DE0
 unfolding cboxGlobal cboxGlobals
 cbox-small zero = omega arith
 cbox-small (suc zero) = omega arith
@@ -76,6 +79,21 @@ cbox-small (suc (suc (suc (suc (suc zero))))) = omega arith
 cbox-small (suc (suc (suc (suc (suc (suc zero)))))) = omega arith
 cbox-small (suc (suc (suc (suc (suc (suc (suc zero))))))) = omega arith
 cbox-small (suc (suc (suc (suc (suc (suc (suc (suc b)))))))) = omega arith
+
+-- a row of the table, whatever stands past it
+row-any : (l : List ℕ) (i x y : ℕ) → i < length l → getD l i x ≡ getD l i y
+row-any [] i x y l = absurd (omega arith)
+row-any (a ∷ rest) zero x y l = refl
+row-any (a ∷ rest) (suc i) x y l = row-any rest i x y (omega arith)
+
+pub cbox-row : (b : ℕ) → b < 8 → getD cboxGlobals b 0 ≡ cboxGlobal b
+unfolding cboxGlobal cboxGlobals
+cbox-row b l = row-any cboxGlobals b 0 0x0D00 l
+
+-- there are eight
+pub cbox-past : (b : ℕ) → 8 ≤ b → cboxGlobal b ≡ 0x0D00
+unfolding cboxGlobal cboxGlobals
+cbox-past b l = List·getD-eq-default cboxGlobals 0x0D00 l
 
 pub facts : (d : Device) → DeviceFacts d
 unfolding capacity counterCount fixedCount layoutOf controlAt counterAt filtersAt rsp0At rsp1At mmCfgAt matchAt maskAt enabled controlBits globalBits field tabulate inList bit onlyBits every both either belowMask table allBelow eventsOf cboxEvents sinkMasks ringMasks starvedMasks bypassMasks filterCode offcoreCode filterRoom writeLimit

@@ -1,5 +1,5 @@
 -- The reader's answer from its tests: the filter registers of each device, and the whole of the values.
-use mathlib.Core.Path.{_≡_, sym, ap, _∙_}
+use mathlib.Core.Path.{_≡_, sym, ap, _∙_, refl}
 use mathlib.Core.Bool.{true, false, not}
 use mathlib.Core.List.{List}
 use Prim.Native.Nat.{ℕ, _^_}
@@ -8,7 +8,7 @@ use lib.Dec.{eqb}
 use lib.ListN.{getD}
 use borrow.Author.Tests.{eq-eqb, ne-eqb}
 use Rattle.requests.specs.declared.Device.{Device}
-use Rattle.requests.specs.declared.Device.the-variants.{G, S}
+use Rattle.requests.specs.declared.Device.the-variants.{G, S, C}
 use Rattle.requests.specs.declared.Setup.{Setup}
 use Rattle.requests.specs.Choice.{both, every, pick}
 use Rattle.requests.specs.Devices.{counterCount}
@@ -28,12 +28,20 @@ module _ (f : ℕ → ℕ) (v : FilterValues) where
   unfolding filtersFit
   filters-G G u n0 n1 e e0 e1 = rw (e0, e1)
   filters-G S u n0 n1 e e0 e1 = let z : _≡_ {A = ℕ} 0 1 = cc in absurd (omega arith)
+  filters-G (C b) u n0 n1 e e0 e1 = let z : _≡_ {A = ℕ} 0 1 = cc in absurd (omega arith)
 
   pub filters-S : (d : Device) (u : Setup) (n : ℕ) → d ≡ S → n ≡ count (counterCount d) f (packetWord S)
       → eqb (v .«mm_cfg») (pick (eqb n 0) 0 (2 ^ mmEnable)) ≡ filtersFit (on d u) f v
   unfolding filtersFit
   filters-S S u n e en = rw en
   filters-S G u n e en = let z : _≡_ {A = ℕ} 0 1 = cc in absurd (omega arith)
+  filters-S (C b) u n e en = let z : _≡_ {A = ℕ} 0 1 = cc in absurd (omega arith)
+
+  pub filters-C : (d : Device) (u : Setup) (b : ℕ) → d ≡ C b → true ≡ filtersFit (on d u) f v
+  unfolding filtersFit
+  filters-C (C x) u b e = refl
+  filters-C G u b e = let z : _≡_ {A = ℕ} 0 1 = cc in absurd (omega arith)
+  filters-C S u b e = let z : _≡_ {A = ℕ} 0 1 = cc in absurd (omega arith)
 
 -- ---- the values
 

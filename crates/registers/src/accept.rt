@@ -54,6 +54,7 @@ fn filter_word(device: Device, word: u64) -> bool
             word == rsp_word(Device::G, 1)
         }
         Device::S => word == packet_word(Device::S),
+        Device::C(_) => false,
     }
 }
 
@@ -185,6 +186,7 @@ fn filters_fit(setup: Setup, words: [u64; CAPACITY], filters: FilterValues) -> b
             let counters = count_of(limit, words, packet_word(Device::S));
             filters.mm_cfg == mm_cfg_of(counters)
         }
+        Device::C(_) => true,
     }
 }
 

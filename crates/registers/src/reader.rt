@@ -44,6 +44,7 @@ fn filter_of(device: Device, filters: FilterValues, word: u64) -> FilterRead
             }
             FilterRead::NoFilter
         }
+        Device::C(_) => FilterRead::NoFilter,
     }
 }
 

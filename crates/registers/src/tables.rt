@@ -1,9 +1,9 @@
 // The register tables as data: addresses and field places, each with its name in the manual.
-// G: SDM volume 3 (IA32_*) and documents 001, 002 (MSR_OFFCORE_RSP*). S: document 004, section 2.5, and the kernel driver.
+// G: SDM volume 3 (IA32_*) and documents 001, 002 (MSR_OFFCORE_RSP*). S and C: document 004, sections 2.5 and 2.3, and the kernel driver.
 use layouts::Layout;
 use requests::Device;
 ghost use mathlib.Core.Path.{_≡_};
-ghost use Rattle.layouts.specs.Layout.{layoutOf, enabled, eventWord, rspWord, packetWord, codeOf, maskOf};
+ghost use Rattle.layouts.specs.Layout.{cboxGlobal, layoutOf, enabled, eventWord, rspWord, packetWord, codeOf, maskOf};
 
 // ---- addresses, G (SDM volume 3, architectural MSRs; document 001 for the RSP registers)
 
@@ -37,13 +37,35 @@ pub const MATCH: u64 = 0x0E49; // S_MSR_MATCH
 
 pub const MASK: u64 = 0x0E4A; // S_MSR_MASK
 
+// ---- addresses, C (document 004, 2.3.3: C-Box Performance Monitoring MSRs)
+
+// CBx_CR_C_MSR_PMON_GLOBAL_CTL of each C-Box.
+const C_GLOBAL_CTL: [u64; 8] = [
+    0x0D00, // box 0: document 004, 2.3.3
+    0x0D80, // box 1: kernel driver, uncore_nhmex.c, as all that follow
+    0x0D40, // box 2
+    0x0DC0, // box 3
+    0x0D20, // box 4
+    0x0DA0, // box 5
+    0x0D60, // box 6
+    0x0DE0, // box 7
+];
+
+const C_EVT_SEL0: u64 = 0x10; // from GLOBAL_CTL to CBx_CR_C_MSR_PMON_EVT_SEL_0 (box 0: 0D10 in document 004)
+
+const C_CTR0: u64 = 0x11; // from GLOBAL_CTL to CBx_CR_C_MSR_PMON_CTR_0 (kernel driver)
+
+const C_STEP: u64 = 2; // from EVT_SEL_k and CTR_k to those of k + 1 (kernel driver)
+
 // ---- fields
 
 const PERFEVTSEL_ENABLED: u64 = 0x0043_0000; // G, IA32_PERFEVTSELk: USR 16, OS 17, EN 22
 
 const PMON_CTL_ENABLED: u64 = 0x0040_0000; // S, table 2-30, S_MSR_PMON_CTLk: enable 22
 
-const UMASK: u64 = 0x0100; // G: event select 7:0, unit mask 15:8; S, table 2-30: ev_sel 7:0, umask 15:8
+const EVT_SEL_ENABLED: u64 = 0x0040_0000; // C, table 2-13, C_MSR_PMON_EVT_SELk: en 22
+
+const UMASK: u64 = 0x0100; // G: event select 7:0, unit mask 15:8; S, C, tables 2-30, 2-13: ev_sel 7:0, umask 15:8
 
 const OFFCORE_RESPONSE: u8 = 0xB7; // G, document 001: the event of the RSP registers
 
@@ -56,6 +78,29 @@ const PACKET: u8 = 0x00; // S, 2.5.2: the event of the match/mask register
 const PACKET_UMASK: u8 = 0x00; // S, document 01: its unit mask
 
 pub const MM_CFG_ENABLE: u64 = 0x8000_0000_0000_0000; // S, 2.5.3.4, S_MSR_MM_CFG: bit 63
+
+// The global control register of a C-Box; open takes none above 7, for which the row of box 0 stands.
+fn cbox_global(cbox: u64) -> u64
+    ensures { λ r. ⌜ r ≡ cboxGlobal cbox ⌝ }
+{
+    if 8 <= cbox {
+        return C_GLOBAL_CTL[0];
+    }
+    C_GLOBAL_CTL[cbox as usize]
+}
+
+// Where the registers of a C-Box's counters are.
+fn cbox_layout(cbox: u64) -> Layout
+    ensures { λ r. ⌜ r ≡ layoutOf (Device.C cbox) ⌝ }
+{
+    let global = cbox_global(cbox);
+    Layout {
+        global: global,
+        control: global + C_EVT_SEL0,
+        counter: global + C_CTR0,
+        step: C_STEP,
+    }
+}
 
 // Where the registers of the device's counters are.
 pub fn layout_of(device: Device) -> Layout
@@ -74,6 +119,7 @@ pub fn layout_of(device: Device) -> Layout
             counter: PMON_CTR0,
             step: PMON_STEP,
         },
+        Device::C(cbox) => cbox_layout(cbox),
     }
 }
 
@@ -84,6 +130,7 @@ fn enabled_bits(device: Device) -> u64
     match device {
         Device::G => PERFEVTSEL_ENABLED,
         Device::S => PMON_CTL_ENABLED,
+        Device::C(_) => EVT_SEL_ENABLED,
     }
 }
 

@@ -31,6 +31,7 @@ fn filter_count(device: Device, settings: Settings) -> usize
     match device {
         Device::G => 2,
         Device::S => if settings.packets { 4 } else { 1 },
+        Device::C(_) => 0,
     }
 }
 
@@ -125,6 +126,7 @@ fn put_filters(out: &mut [u64], at: usize, device: Device, settings: Settings) -
             settings.match_word,
             settings.mask_word,
         ),
+        Device::C(_) => at,
     }
 }
 

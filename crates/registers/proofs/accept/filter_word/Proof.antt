@@ -26,6 +26,10 @@ returns-3 : tie.Need-returns-3
 unfolding filterWord
 returns-3 c = rw (c .before .enum-told2 .given .1, c .packet-word .ensures)
 
+returns-4 : tie.Need-returns-4
+unfolding filterWord
+returns-4 c = rw (c .enum-told3 .given .1)
+
 pub filter-word-spec : {M : Type 1} → statement M
 filter-word-spec =
     tie.close
@@ -36,5 +40,7 @@ filter-word-spec =
     (λ c κs. search needs)
     (λ c. search needs)
     (λ c κs. search needs)
+    (λ c. search needs)
     returns-2
-    returns-3)
+    returns-3
+    returns-4)

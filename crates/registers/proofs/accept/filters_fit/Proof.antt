@@ -1,10 +1,10 @@
--- `filters_fit` tests the filter registers of the device, by `filters-G` and `filters-S`.
+-- `filters_fit` tests the filter registers of the device, by `filters-G`, `filters-S` and `filters-C`.
 use mathlib.Core.Path.{sym, _∙_}
 use lib.ListN.{getD}
 use borrow.Author.Needs.{needs}
 use Rattle.requests.specs.Choice.{both}
 use Rattle.plans.proofs.PlanLengthHolds.{plan-length}
-use Rattle.registers.proofs.ReaderSteps.{filters-G, filters-S}
+use Rattle.registers.proofs.ReaderSteps.{filters-G, filters-S, filters-C}
 use Rattle.registers.proofs.accept.filters_fit.Statement.{statement}
 use Rattle.registers.proofs.accept.filters_fit.Tie as tie
 
@@ -40,6 +40,11 @@ returns-3 c =
     let n = rw (c .before .before .before .packet-word .ensures, c .before .before .before .before .before .before .counter-count .ensures) at (c .before .before .count-of3 .ensures) in
     rw (c .before .mm-cfg-of .ensures) (filters-S (λ k. getD (a .words) k 0) (a .filters) (a .setup .device) (a .setup) _ (c .before .before .before .before .enum-told2 .given .1) n)
 
+returns-4 : tie.Need-returns-4
+returns-4 c =
+    let a = c .before .before .before .args in
+    filters-C (λ k. getD (a .words) k 0) (a .filters) (a .setup .device) (a .setup) _ (c .enum-told3 .given .1)
+
 pub filters-fit-spec : {M : Type 1} → statement M
 filters-fit-spec =
     tie.close
@@ -57,5 +62,7 @@ filters-fit-spec =
     (λ c κs. search needs)
     count-of-requires-3
     (λ c κs. search needs)
+    (λ c. search needs)
     returns-2
-    returns-3)
+    returns-3
+    returns-4)

@@ -41,6 +41,10 @@ unfolding filterOf
 returns-5 c =
     rw (c .before .before .enum-told2 .given .1, ne-eqb (c .before .before .before .before .args .word) (packetWord S) (λ e. c .if3 .left (e ∙ sym (c .before .packet-word .ensures))))
 
+returns-6 : tie.Need-returns-6
+unfolding filterOf
+returns-6 c = rw (c .enum-told3 .given .1)
+
 pub filter-of-spec : {M : Type 1} → statement M
 filter-of-spec =
     tie.close
@@ -53,5 +57,7 @@ filter-of-spec =
     (λ c. search needs)
     (λ c κs. search needs)
     returns-3
+    (λ c. search needs)
     returns-4
-    returns-5)
+    returns-5
+    returns-6)

@@ -13,5 +13,9 @@ returns-2 : tie.Need-returns-2
 unfolding enabled
 returns-2 c = ap enabled (sym (c .enum-told2 .given .1))
 
+returns-3 : tie.Need-returns-3
+unfolding enabled
+returns-3 c = ap enabled (sym (c .enum-told3 .given .1))
+
 pub enabled-bits-spec : {M : Type 1} → statement M
-enabled-bits-spec = tie.close (tie.spec (λ c. search needs) (λ c. search needs) returns returns-2)
+enabled-bits-spec = tie.close (tie.spec (λ c. search needs) (λ c. search needs) (λ c. search needs) returns returns-2 returns-3)

@@ -16,5 +16,9 @@ returns-3 : tie.Need-returns-3
 unfolding filterWrites packetWrites
 returns-3 c = rw (c .before .enum-told2 .given .1, c .if1 .left)
 
+returns-4 : tie.Need-returns-4
+unfolding filterWrites
+returns-4 c = rw (c .enum-told3 .given .1)
+
 pub filter-count-spec : {M : Type 1} → statement M
-filter-count-spec = tie.close (tie.spec (λ c. search needs) (λ c. search needs) returns returns-2 returns-3)
+filter-count-spec = tie.close (tie.spec (λ c. search needs) (λ c. search needs) (λ c. search needs) returns returns-2 returns-3 returns-4)

@@ -1,6 +1,7 @@
 -- `put_filters` appends the filter writes of the device.
 use borrow.Author.Needs.{needs}
 use Rattle.layouts.specs.Writes.{filterWrites}
+use Rattle.registers.proofs.Appending.{appended-none}
 use Rattle.registers.proofs.writer.put_filters.Statement.{statement}
 use Rattle.registers.proofs.writer.put_filters.Tie as tie
 
@@ -20,6 +21,10 @@ returns-2 : tie.Need-returns-2
 unfolding filterWrites
 returns-2 c = rw (c .before .before .before .before .enum-told2 .given .1) (c .before .before .put-packets .ensures)
 
+returns-3 : tie.Need-returns-3
+unfolding filterWrites
+returns-3 c = rw (c .enum-told3 .given .1) (appended-none _ _)
+
 pub put-filters-spec : {M : Type 1} → statement M
 put-filters-spec =
     tie.close
@@ -29,6 +34,8 @@ put-filters-spec =
     (λ c. search needs)
     put-packets-requires
     (λ c. search needs)
+    (λ c. search needs)
     returns
     (λ c. search needs)
-    returns-2)
+    returns-2
+    returns-3)
