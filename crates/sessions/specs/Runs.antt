@@ -54,7 +54,11 @@ gets id p = record { id = id; place = p }
 
 -- the letter of a device, a usable set and fixed enables
 abbrev opening : ℕ → ℕ → ℕ → Call
-opening letter usable fixed = Open (record { device = letter; usable = setOf usable; fixed = fixed })
+opening letter usable fixed = Open (record { device = letter; usable = setOf usable; fixed = fixed; cbox = 0 })
+
+-- a usable set, fixed enables and a C-Box
+abbrev openingBox : ℕ → ℕ → ℕ → Call
+openingBox usable fixed box = Open (record { device = 67; usable = setOf usable; fixed = fixed; cbox = box })
 
 -- document 01: `open G 15`, with no fixed enables
 abbrev openAll : Call
@@ -160,8 +164,38 @@ ids =
           };
     }
 
+-- order 3: openings of a C-Box, its events, and turns of six counters: of 20 writes, with a slice of 39 and of 40
+abbrev cbox : Run
+cbox =
+    record {
+      calls =
+          openingBox 63 0 8
+          ∷ openingBox 64 0 0
+          ∷ openingBox 0 0 0
+          ∷ openingBox 63 1 0
+          ∷ Open (record { device = 71; usable = setOf 15; fixed = 0; cbox = 1 })
+          ∷ openingBox 63 0 7
+          ∷ map (λ (id : ℕ). Add id (Event 0x19 0x00 (setOf 63))) (upTo 7)
+          ++ Add 8 (Event 0x0B 0x05 (setOf 63))
+          ∷ Add 8 (Event 0x0B 0x18 (setOf 1))
+          ∷ Add 9 (Event 0x23 0x00 (setOf 0))
+          ∷ Turn 39
+          ∷ Turn 40
+          ∷ Turn 40
+          ∷ [];
+      outcome =
+          record {
+            numbers = replicate 5 (some 3) ++ replicate 8 none ++ some 10 ∷ none ∷ some 12 ∷ some 14 ∷ none ∷ none ∷ [];
+            plans =
+                (gets 1 (Counter 0) ∷ gets 2 (Counter 1) ∷ gets 3 (Counter 2) ∷ gets 4 (Counter 3) ∷ gets 5 (Counter 4) ∷ gets 6 (Counter 5) ∷ [])
+                ∷ (gets 7 (Counter 1) ∷ gets 8 (Counter 0) ∷ gets 1 (Counter 2) ∷ gets 2 (Counter 3) ∷ gets 3 (Counter 4) ∷ gets 4 (Counter 5) ∷ [])
+                ∷ [];
+            ids = 5 ∷ 6 ∷ 7 ∷ 8 ∷ 1 ∷ 2 ∷ 3 ∷ 4 ∷ [];
+          };
+    }
+
 unfoldable pub runs : List Run
-runs = tryA ∷ tryJ ∷ tryK ∷ emptyQueue ∷ openOnce ∷ ids ∷ []
+runs = tryA ∷ tryJ ∷ tryK ∷ emptyQueue ∷ openOnce ∷ ids ∷ cbox ∷ []
 
 -- each list of calls comes to what its row says
 abbrev pub Runs : Type 0
