@@ -14,7 +14,7 @@ use Rattle.requests.specs.Devices.{has, counterCount, fixedCount}
 use Rattle.plans.specs.Lists.{nil, empty, none}
 use Rattle.plans.specs.Legal.{Usable, Legal, ofAll, counters}
 use Rattle.layouts.specs.Layout.{layoutOf, controlAt}
-use Rattle.requests.specs.BitSets.{setFrom}
+use Rattle.layouts.specs.Settings.{setFrom}
 use Rattle.layouts.specs.Writes.{firstGlobal, lastGlobal}
 use Rattle.layouts.specs.Told.{toldAt, toldPlan}
 use Rattle.layouts.specs.EmptyPlan.{allOff, turnedOff, EmptyPlan}

@@ -27,14 +27,13 @@ use Rattle.plans.specs.Lists.{All, cons}
 use Rattle.plans.specs.Legal.{Usable, Legal, wordsOf, packetsOf, ofAll, counters}
 use Rattle.plans.proofs.Sets.{all-imp}
 use Rattle.layouts.specs.Layout.{layoutOf, controlAt, filtersAt, matchAt, maskAt, mmEnable, rspWord, packetWord}
-use Rattle.requests.specs.BitSets.{setFrom}
-use Rattle.layouts.specs.Settings.{wordAt, headOr, nonempty}
+use Rattle.layouts.specs.Settings.{wordAt, setFrom, headOr, nonempty}
 use Rattle.layouts.specs.Writes.{rows, lastGlobal, writes, apply}
 use Rattle.layouts.specs.Read.{ours, noCounter, count, controlFits, rsp0Fits, rsp1Fits, latencyFits, filtersFit, accepts, filterWord}
 use Rattle.layouts.specs.ExactReader.{FiltersShow, LeavesValues}
 use Rattle.layouts.specs.declared.RegisterValues.{RegisterValues}
 use Rattle.layouts.proofs.ListLaws.{all-member}
-use Rattle.requests.proofs.CounterSets.{bit-set, set-same}
+use Rattle.layouts.proofs.CounterSets.{bit-set, set-same}
 use Rattle.layouts.proofs.DeviceFacts.{in-room, apart}
 use Rattle.layouts.proofs.RegistersAfter.{apply-after, after-other, rows-all, rows-at}
 use Rattle.layouts.proofs.Counts.{hits}

@@ -29,13 +29,12 @@ use Rattle.requests.proofs.DeviceNumbers.{numbers}
 use Rattle.requests.proofs.Tests.{every-at, either-cases}
 use Rattle.plans.proofs.PlanLengthHolds.{plan-length}
 use Rattle.layouts.specs.Layout.{globalBits}
-use Rattle.requests.specs.BitSets.{setFrom}
-use Rattle.layouts.specs.Settings.{settingsOf}
+use Rattle.layouts.specs.Settings.{setFrom, settingsOf}
 use Rattle.layouts.specs.Writes.{unusable, fixedAt, fixedEnables, firstGlobal, lastGlobal}
 use Rattle.layouts.specs.FixedEnables.{Carries}
 use Rattle.layouts.proofs.WordBits.{bit-above, bit-low-part, bit-high-part, bit-part, bits-only}
 use Rattle.layouts.proofs.DeviceFacts.{facts}
-use Rattle.requests.proofs.CounterSets.{bit-set, set-below, set-sum, set-left}
+use Rattle.layouts.proofs.CounterSets.{bit-set, set-below, set-sum, set-left}
 
 -- what holds of all elements holds of a number in the list
 all-listed : {P : ℕ → Type 0} {ks : List ℕ} (k : ℕ) → All P ks → inList ks k ≡ true → P k

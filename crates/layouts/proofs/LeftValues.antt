@@ -24,8 +24,7 @@ use Rattle.plans.specs.Lists.{All, nil, OneValue}
 use Rattle.plans.specs.Legal.{Legal, wordsOf, packetsOf, ofAll, counters}
 use Rattle.plans.proofs.Sets.{all-imp}
 use Rattle.layouts.specs.Layout.{filtersAt, rsp0At, rsp1At, mmCfgAt, matchAt, maskAt, mmEnable, enabled, eventWord, offcoreCode, rspMask, rspWord, packetWord}
-use Rattle.requests.specs.BitSets.{setFrom}
-use Rattle.layouts.specs.Settings.{wordAt, headOr, nonempty, settingsOf}
+use Rattle.layouts.specs.Settings.{wordAt, setFrom, headOr, nonempty, settingsOf}
 use Rattle.layouts.specs.Writes.{lastGlobal, offcoreWrites, packetWrites, filterWrites, writes, apply}
 use Rattle.layouts.specs.Read.{ours, noCounter, filterWord, controlFits, accepts, tell, cell, readingOf}
 use Rattle.layouts.specs.Told.{notOurs, told, toldBy, toldOf, toldAt, toldPlan}
@@ -35,7 +34,7 @@ use Rattle.layouts.specs.declared.RegisterValues.{RegisterValues}
 use Rattle.layouts.specs.declared.CounterState.the-variants.{NotOurs}
 use Rattle.layouts.specs.declared.CounterRead.{CounterRead}
 use Rattle.layouts.proofs.ListLaws.{one-value, map-tabulate, tabulate-same}
-use Rattle.requests.proofs.CounterSets.{set-same}
+use Rattle.layouts.proofs.CounterSets.{set-same}
 use Rattle.layouts.proofs.RegistersAfter.{after}
 use Rattle.layouts.proofs.UsableSets.{on, Within, usable-counter}
 use Rattle.layouts.proofs.ControlWords.{ControlWord, listed-event, rsp-event, packet-event, listed, word-parts, word-some, plan-words, word-at}

@@ -1,6 +1,7 @@
 pub mod AcceptanceTests
 pub mod ListLaws
 pub mod WordBits
+pub mod CounterSets
 pub mod ListedEvents
 pub mod DeviceFacts
 pub mod RegistersAfter

@@ -19,7 +19,7 @@ use Rattle.requests.specs.declared.Answer.the-variants.{Accepted}
 use Rattle.requests.specs.Devices.{has, counterCount, capacity, setupOf}
 use Rattle.requests.proofs.Tests.{both-parts}
 use Rattle.layouts.specs.Layout.{tabulate, mmEnable, packetWord}
-use Rattle.requests.specs.BitSets.{setFrom}
+use Rattle.layouts.specs.Settings.{setFrom}
 use Rattle.layouts.specs.Writes.{lastGlobal}
 use Rattle.layouts.specs.Read.{ours, count, controlFits, filtersFit, accepts, filterOf, tell, cell, readingOf, readOf}
 use Rattle.layouts.specs.NotLookedAt.{SameFilters, SameLookedAt, NotLookedAt}

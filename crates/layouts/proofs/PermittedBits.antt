@@ -6,7 +6,7 @@ use Rattle.requests.specs.declared.Device.the-variants.{G, S, C}
 use Rattle.requests.specs.Bits.{inList, typeBits, anyResponse, answerBits, outstanding, rsp0Bits, rsp1Bits}
 use Rattle.requests.specs.Devices.{counterCount}
 use Rattle.layouts.specs.Layout.{tabulate, cboxGlobals, cboxGlobal, layoutOf, controlAt, rsp0At, rsp1At, mmCfgAt, field, controlBits, globalBits, mmEnable, registersOf}
-use Rattle.requests.specs.BitSets.{setFrom}
+use Rattle.layouts.specs.Settings.{setFrom}
 use Rattle.layouts.specs.PermittedBits.{permittedOf, bitsTogether, PermittedBits}
 
 pub permitted-bits : PermittedBits

@@ -23,8 +23,7 @@ use Rattle.plans.specs.Places.{countedOf, countersOf, first, second}
 use Rattle.plans.specs.Legal.{Allowed, event, packet, offcore, latency, Legal, ofAll, counters}
 use Rattle.plans.proofs.Sets.{all-imp}
 use Rattle.layouts.specs.Layout.{layoutOf, controlAt, filtersAt}
-use Rattle.requests.specs.BitSets.{setFrom}
-use Rattle.layouts.specs.Settings.{usesOf, wordAt, settingsOf}
+use Rattle.layouts.specs.Settings.{usesOf, wordAt, setFrom, settingsOf}
 use Rattle.layouts.specs.Writes.{lastGlobal, filterWrites, writes, apply}
 use Rattle.layouts.specs.Read.{count}
 use Rattle.layouts.proofs.Tabulated.{getD-tabulate}

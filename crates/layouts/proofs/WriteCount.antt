@@ -27,12 +27,11 @@ use Rattle.plans.specs.Lists.{All, nil, cons, Pairwise, empty, add, OneValue, E
 use Rattle.plans.specs.Places.{countedOf, countersOf}
 use Rattle.plans.specs.Legal.{Usable, Allowed, Legal, event, packet, wordsOf, packetsOf, ofAll, counters}
 use Rattle.layouts.specs.Layout.{tabulate, layoutOf}
-use Rattle.requests.specs.BitSets.{setFrom}
-use Rattle.layouts.specs.Settings.{usesOf, settingsOf}
+use Rattle.layouts.specs.Settings.{usesOf, setFrom, settingsOf}
 use Rattle.layouts.specs.Writes.{row, rows, offcoreWrites, packetWrites, filterWrites, zeros, writesFor, writes}
 use Rattle.layouts.specs.WriteCount.{writeLimit, Reached, WriteCount}
 use Rattle.layouts.specs.declared.Settings.{Settings}
-use Rattle.requests.proofs.CounterSets.{bit-set, set-left}
+use Rattle.layouts.proofs.CounterSets.{bit-set, set-left}
 use Rattle.layouts.proofs.WordBits.{bit-zero}
 use Rattle.layouts.proofs.DeviceFacts.{filterRoom, facts}
 

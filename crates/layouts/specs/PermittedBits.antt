@@ -6,7 +6,7 @@ use Rattle.requests.specs.declared.Device.{Device}
 use Rattle.requests.specs.declared.Device.the-variants.{G, S, C}
 use Rattle.requests.specs.Bits.{inList}
 use Rattle.layouts.specs.Layout.{cboxGlobal, Register, registersOf}
-use Rattle.requests.specs.BitSets.{setFrom}
+use Rattle.layouts.specs.Settings.{setFrom}
 
 -- address and permitted bits
 unfoldable pub permittedOf : Device → List (ℕ × ℕ)

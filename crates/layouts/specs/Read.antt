@@ -18,7 +18,7 @@ use Rattle.requests.specs.Bits.{outstanding, latencyWord}
 use Rattle.requests.specs.Devices.{has, counterCount, capacity, setupOf}
 use Rattle.requests.specs.Checks.{formed}
 use Rattle.layouts.specs.Layout.{tabulate, mmEnable, eventWord, rspWord, packetWord, codeOf, maskOf}
-use Rattle.requests.specs.BitSets.{setFrom}
+use Rattle.layouts.specs.Settings.{setFrom}
 use Rattle.layouts.specs.Writes.{lastGlobal}
 use Rattle.layouts.specs.declared.FilterValues.{FilterValues}
 use Rattle.layouts.specs.declared.RegisterValues.{RegisterValues}

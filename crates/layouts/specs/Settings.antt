@@ -1,14 +1,13 @@
 -- The register values of a plan.
 use mathlib.Core.List.{List, [], _∷_, flatMap}
 use mathlib.Core.Bool.{Bool, true, false}
-use Prim.Native.Nat.{ℕ}
+use Prim.Native.Nat.{ℕ, zero, suc, _+_, _*_}
 use lib.Dec.{eqb}
 use Rattle.requests.specs.declared.Device.{Device}
 use Rattle.requests.specs.declared.Request.{Request}
 use Rattle.requests.specs.declared.Request.the-variants.{Event, Packet, Offcore, Latency}
 use Rattle.requests.specs.Choice.{pick}
 use Rattle.requests.specs.Bits.{inList}
-use Rattle.requests.specs.BitSets.{setFrom}
 use Rattle.requests.specs.Devices.{counterCount, capacity}
 use Rattle.plans.specs.declared.Place.{Place}
 use Rattle.plans.specs.Places.{first, second}
@@ -27,6 +26,11 @@ usesOf d (Latency t a b) p = (first p, rspWord d 0) ∷ (second p, rspWord d 1) 
 unfoldable pub wordAt : List (ℕ × ℕ) → ℕ → ℕ
 wordAt [] k = 0
 wordAt (x ∷ xs) k = pick (eqb (x .0) k) (x .1) (wordAt xs k)
+
+-- the set of those n counters, from k on, that pass the test
+unfoldable pub setFrom : ℕ → ℕ → (ℕ → Bool) → ℕ
+setFrom zero k on = 0
+setFrom (suc n) k on = pick (on k) 1 0 + 2 * setFrom n (suc k) on
 
 -- the first element, or a where there is none
 abbrev pub headOr : {A : Type 0} → A → List A → A

@@ -25,11 +25,11 @@ use Rattle.requests.specs.Checks.{kindNotOn, notListed, outOfRange, requestRows
 use Rattle.requests.proofs.MaskTests.{only-by-mask}
 use Rattle.requests.proofs.Tests.{both-false}
 use Rattle.layouts.specs.Layout.{tabulate}
-use Rattle.requests.specs.BitSets.{setFrom}
+use Rattle.layouts.specs.Settings.{setFrom}
 use Rattle.layouts.specs.Read.{ours, count, latencyFits}
 use Rattle.layouts.specs.declared.RegisterValues.{RegisterValues}
 use Rattle.layouts.proofs.Tabulated.{length-tabulate, getD-tabulate}
-use Rattle.requests.proofs.CounterSets.{set-below}
+use Rattle.layouts.proofs.CounterSets.{set-below}
 use Rattle.layouts.proofs.UsableSets.{on}
 
 -- ---- well-formed

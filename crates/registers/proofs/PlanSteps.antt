@@ -18,8 +18,7 @@ use Rattle.plans.specs.Rows.{requestAt, rowsFrom}
 use Rattle.plans.specs.Packed.{placeAt, placesFrom}
 use Rattle.plans.proofs.RequestRows.{rows-next}
 use Rattle.layouts.specs.Layout.{tabulate}
-use Rattle.requests.specs.BitSets.{setFrom}
-use Rattle.layouts.specs.Settings.{usesOf, wordAt, headOr, nonempty, settingsOf}
+use Rattle.layouts.specs.Settings.{usesOf, wordAt, setFrom, headOr, nonempty, settingsOf}
 use Rattle.layouts.specs.declared.Settings.{Settings}
 use Rattle.registers.specs.Adding.{withUses, withPackets, settingsWith}
 use Rattle.registers.proofs.UsedCounters.{setOf, used-more}

@@ -13,7 +13,7 @@ use Rattle.requests.specs.declared.Setup.{Setup}
 use Rattle.requests.specs.Choice.{both, every, pick}
 use Rattle.requests.specs.Devices.{counterCount}
 use Rattle.layouts.specs.Layout.{mmEnable, rspWord, packetWord}
-use Rattle.requests.specs.BitSets.{setFrom}
+use Rattle.layouts.specs.Settings.{setFrom}
 use Rattle.layouts.specs.Writes.{lastGlobal}
 use Rattle.layouts.specs.Read.{ours, count, controlFits, rsp1Fits, rsp0Fits, filtersFit, accepts}
 use Rattle.layouts.specs.declared.FilterValues.{FilterValues}

@@ -12,10 +12,10 @@ use Rattle.requests.specs.declared.Device.{Device}
 use Rattle.requests.specs.Choice.{both, either}
 use Rattle.requests.specs.Bits.{bit, inList}
 use Rattle.requests.specs.Devices.{has, counterCount, capacity}
-use Rattle.requests.specs.BitSets.{setFrom}
+use Rattle.layouts.specs.Settings.{setFrom}
 use Rattle.registers.specs.Adding.{withCounter, withCounters}
 use Rattle.plans.proofs.PlanLengthHolds.{plan-length}
-use Rattle.requests.proofs.CounterSets.{bit-set, set-same}
+use Rattle.layouts.proofs.CounterSets.{bit-set, set-same}
 
 abbrev pub setOf : ℕ → CounterSet
 setOf x = record { 0 = x }

@@ -29,7 +29,7 @@ ghost use Rattle.requests.specs.Choice.{every, pick};
 ghost use Rattle.requests.specs.Devices.{capacity};
 ghost use Rattle.requests.specs.Checks.{formed};
 ghost use Rattle.layouts.specs.Layout.{tabulate, mmEnable};
-ghost use Rattle.requests.specs.BitSets.{setFrom};
+ghost use Rattle.layouts.specs.Settings.{setFrom};
 ghost use Rattle.layouts.specs.Read.{ours, count, filterWord, controlFits, rsp1Fits, latencyFits, rsp0Fits, filtersFit, accepts};
 
 // Whether none of the refusals 7 to 11 applies.

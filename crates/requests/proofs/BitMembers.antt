@@ -8,9 +8,12 @@ use Prim.Native.Nat.{ℕ, zero, suc, _+_, _%_, _^_, _≤_, _<_}
 use native.Mathlib.Decide.{decLt}
 use native.Mathlib.Nat.{mod-eq-of-lt, mod-lt, lt-of-lt-of-le, zero-add, suc-add, pow-succ'}
 use native.Mathlib.Omega.{arith}
+use native.Mathlib.Numerals.{add-one}
 use lib.Dec.{ltb}
+use lib.ListN.{length, getD, drop, drop-of-length-le}
+use lib.Seq.{drop-cons}
 use lib.Pow.{pow-pos, pow-mono}
-use borrow.Author.Tests.{eqb-true, eq-eqb, ltb-true, ltb-false, not-false}
+use borrow.Author.Tests.{eqb-true, eq-eqb, ne-eqb, ltb-true, ltb-false, not-false}
 use Rattle.requests.specs.Choice.{both, either, every}
 use Rattle.requests.specs.Bits.{bit, inList, anyBit, onlyBits, typeBits, rsp0Bits}
 use Rattle.requests.specs.Masks.{bitsOf, typeMask, permittedMask}
@@ -31,6 +34,19 @@ pub member-in : (ks : List ℕ) (k : ℕ) → List·Memᴰ k ks → inList ks k 
 unfolding inList
 member-in (j ∷ ks) k (List·Memᴰ·head e) = either-left _ _ (eq-eqb j k (sym e))
 member-in (j ∷ ks) k (List·Memᴰ·tail m) = either-right _ _ (member-in ks k m)
+
+-- the list from i on, by the number there
+pub in-here : (ks : List ℕ) (i k : ℕ) → i < length ks → getD ks i 0 ≡ k → inList (drop i ks) k ≡ true
+unfolding inList
+in-here ks i k l e = rw (drop-cons ks i 0 l) (either-left _ _ (eq-eqb _ _ e))
+
+pub in-later : (ks : List ℕ) (i k : ℕ) → i < length ks → (getD ks i 0 ≡ k → ⊥) → inList (drop i ks) k ≡ inList (drop (i + 1) ks) k
+unfolding inList either
+in-later ks i k l f = rw (drop-cons ks i 0 l, ne-eqb _ _ f, add-one)
+
+pub in-none : (ks : List ℕ) (i k : ℕ) → length ks ≤ i → inList (drop i ks) k ≡ false
+unfolding inList
+in-none ks i k l = rw (drop-of-length-le ks l)
 
 -- ---- a bit of the list
 

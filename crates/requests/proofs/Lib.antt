@@ -5,8 +5,7 @@ pub mod MaskTests
 pub mod DeviceNumbers
 pub mod Openings
 pub mod OpeningsTaken
-pub mod CounterSets
-pub mod MaskWords
+pub mod RuleNumbers
 pub mod Lookups
 pub mod Roles
 pub mod FirstHolding

@@ -14,6 +14,5 @@ pub mod CBoxPages
 pub mod Examples
 -- The code's own: how it holds its values. No claim.
 pub mod Choice
-pub mod BitSets
 pub mod Masks
 pub mod Lookup

@@ -1,19 +1,19 @@
 -- The catalogues as rows of numbers, and what a look-up answers.
 use mathlib.Core.List.{List, [], _∷_, map}
 use mathlib.Core.Bool.{Bool, true, false}
-use Prim.Native.Nat.{ℕ, suc, _+_, _*_, _/_, _%_}
+use Prim.Native.Nat.{ℕ, suc, _+_, _*_, _%_}
 use lib.Dec.{eqb}
 use lib.ListN.{getD}
 use Rattle.requests.specs.Choice.{both}
-use Rattle.requests.specs.Bits.{bit}
-use Rattle.requests.specs.BitSets.{setFrom}
 use Rattle.requests.specs.MaskRules.{MaskRule, alone, range, among, allows, ListedEvent}
 use Rattle.requests.specs.CBoxEvents.{sinkMasks, ringMasks, starvedMasks, bypassMasks}
 use Rattle.requests.specs.Catalogue.{eventsOf, codeIn, pairIn}
 use Rattle.requests.specs.declared.Device.{Device}
 use Rattle.requests.specs.declared.Listing.{Listing}
+use Rattle.requests.specs.declared.Request.{Request}
+use Rattle.requests.specs.declared.Request.the-variants.{Event, Packet, Offcore, Latency}
 
--- the mask rules of all catalogues, sixteen places: a rule's number is its place
+-- the mask rules of all catalogues: a rule's number is its place
 unfoldable pub maskRules : List MaskRule
 maskRules =
     among []
@@ -30,9 +30,11 @@ maskRules =
     ∷ alone 0x01
     ∷ alone 0x4F
     ∷ alone 0x41
-    ∷ among []
-    ∷ among []
     ∷ []
+
+-- the rule of a number; there is none past the last
+unfoldable pub ruleAt : ℕ → MaskRule
+ruleAt n = getD maskRules n (among [])
 
 -- whether two lists have the same numbers in the same order
 unfoldable pub sameNumbers : List ℕ → List ℕ → Bool
@@ -66,19 +68,17 @@ rowOf e = 16 * e .code + placeOf maskRules (e .masks)
 unfoldable pub rowsOf : Device → List ℕ
 rowsOf d = map rowOf (eventsOf d)
 
--- the masks from 64 i to 64 i + 63 that a rule lists, as the bits of a word
-unfoldable pub masksFrom : MaskRule → ℕ → ℕ
-masksFrom r i = setFrom 64 (64 * i) (allows r)
-
--- four words a rule
-unfoldable pub wordsFor : List MaskRule → List ℕ
-wordsFor [] = []
-wordsFor (r ∷ rs) = masksFrom r 0 ∷ masksFrom r 1 ∷ masksFrom r 2 ∷ masksFrom r 3 ∷ wordsFor rs
-
 -- whether the row lists the mask
 unfoldable pub rowAllows : ℕ → ℕ → Bool
-rowAllows r m = bit (m % 64) (getD (wordsFor maskRules) (4 * (r % 16) + m / 64) 0)
+rowAllows r m = allows (ruleAt (r % 16)) m
 
 -- what the device's catalogue lists of a code and a mask
 unfoldable pub listingOf : Device → ℕ → ℕ → Listing
 listingOf d c m = record { code = codeIn (eventsOf d) c; pair = pairIn (eventsOf d) c m }
+
+-- what it lists of an event; other requests are in no catalogue
+unfoldable pub listingFor : Device → Request → Listing
+listingFor d (Event c m a) = listingOf d c m
+listingFor d (Packet x y a) = record { code = false; pair = false }
+listingFor d (Offcore w a) = record { code = false; pair = false }
+listingFor d (Latency t a b) = record { code = false; pair = false }

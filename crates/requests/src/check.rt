@@ -2,6 +2,7 @@
 use crate::Answer;
 use crate::CounterSet;
 use crate::Device;
+use crate::Listing;
 use crate::Refusal;
 use crate::Request;
 use crate::Setup;
@@ -23,11 +24,18 @@ ghost use mathlib.Core.List.{_∷_, []};
 ghost use Rattle.requests.specs.Choice.{both, either};
 ghost use Rattle.requests.specs.Bits.{anyBit, anyResponse, answerBits, outstanding};
 ghost use Rattle.requests.specs.Catalogue.{maskNotListed};
+ghost use Rattle.requests.specs.Lookup.{listingOf, listingFor};
 ghost use Rattle.requests.specs.Checks.{kindNotOn, notListed, tooWide, outOfRange, incomplete, conflicting, requestRefusal};
 ghost use Rattle.requests.specs.Refusals.{answerFor};
 
+// What a catalogue lists where it is not asked.
+const UNLISTED: Listing = Listing {
+    code: false,
+    pair: false,
+};
+
 // 7: whether the device has no requests of this kind.
-pub fn kind_not_on(device: Device, request: Request) -> bool
+fn kind_not_on(device: Device, request: Request) -> bool
     ensures { λ r. ⌜ r ≡ kindNotOn device request ⌝ }
 {
     match request {
@@ -38,13 +46,25 @@ pub fn kind_not_on(device: Device, request: Request) -> bool
     }
 }
 
+// What the device's catalogue lists of an event.
+fn listing_for(device: Device, request: Request) -> Listing
+    ensures { λ r. ⌜ r ≡ listingFor device request ⌝ }
+{
+    match request {
+        Request::Event { code, mask, .. } => look_up(device, code, mask),
+        Request::Packet { .. } => UNLISTED,
+        Request::Offcore { .. } => UNLISTED,
+        Request::Latency { .. } => UNLISTED,
+    }
+}
+
 // 8: whether an event is not listed: the pair, or the code where that has its own masks.
-pub fn not_listed(device: Device, request: Request) -> bool
+fn not_listed(device: Device, request: Request, listing: Listing) -> bool
+    requires { ⌜ listing ≡ listingFor device request ⌝ }
     ensures { λ r. ⌜ r ≡ notListed device request ⌝ }
 {
     match request {
-        Request::Event { code, mask, .. } => {
-            let listing = look_up(device, code, mask);
+        Request::Event { .. } => {
             if pairs_judged(device) {
                 return !listing.pair;
             }
@@ -57,13 +77,13 @@ pub fn not_listed(device: Device, request: Request) -> bool
 }
 
 // Whether the code is listed, but not with the mask.
-fn mask_not_listed(device: Device, code: u8, mask: u8) -> bool
+fn mask_not_listed(device: Device, code: u8, mask: u8, listing: Listing) -> bool
+    requires { ⌜ listing ≡ listingOf device code mask ⌝ }
     ensures { λ r. ⌜ r ≡ maskNotListed device code mask ⌝ }
 {
     if pairs_judged(device) {
         return false;
     }
-    let listing = look_up(device, code, mask);
     if listing.code {
         return !listing.pair;
     }
@@ -79,13 +99,20 @@ fn too_wide(device: Device, allowed: CounterSet) -> bool
 }
 
 // A mask above the listed range, or an allowed set above all counters.
-fn event_out_of_range(device: Device, code: u8, mask: u8, allowed: CounterSet) -> bool
+fn event_out_of_range(
+    device: Device,
+    code: u8,
+    mask: u8,
+    allowed: CounterSet,
+    listing: Listing,
+) -> bool
+    requires { ⌜ listing ≡ listingOf device code mask ⌝ }
     ensures { λ r. ⌜ r ≡ outOfRange device (Request.Event code mask allowed) ⌝ }
 {
     if mask == 0 {
         return too_wide(device, allowed);
     }
-    if mask_not_listed(device, code, mask) {
+    if mask_not_listed(device, code, mask, listing) {
         return true;
     }
     too_wide(device, allowed)
@@ -115,7 +142,8 @@ fn latency_out_of_range(device: Device, types: u16, first: CounterSet, second: C
 }
 
 // 10: whether a mask, a bit or an allowed set is out of range.
-pub fn out_of_range(device: Device, request: Request) -> bool
+fn out_of_range(device: Device, request: Request, listing: Listing) -> bool
+    requires { ⌜ listing ≡ listingFor device request ⌝ }
     ensures { λ r. ⌜ r ≡ outOfRange device request ⌝ }
 {
     match request {
@@ -123,7 +151,7 @@ pub fn out_of_range(device: Device, request: Request) -> bool
             code,
             mask,
             allowed,
-        } => event_out_of_range(device, code, mask, allowed),
+        } => event_out_of_range(device, code, mask, allowed, listing),
         Request::Packet { allowed, .. } => too_wide(device, allowed),
         Request::Offcore { word, allowed } => offcore_out_of_range(device, word, allowed),
         Request::Latency {
@@ -135,13 +163,14 @@ pub fn out_of_range(device: Device, request: Request) -> bool
 }
 
 // 9: whether a mask, a request type or a response is missing.
-pub fn incomplete(device: Device, request: Request) -> bool
+fn incomplete(device: Device, request: Request, listing: Listing) -> bool
+    requires { ⌜ listing ≡ listingFor device request ⌝ }
     ensures { λ r. ⌜ r ≡ incomplete device request ⌝ }
 {
     match request {
         Request::Event { code, mask, .. } => {
             if mask == 0 {
-                return mask_not_listed(device, code, mask);
+                return mask_not_listed(device, code, mask, listing);
             }
             false
         }
@@ -170,7 +199,7 @@ fn offcore_conflicting(word: u64) -> bool
 }
 
 // 11: whether an offcore word asks for what does not go together.
-pub fn conflicting(device: Device, request: Request) -> bool
+fn conflicting(device: Device, request: Request) -> bool
     ensures { λ r. ⌜ r ≡ conflicting device request ⌝ }
 {
     match request {
@@ -189,13 +218,14 @@ pub fn request_refusal(setup: Setup, request: Request) -> Answer
     if kind_not_on(device, request) {
         return Answer::Refused(Refusal::KindNotOnDevice);
     }
-    if not_listed(device, request) {
+    let listing = listing_for(device, request);
+    if not_listed(device, request, listing) {
         return Answer::Refused(Refusal::NotListed);
     }
-    if out_of_range(device, request) {
+    if out_of_range(device, request, listing) {
         return Answer::Refused(Refusal::OutOfRange);
     }
-    if incomplete(device, request) {
+    if incomplete(device, request, listing) {
         return Answer::Refused(Refusal::Incomplete);
     }
     if conflicting(device, request) {

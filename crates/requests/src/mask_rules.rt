@@ -1,97 +1,101 @@
 // The mask rules: which unit masks an event has. The last digit of a catalogue's row is the number of its rule.
 ghost use mathlib.Core.Path.{_≡_};
+ghost use Rattle.requests.specs.Bits.{inList};
+ghost use Rattle.requests.specs.MaskRules.{allows, range};
 ghost use Rattle.requests.specs.Lookup.{rowAllows};
 
-// The unit masks of each rule: four words, whose bits are the masks from 00, 40, 80 and C0 on.
-const MASKS: [u64; 64] = [
-    // 0: none
-    0,
-    0,
-    0,
-    0,
-    // 1: 00 alone
-    0x0000_0000_0000_0001,
-    0,
-    0,
-    0,
-    // 2: 01 to 03
-    0x0000_0000_0000_000E,
-    0,
-    0,
-    0,
-    // 3: 01, 02, 04
-    0x0000_0000_0000_0016,
-    0,
-    0,
-    0,
-    // 4: the rings
-    0x0001_0001_0001_111E,
-    0x8000_0000_0000_0001,
-    0,
-    0,
-    // 5: the egresses
-    0x0000_0001_0101_019E,
-    0x0000_0001_0000_0001,
-    0x0000_0000_0000_0001,
-    0,
-    // 6: one bit
-    0x0000_0001_0001_0116,
-    0x0000_0000_0000_0001,
-    0x0000_0000_0000_0001,
-    0,
-    // 7: 01 to 07
-    0x0000_0000_0000_00FE,
-    0,
-    0,
-    0,
-    // 8: 01 to 0F
-    0x0000_0000_0000_FFFE,
-    0,
-    0,
-    0,
-    // 9: 01 to 1F
-    0x0000_0000_FFFF_FFFE,
-    0,
-    0,
-    0,
-    // A: 01 to FF
-    0xFFFF_FFFF_FFFF_FFFE,
-    0xFFFF_FFFF_FFFF_FFFF,
-    0xFFFF_FFFF_FFFF_FFFF,
-    0xFFFF_FFFF_FFFF_FFFF,
-    // B: 01 alone
-    0x0000_0000_0000_0002,
-    0,
-    0,
-    0,
-    // C: 4F alone
-    0,
-    0x0000_0000_0000_8000,
-    0,
-    0,
-    // D: 41 alone
-    0,
-    0x0000_0000_0000_0002,
-    0,
-    0,
-    // E: none
-    0,
-    0,
-    0,
-    0,
-    // F: none
-    0,
-    0,
-    0,
-    0,
+// SINKS_P2C, SINKS_C2P, SINKS_S2C.
+const SINK_MASKS: [u8; 3] = [
+    0x01, // AD, with SINKS_C2P IV
+    0x02, // AK
+    0x04, // BL
 ];
+
+// ARB_WINS, ARB_LOSSES.
+const RING_MASKS: [u8; 11] = [
+    0x01, // AD_SB
+    0x02, // AD_NSB
+    0x03, // AD_ALL
+    0x04, // AK_SB
+    0x08, // AK_NSB
+    0x0C, // AK_ALL
+    0x10, // BL_SB
+    0x20, // BL_NSB
+    0x30, // BL_ALL
+    0x40, // IV
+    0x7F, // ALL
+];
+
+// STARVED_EGRESS.
+const STARVED_MASKS: [u8; 12] = [
+    0x01, // P2C_AD_SB
+    0x02, // C2S_AD_SB
+    0x03, // AD_SB
+    0x04, // AD_NSB
+    0x07, // AD
+    0x08, // AK_SB
+    0x10, // AK_NSB
+    0x18, // AK
+    0x20, // BL_SB
+    0x40, // BL_NSB
+    0x60, // BL
+    0x80, // IV
+];
+
+// EGRESS_BYPASS_WINS.
+const BYPASS_MASKS: [u8; 8] = [
+    0x01, // AD_BYP0
+    0x02, // AD_BYP1
+    0x04, // AK_BYP0
+    0x08, // AK_BYP1
+    0x10, // BL_BYP0
+    0x20, // BL_BYP1
+    0x40, // IV_BYP0
+    0x80, // IV_BYP1
+];
+
+// Whether the unit mask is one of the list.
+fn is_among(masks: &[u8], mask: u8) -> bool
+    ensures { λ r. ⌜ r ≡ inList (now (masks .entry)) mask ⌝ }
+{
+    let mut i = 0;
+    while i < masks.len() {
+        if masks[i] == mask {
+            return true;
+        }
+        i += 1;
+    }
+    false
+}
+
+// Whether the unit mask is in the range.
+fn in_range(low: u8, high: u8, mask: u8) -> bool
+    ensures { λ r. ⌜ r ≡ allows (range low high) mask ⌝ }
+{
+    if low <= mask {
+        return mask <= high;
+    }
+    false
+}
 
 // Whether the row lists the unit mask.
 pub fn lists(row: u16, mask: u8) -> bool
     ensures { λ r. ⌜ r ≡ rowAllows row mask ⌝ }
 {
-    let rule = (row % 16) as usize;
-    let part = (mask / 64) as usize;
-    let word = MASKS[4 * rule + part];
-    (word >> (mask % 64)) % 2 == 1
+    match row % 16 {
+        0x1 => mask == 0x00,
+        0x2 => in_range(0x01, 0x03, mask),
+        0x3 => is_among(&SINK_MASKS, mask),
+        0x4 => is_among(&RING_MASKS, mask),
+        0x5 => is_among(&STARVED_MASKS, mask),
+        0x6 => is_among(&BYPASS_MASKS, mask),
+        0x7 => in_range(0x01, 0x07, mask),
+        0x8 => in_range(0x01, 0x0F, mask),
+        0x9 => in_range(0x01, 0x1F, mask),
+        0xA => in_range(0x01, 0xFF, mask),
+        0xB => mask == 0x01,
+        0xC => mask == 0x4F,
+        0xD => mask == 0x41,
+        _ => false,
+    }
 }

@@ -3,7 +3,7 @@
 use mathlib.Core.Path.{_≡_}
 use mathlib.Core.List.{List, [], _∷_, _++_, map}
 use mathlib.Core.Option.{Option, none, some}
-use Prim.Native.Nat.{ℕ, zero, suc}
+use Prim.Native.Nat.{ℕ, zero, suc, _-_, _^_}
 use lib.ListN.{replicate}
 use Rattle.requests.specs.declared.CounterSet.{CounterSet}
 use Rattle.requests.specs.declared.Request.{Request}
@@ -164,7 +164,7 @@ ids =
           };
     }
 
--- order 3: openings of a C-Box, its events, and turns of six counters: of 20 writes, with a slice of 39 and of 40
+-- order 3: openings of a C-Box, its events, and a turn of six counters, 20 writes, with a slice of 39 and of 40
 abbrev cbox : Run
 cbox =
     record {
@@ -175,22 +175,18 @@ cbox =
           ∷ openingBox 63 1 0
           ∷ Open (record { device = 71; usable = setOf 15; fixed = 0; cbox = 1 })
           ∷ openingBox 63 0 7
-          ∷ map (λ (id : ℕ). Add id (Event 0x19 0x00 (setOf 63))) (upTo 7)
-          ++ Add 8 (Event 0x0B 0x05 (setOf 63))
-          ∷ Add 8 (Event 0x0B 0x18 (setOf 1))
-          ∷ Add 9 (Event 0x23 0x00 (setOf 0))
-          ∷ Turn 39
-          ∷ Turn 40
+          ∷ Add 1 (Event 0x0B 0x05 (setOf 63))
+          ∷ Add 1 (Event 0x0B 0x18 (setOf 64))
+          ∷ Add 1 (Event 0x0B 0x18 (setOf 0))
+          ∷ map (λ (id : ℕ). Add id (Event 0x0B 0x18 (setOf (2 ^ (id - 1))))) (upTo 6)
+          ++ Turn 39
           ∷ Turn 40
           ∷ [];
       outcome =
           record {
-            numbers = replicate 5 (some 3) ++ replicate 8 none ++ some 10 ∷ none ∷ some 12 ∷ some 14 ∷ none ∷ none ∷ [];
-            plans =
-                (gets 1 (Counter 0) ∷ gets 2 (Counter 1) ∷ gets 3 (Counter 2) ∷ gets 4 (Counter 3) ∷ gets 5 (Counter 4) ∷ gets 6 (Counter 5) ∷ [])
-                ∷ (gets 7 (Counter 1) ∷ gets 8 (Counter 0) ∷ gets 1 (Counter 2) ∷ gets 2 (Counter 3) ∷ gets 3 (Counter 4) ∷ gets 4 (Counter 5) ∷ [])
-                ∷ [];
-            ids = 5 ∷ 6 ∷ 7 ∷ 8 ∷ 1 ∷ 2 ∷ 3 ∷ 4 ∷ [];
+            numbers = replicate 5 (some 3) ++ none ∷ some 10 ∷ some 10 ∷ some 12 ∷ replicate 6 none ++ some 14 ∷ none ∷ [];
+            plans = map (λ (id : ℕ). gets id (Counter (id - 1))) (upTo 6) ∷ [];
+            ids = upTo 6;
           };
     }
 

@@ -7,7 +7,7 @@ use borrow.Author.Needs.{needs}
 use lib.Dec.{eqb}
 use lib.ListN.{getD}
 use Rattle.requests.specs.Devices.{capacity}
-use Rattle.requests.specs.BitSets.{setFrom}
+use Rattle.layouts.specs.Settings.{setFrom}
 use Rattle.registers.proofs.Accepting.{set-before, set-bound}
 use Rattle.registers.proofs.WriteLengths.{pick-small}
 use Rattle.registers.proofs.accept.used_by.Statement.{statement}

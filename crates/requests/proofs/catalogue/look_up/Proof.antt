@@ -27,14 +27,14 @@ within c = rw (c .before .loop .inv .1) at (c .loop-test .taken)
 
 returns : tie.Need-returns Inv-loop μ-loop
 returns c =
-    sym (found _ _ _ _ (omega arith) _ (within (c .before .before .before .before)) _ (c .before .before .before .row-at .ensures) (c .before .before .if1 .taken) (sym (c .before .lists .ensures) ∙ c .if2 .taken))
+    sym (found _ _ _ _ _ (within (c .before .before .before .before)) _ (c .before .before .before .row-at .ensures) (c .before .before .if1 .taken) (sym (c .before .lists .ensures) ∙ c .if2 .taken))
     ∙ c .before .before .before .before .before .loop .inv .2
 
 loop-again : tie.Need-loop-again Inv-loop μ-loop
 loop-again c = (
   omega (arith, c .before .before .before .before .loop-test .taken),
   c .before .before .before .before .before .loop .inv .1,
-  sym (other-mask _ _ _ _ (omega arith) _ (within (c .before .before .before .before)) _ (c .before .before .before .row-at .ensures) (c .before .before .if1 .taken) (sym (c .before .lists .ensures) ∙ c .if2 .left))
+  sym (other-mask _ _ _ _ _ (within (c .before .before .before .before)) _ (c .before .before .before .row-at .ensures) (c .before .before .if1 .taken) (sym (c .before .lists .ensures) ∙ c .if2 .left))
       ∙ c .before .before .before .before .before .loop .inv .2,
 )
 
@@ -42,7 +42,7 @@ loop-again-2 : tie.Need-loop-again-2 Inv-loop μ-loop
 loop-again-2 c = (
   omega (arith, c .before .before .loop-test .taken),
   c .before .before .before .loop .inv .1,
-  sym (other-code _ _ _ _ (omega arith) _ (within (c .before .before)) _ (c .before .row-at .ensures) (c .if1 .left)) ∙ c .before .before .before .loop .inv .2,
+  sym (other-code _ _ _ _ _ (within (c .before .before)) _ (c .before .row-at .ensures) (c .if1 .left)) ∙ c .before .before .before .loop .inv .2,
 )
 
 returns-2 : tie.Need-returns-2 Inv-loop μ-loop

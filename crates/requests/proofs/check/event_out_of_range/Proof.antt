@@ -26,7 +26,7 @@ event-out-of-range-spec =
     (tie.spec
     (λ c κs. search needs)
     returns
-    (λ c κs. search needs)
+    (λ c κs. c .before .pre)
     returns-2
     (λ c κs. search needs)
     returns-3)

@@ -4,11 +4,16 @@ use mathlib.Core.Path.{_∙_}
 use borrow.Author.Tests.{eq-eqb, ne-eqb}
 use Rattle.requests.specs.Choice.{both, either}
 use Rattle.requests.specs.Masks.{typeMask, responseMask}
+use Rattle.requests.specs.Lookup.{listingFor}
 use Rattle.requests.specs.Checks.{incomplete}
 use Rattle.requests.proofs.Roles.{any-of}
 use borrow.Author.Needs.{needs}
 use Rattle.requests.proofs.check.incomplete.Statement.{statement}
 use Rattle.requests.proofs.check.incomplete.Tie as tie
+
+mask-not-listed-requires : tie.Need-mask-not-listed-requires
+unfolding listingFor
+mask-not-listed-requires c κs = rw (c .before .before .request .given .1) at (c .before .before .before .before .pre)
 
 returns : tie.Need-returns
 unfolding incomplete both
@@ -39,7 +44,7 @@ incomplete-spec =
     tie.close
     (tie.spec
     (λ c. search needs)
-    (λ c κs. search needs)
+    mask-not-listed-requires
     returns
     (λ c. search needs)
     (λ c. search needs)

@@ -14,18 +14,11 @@ returns c = rw (sym (c .before .pairs-judged .ensures) ∙ c .if1 .taken)
 
 returns-2 : tie.Need-returns-2
 returns-2 c =
-    mask-of-listed _ _ _ _ (c .before .before .look-up .ensures) (sym (c .before .before .before .before .pairs-judged .ensures) ∙ c .before .before .before .if1 .left) (c .before .if2 .taken)
+    mask-of-listed _ _ _ _ (c .before .before .before .before .pre) (sym (c .before .before .before .pairs-judged .ensures) ∙ c .before .before .if1 .left) (c .before .if2 .taken)
 
 returns-3 : tie.Need-returns-3
 returns-3 c =
-    mask-of-unlisted _ _ _ _ (c .before .look-up .ensures) (sym (c .before .before .before .pairs-judged .ensures) ∙ c .before .before .if1 .left) (c .if2 .left)
+    mask-of-unlisted _ _ _ _ (c .before .before .before .pre) (sym (c .before .before .pairs-judged .ensures) ∙ c .before .if1 .left) (c .if2 .left)
 
 pub mask-not-listed-spec : {M : Type 1} → statement M
-mask-not-listed-spec =
-    tie.close
-    (tie.spec
-    (λ c κs. search needs)
-    returns
-    (λ c κs. search needs)
-    returns-2
-    returns-3)
+mask-not-listed-spec = tie.close (tie.spec (λ c κs. search needs) returns returns-2 returns-3)

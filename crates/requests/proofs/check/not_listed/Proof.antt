@@ -1,6 +1,7 @@
 -- `check::not_listed` meets its contract: what the catalogue lists, by the laws of look-ups.
 -- Assumes nothing.
 use mathlib.Core.Path.{sym, _∙_}
+use Rattle.requests.specs.Lookup.{listingFor}
 use Rattle.requests.specs.Checks.{notListed}
 use Rattle.requests.proofs.Lookups.{pair-not-listed, code-not-listed}
 use borrow.Author.Needs.{needs}
@@ -8,33 +9,36 @@ use Rattle.requests.proofs.check.not_listed.Statement.{statement}
 use Rattle.requests.proofs.check.not_listed.Tie as tie
 
 returns : tie.Need-returns
+unfolding listingFor
 returns c =
-    rw (c .before .before .before .before .before .request .given .1)
-    (pair-not-listed _ _ _ _ (c .before .before .before .look-up .ensures) _ (sym (c .before .before .pairs-judged .ensures) ∙ c .before .if1 .taken))
+    let event = c .before .before .before .enum-told .given .1 in
+    rw event
+    (pair-not-listed _ _ _ _ (rw event at (c .before .before .before .before .before .pre)) _ (sym (c .before .before .pairs-judged .ensures) ∙ c .before .if1 .taken))
 
 returns-2 : tie.Need-returns-2
+unfolding listingFor
 returns-2 c =
-    rw (c .before .before .before .before .before .request .given .1)
-    (code-not-listed _ _ _ _ (c .before .before .before .look-up .ensures) _ (sym (c .before .before .pairs-judged .ensures) ∙ c .before .if1 .left))
+    let event = c .before .before .before .enum-told .given .1 in
+    rw event
+    (code-not-listed _ _ _ _ (rw event at (c .before .before .before .before .before .pre)) _ (sym (c .before .before .pairs-judged .ensures) ∙ c .before .if1 .left))
 
 returns-3 : tie.Need-returns-3
 unfolding notListed
-returns-3 c = rw (c .enum-told .given .1)
+returns-3 c = rw (c .enum-told2 .given .1)
 
 returns-4 : tie.Need-returns-4
 unfolding notListed
-returns-4 c = rw (c .enum-told2 .given .1)
+returns-4 c = rw (c .enum-told3 .given .1)
 
 returns-5 : tie.Need-returns-5
 unfolding notListed
-returns-5 c = rw (c .enum-told3 .given .1)
+returns-5 c = rw (c .enum-told4 .given .1)
 
 pub not-listed-spec : {M : Type 1} → statement M
 not-listed-spec =
     tie.close
     (tie.spec
     (λ c. search needs)
-    (λ c κs. search needs)
     (λ c κs. search needs)
     returns
     (λ c. search needs)

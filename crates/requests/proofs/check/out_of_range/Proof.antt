@@ -1,9 +1,14 @@
 -- `check::out_of_range` meets its contract: by the function of each kind.
 -- Assumes nothing.
+use Rattle.requests.specs.Lookup.{listingFor}
 use Rattle.requests.specs.Checks.{outOfRange}
 use borrow.Author.Needs.{needs}
 use Rattle.requests.proofs.check.out_of_range.Statement.{statement}
 use Rattle.requests.proofs.check.out_of_range.Tie as tie
+
+event-out-of-range-requires : tie.Need-event-out-of-range-requires
+unfolding listingFor
+event-out-of-range-requires c κs = rw (c .before .request .given .1) at (c .before .before .before .pre)
 
 returns : tie.Need-returns
 returns c = rw (c .before .before .request .given .1) (c .event-out-of-range .ensures)
@@ -23,7 +28,7 @@ out-of-range-spec =
     tie.close
     (tie.spec
     (λ c. search needs)
-    (λ c κs. search needs)
+    event-out-of-range-requires
     (λ c. search needs)
     (λ c κs. search needs)
     (λ c. search needs)

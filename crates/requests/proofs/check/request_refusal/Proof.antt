@@ -13,16 +13,16 @@ use Rattle.requests.proofs.check.request_refusal.Tie as tie
 kind-passed : (c : tie.Else1) → kindNotOn (c .before .before .args .setup .device) (c .before .before .args .request) ≡ false
 kind-passed c = sym (c .before .kind-not-on .ensures) ∙ c .if1 .left
 
-listed-passed : (c : tie.Else2) → notListed (c .before .before .before .before .args .setup .device) (c .before .before .before .before .args .request) ≡ false
+listed-passed : (c : tie.Else2) → notListed (c .before .before .before .before .before .args .setup .device) (c .before .before .before .before .before .args .request) ≡ false
 listed-passed c = sym (c .before .not-listed .ensures) ∙ c .if2 .left
 
-range-passed : (c : tie.Else3) → outOfRange (c .before .before .before .before .before .before .args .setup .device) (c .before .before .before .before .before .before .args .request) ≡ false
+range-passed : (c : tie.Else3) → outOfRange (c .before .before .before .before .before .before .before .args .setup .device) (c .before .before .before .before .before .before .before .args .request) ≡ false
 range-passed c = sym (c .before .out-of-range .ensures) ∙ c .if3 .left
 
-complete-passed : (c : tie.Else4) → incomplete (c .before .before .before .before .before .before .before .before .args .setup .device) (c .before .before .before .before .before .before .before .before .args .request) ≡ false
+complete-passed : (c : tie.Else4) → incomplete (c .before .before .before .before .before .before .before .before .before .args .setup .device) (c .before .before .before .before .before .before .before .before .before .args .request) ≡ false
 complete-passed c = sym (c .before .incomplete .ensures) ∙ c .if4 .left
 
-consistent-passed : (c : tie.Else5) → conflicting (c .before .before .before .before .before .before .before .before .before .before .args .setup .device) (c .before .before .before .before .before .before .before .before .before .before .args .request) ≡ false
+consistent-passed : (c : tie.Else5) → conflicting (c .before .before .before .before .before .before .before .before .before .before .before .args .setup .device) (c .before .before .before .before .before .before .before .before .before .before .before .args .request) ≡ false
 consistent-passed c = sym (c .before .conflicting .ensures) ∙ c .if5 .left
 
 returns : tie.Need-returns
@@ -37,7 +37,7 @@ unfolding requestRefusal requestRows answerFor
 returns-2 c =
     sym
     (ap answerFor
-    (skips _ _ (kind-passed (c .before .before))
+    (skips _ _ (kind-passed (c .before .before .before))
     ∙ holds _ _ (sym (c .before .not-listed .ensures) ∙ c .if2 .taken)))
 
 returns-3 : tie.Need-returns-3
@@ -45,7 +45,7 @@ unfolding requestRefusal requestRows answerFor
 returns-3 c =
     sym
     (ap answerFor
-    (skips _ _ (kind-passed (c .before .before .before .before))
+    (skips _ _ (kind-passed (c .before .before .before .before .before))
     ∙ skips _ _ (listed-passed (c .before .before))
     ∙ holds _ _ (sym (c .before .out-of-range .ensures) ∙ c .if3 .taken)))
 
@@ -54,7 +54,7 @@ unfolding requestRefusal requestRows answerFor
 returns-4 c =
     sym
     (ap answerFor
-    (skips _ _ (kind-passed (c .before .before .before .before .before .before))
+    (skips _ _ (kind-passed (c .before .before .before .before .before .before .before))
     ∙ skips _ _ (listed-passed (c .before .before .before .before))
     ∙ skips _ _ (range-passed (c .before .before))
     ∙ holds _ _ (sym (c .before .incomplete .ensures) ∙ c .if4 .taken)))
@@ -64,7 +64,7 @@ unfolding requestRefusal requestRows answerFor
 returns-5 c =
     sym
     (ap answerFor
-    (skips _ _ (kind-passed (c .before .before .before .before .before .before .before .before))
+    (skips _ _ (kind-passed (c .before .before .before .before .before .before .before .before .before))
     ∙ skips _ _ (listed-passed (c .before .before .before .before .before .before))
     ∙ skips _ _ (range-passed (c .before .before .before .before))
     ∙ skips _ _ (complete-passed (c .before .before))
@@ -75,7 +75,7 @@ unfolding requestRefusal requestRows answerFor
 returns-6 c =
     sym
     (ap answerFor
-    (skips _ _ (kind-passed (c .before .before .before .before .before .before .before .before))
+    (skips _ _ (kind-passed (c .before .before .before .before .before .before .before .before .before))
     ∙ skips _ _ (listed-passed (c .before .before .before .before .before .before))
     ∙ skips _ _ (range-passed (c .before .before .before .before))
     ∙ skips _ _ (complete-passed (c .before .before))
@@ -89,10 +89,11 @@ request-refusal-spec =
     (λ c κs. search needs)
     returns
     (λ c κs. search needs)
+    (λ c κs. c .listing-for .ensures)
     returns-2
-    (λ c κs. search needs)
+    (λ c κs. c .before .before .listing-for .ensures)
     returns-3
-    (λ c κs. search needs)
+    (λ c κs. c .before .before .before .before .listing-for .ensures)
     returns-4
     (λ c κs. search needs)
     returns-5

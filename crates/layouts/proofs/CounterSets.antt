@@ -9,10 +9,10 @@ use lib.Dec.{eqb}
 use lib.Arith.{mod-mul}
 use lib.Pow.{pow-pos, shr-shr}
 use borrow.Author.Tests.{eq-eqb, ne-eqb}
 use Rattle.requests.specs.Choice.{either, pick}
 use Rattle.requests.specs.Bits.{bit}
-use Rattle.requests.specs.BitSets.{setFrom}
 use Rattle.requests.proofs.Words.{half-div}
+use Rattle.layouts.specs.Settings.{setFrom}
 
 next : (j k : ℕ) → j + suc k ≡ suc j + k
 next j k = omega arith

@@ -1,21 +1,20 @@
--- Rows as numbers: a row gives back its event's code, and the words of its rule have the masks that the event lists. Assumes nothing.
+-- Rows as numbers: a row gives back its event's code and its mask rule. Assumes nothing.
 use mathlib.Core.Path.{_≡_, refl, ap, ap₂, sym, _∙_}
 use mathlib.Core.Bool.{Bool, true, false, false≢true}
 use mathlib.Core.List.{List, [], _∷_}
-use Prim.Native.Nat.{ℕ, zero, suc, _+_, _*_, _/_, _%_, _<_}
+use Prim.Native.Nat.{ℕ, zero, suc, _+_, _*_, _/_, _%_, _<_, _≤_}
+use native.Mathlib.Decide.{decLe}
 use native.Mathlib.Omega.{arith}
-use lib.ListN.{length, getD}
+use lib.ListN.{length, getD, List·getD-eq-default}
 use borrow.Author.Tests.{eqb-true}
 use Rattle.requests.specs.Choice.{both, either}
-use Rattle.requests.specs.Bits.{bit}
 use Rattle.requests.specs.MaskRules.{MaskRule, alone, range, among, ListedEvent, listed, allows}
 use Rattle.requests.specs.CBoxEvents.{sinkMasks, ringMasks, starvedMasks, bypassMasks, cboxEvents}
 use Rattle.requests.specs.Catalogue.{eventsOf}
-use Rattle.requests.specs.Lookup.{maskRules, sameNumbers, sameRule, placeOf, rowOf, masksFrom, wordsFor, rowAllows}
+use Rattle.requests.specs.Lookup.{maskRules, ruleAt, sameNumbers, sameRule, placeOf, rowOf, rowAllows}
 use Rattle.requests.specs.declared.Device.{Device}
 use Rattle.requests.specs.declared.Device.the-variants.{G, S, C}
 use Rattle.requests.proofs.Tests.{both-parts}
-use Rattle.requests.proofs.CounterSets.{bit-set}
 
 -- ---- rules
 
@@ -62,27 +61,25 @@ place-below (q ∷ qs) r h = go (sameRule q r) refl h (place-below qs r)
     go true e k later = rw (place-here q qs r e) (omega arith)
     go false e k later = rw (place-behind q qs r e) (omega (arith, later k))
 
--- and there are its words
-word-at : (qs : List MaskRule) (r : MaskRule) → hasRule qs r ≡ true → (k : ℕ) → k < 4 → getD (wordsFor qs) (4 * placeOf qs r + k) 0 ≡ masksFrom r k
-unfolding hasRule either wordsFor
-word-at [] r h k l = absurd (false≢true h)
-word-at (q ∷ qs) r h k l = go (sameRule q r) refl h (λ t. word-at qs r t k l)
+-- and stands there
+rule-placed : (qs : List MaskRule) (r x : MaskRule) → hasRule qs r ≡ true → getD qs (placeOf qs r) x ≡ r
+unfolding hasRule either
+rule-placed [] r x h = absurd (false≢true h)
+rule-placed (q ∷ qs) r x h = go (sameRule q r) refl h (rule-placed qs r x)
   where
-    first : (k : ℕ) → k < 4 → getD (wordsFor (q ∷ qs)) k 0 ≡ masksFrom q k
-    first zero l = refl
-    first (suc zero) l = refl
-    first (suc (suc zero)) l = refl
-    first (suc (suc (suc zero))) l = refl
-    first (suc (suc (suc (suc k)))) l = absurd (omega arith)
+    go : (b : Bool) → sameRule q r ≡ b → either b (hasRule qs r) ≡ true → (hasRule qs r ≡ true → getD qs (placeOf qs r) x ≡ r) → getD (q ∷ qs) (placeOf (q ∷ qs) r) x ≡ r
+    go true e t later = rw (place-here q qs r e) (same-rule q r e)
+    go false e t later = rw (place-behind q qs r e) (later t)
 
-    go : (b : Bool) → sameRule q r ≡ b → either b (hasRule qs r) ≡ true → (hasRule qs r ≡ true → getD (wordsFor qs) (4 * placeOf qs r + k) 0 ≡ masksFrom r k)
-        → getD (wordsFor (q ∷ qs)) (4 * placeOf (q ∷ qs) r + k) 0 ≡ masksFrom r k
-    go true e t later =
-        let start : 4 * 0 + k ≡ k = omega arith in
-        rw (place-here q qs r e, start, ← same-rule q r e) (first k l)
-    go false e t later =
-        let past : 4 * suc (placeOf qs r) + k ≡ suc (suc (suc (suc (4 * placeOf qs r + k)))) = omega arith in
-        rw (place-behind q qs r e, past) (later t)
+-- the numbers 1 to 13 have rules that list a mask
+pub no-rule : (n : ℕ) → ((k : ℕ) → 1 ≤ k → k ≤ 13 → n ≡ k → ⊥) → ruleAt n ≡ among []
+unfolding ruleAt maskRules
+no-rule zero others = refl
+no-rule (suc n) others = List·getD-eq-default maskRules (among []) (go (decLe (suc n) 13))
+  where
+    go : Dec (suc n ≤ 13) → 14 ≤ suc n
+    go (yes l) = absurd (others (suc n) (omega arith) l refl)
+    go (no l) = omega arith
 
 -- ---- events
 
@@ -112,23 +109,16 @@ events-known d i l = known-at (eventsOf d) (device-known d) i (listed 0 (among [
 
 place-digit : (e : ListedEvent) → Known e → placeOf maskRules (e .masks) < 16
 unfolding maskRules
-place-digit e h = place-below maskRules (e .masks) h
+place-digit e h = omega (arith, place-below maskRules (e .masks) h)
 
 -- the code of a row
 pub row-code : (e : ListedEvent) → Known e → rowOf e / 16 ≡ e .code
 unfolding rowOf
 row-code e h = omega (arith, place-digit e h)
 
--- a bit of the words of a rule
-mask-bit : (r : MaskRule) (m : ℕ) → bit (m % 64) (masksFrom r (m / 64)) ≡ allows r m
-unfolding masksFrom
-mask-bit r m =
-    let here : 64 * (m / 64) + m % 64 ≡ m = omega arith in
-    rw here at (bit-set 64 (64 * (m / 64)) (m % 64) (allows r) (omega arith))
-
 -- a row lists the masks of its event
-pub row-allows : (e : ListedEvent) → Known e → (m : ℕ) → m < 256 → allows (e .masks) m ≡ rowAllows (rowOf e) m
-unfolding rowAllows rowOf
-row-allows e h m fits =
+pub row-allows : (e : ListedEvent) → Known e → (m : ℕ) → allows (e .masks) m ≡ rowAllows (rowOf e) m
+unfolding rowAllows rowOf ruleAt
+row-allows e h m =
     let digit : (16 * e .code + placeOf maskRules (e .masks)) % 16 ≡ placeOf maskRules (e .masks) = omega (arith, place-digit e h) in
-    rw (digit, word-at maskRules (e .masks) h (m / 64) (omega arith)) (sym (mask-bit (e .masks) m))
+    rw (digit, rule-placed maskRules (e .masks) (among []) h)
