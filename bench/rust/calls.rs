@@ -39,12 +39,15 @@ fn letter(word: &str) -> Option<u64> {
     }
 }
 
-/// Device, usable set and fixed enables, where the arguments that no order has given a meaning are 0 and `-`.
+/// Device, usable set, fixed enables and box, where the arguments that no order has given a meaning are 0 and `-`.
 fn opening(words: &[&str]) -> Option<Opening> {
     match words {
-        [device, usable, fixed, "0", "0", "-"] => {
-            Some(Opening { letter: letter(device)?, usable: decimal(usable)?, fixed: decimal(fixed)? })
-        }
+        [device, usable, fixed, box_number, "0", "-"] => Some(Opening {
+            letter: letter(device)?,
+            usable: decimal(usable)?,
+            fixed: decimal(fixed)?,
+            box_number: decimal(box_number)?,
+        }),
         _ => None,
     }
 }

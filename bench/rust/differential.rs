@@ -18,7 +18,7 @@ use std::process::{exit, Command, Stdio};
 use tally::Tally;
 
 const INPUT: &str = "target/bench/differential.txt";
-/// Every so many transcripts goes through a pipe too; an odd number, so that both devices do.
+/// Every so many transcripts goes through a pipe too; no multiple of the number of devices, so that all of them do.
 const PIECES_EVERY: u64 = 7;
 /// Longer transcripts are not cut into pieces: it takes too long.
 const PIECES_LIMIT: usize = 20_000;

@@ -18,7 +18,7 @@ pub struct Turned {
 
 type Test = fn(&Turned) -> bool;
 
-pub const KINDS: [(&str, Test); 10] = [
+pub const KINDS: [(&str, Test); 12] = [
     ("the queue is full", |turned| turned.queue.len() == LIMIT),
     ("one is taken behind one passed over", Turned::skips),
     ("first fit without going back gets stuck", Turned::first_fit_stuck),
@@ -29,6 +29,8 @@ pub const KINDS: [(&str, Test); 10] = [
     ("two offcore words", |turned| turned.registers() == [true; 2] && turned.takes(is_latency) == 0),
     ("two requests on one filter register", Turned::shares),
     ("fixed counters are on", |turned| turned.setup.fixed != 0),
+    ("more than four requests are taken", |turned| turned.taken.len() > 4),
+    ("a box that is not the first", |turned| turned.setup.box_number != 0),
 ];
 
 fn is_latency(request: &Request) -> bool {

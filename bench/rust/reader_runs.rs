@@ -3,7 +3,7 @@
 
 mod planner;
 
-use planner::devices::{Device, Filters, Opening, Setup};
+use planner::devices::{Filters, Opening, Setup};
 use planner::model::plan::first_plan;
 use planner::model::reader::{read, Registers, State};
 use planner::model::writes::{list_of, Write};
@@ -11,12 +11,12 @@ use planner::requests::Request;
 use planner::PLACES;
 
 /// The registers after the writes, from registers with all bits set.
-fn applied(device: &Device, writes: &[Write]) -> Registers {
+fn applied(setup: Setup, writes: &[Write]) -> Registers {
     let all = u64::MAX;
     let control = [all; PLACES];
     let mut r = Registers { control, rsp: [all; 2], mm_cfg: all, match_word: all, mask_word: all, global: all };
     for (address, value) in writes {
-        if let Some(register) = register(device, &mut r, *address) {
+        if let Some(register) = register(setup, &mut r, *address) {
             *register = *value;
         }
     }
@@ -24,9 +24,9 @@ fn applied(device: &Device, writes: &[Write]) -> Registers {
 }
 
 /// The register at an address; nothing for a counter's, which the reader is not given.
-fn register<'a>(device: &Device, r: &'a mut Registers, address: u64) -> Option<&'a mut u64> {
-    let at = &device.addresses;
-    match (0..device.counters).find(|k| address == at.control + at.step * k) {
+fn register(setup: Setup, r: &mut Registers, address: u64) -> Option<&mut u64> {
+    let at = setup.addresses();
+    match (0..setup.device.counters).find(|k| address == at.control + at.step * k) {
         Some(k) => return Some(&mut r.control[k as usize]),
         None if address == at.global => return Some(&mut r.global),
         None => {}
@@ -59,7 +59,7 @@ fn print_state(k: usize, state: State) {
 
 /// The addresses whose values are looked at, and those whose values are not.
 fn looked_at(setup: Setup, r: &Registers) -> (Vec<u64>, Vec<u64>) {
-    let at = &setup.device.addresses;
+    let at = setup.addresses();
     let has_rsp = setup.device.filters == Filters::OffcoreResponse;
     let has_match = setup.device.filters == Filters::PacketMatch;
     let control = (0..setup.device.counters).map(|k| (at.control + at.step * k, setup.usable >> k & 1 == 1));
@@ -76,17 +76,20 @@ fn looked_at(setup: Setup, r: &Registers) -> (Vec<u64>, Vec<u64>) {
     (addresses(yes), addresses(no))
 }
 
-fn flipped(device: &Device, r: &Registers, address: u64, bit: u64) -> Registers {
+fn flipped(setup: Setup, r: &Registers, address: u64, bit: u64) -> Registers {
     let mut changed = *r;
-    *register(device, &mut changed, address).unwrap() ^= 1 << bit;
+    *register(setup, &mut changed, address).unwrap() ^= 1 << bit;
     changed
 }
 
-/// What the plan was opened with; fixed counters are told where they are on.
+/// What the plan was opened with; fixed counters are told where they are on, and the box where the device has several.
 fn print_opening(setup: Setup, writes: usize) {
     print!("{} {}", setup.device.letter as char, setup.usable);
     if setup.fixed != 0 {
         print!(" fixed {}", setup.fixed);
+    }
+    if setup.device.has_boxes() {
+        print!(" box {}", setup.box_number);
     }
     println!(" writes {writes}");
 }
@@ -95,14 +98,14 @@ fn run(opening: Opening, requests: &[Request]) {
     let setup = Setup::of(opening).unwrap();
     let plan = first_plan(setup, requests).unwrap();
     let writes = list_of(setup, requests, &plan);
-    let r = applied(setup.device, &writes);
+    let r = applied(setup, &writes);
     print_opening(setup, writes.len());
     let told = read(opening, &r).unwrap();
     for (k, state) in told.iter().enumerate() {
         print_state(k, *state);
     }
     let (yes, no) = looked_at(setup, &r);
-    let answer = |address, bit| read(opening, &flipped(setup.device, &r, address, bit));
+    let answer = |address, bit| read(opening, &flipped(setup, &r, address, bit));
     let (mut accepted, mut refused, mut same) = (0, 0, 0);
     for bit in 0..64 {
         for &address in &yes {
@@ -124,7 +127,7 @@ fn event(code: u8, mask: u8) -> Request {
 }
 
 fn on_g() {
-    let g = |usable, fixed| Opening { letter: 71, usable, fixed };
+    let g = |usable, fixed| Opening { letter: 71, usable, fixed, box_number: 0 };
     let offcore = |word| Request::Offcore { word, allowed: 15 };
     let latency = |types| Request::Latency { types, first: 15, second: 15 };
     let events = [event(0xC0, 0), event(0x3C, 1), event(0x2E, 0x41), event(0xC5, 0)];
@@ -142,7 +145,7 @@ fn on_g() {
 }
 
 fn on_s() {
-    let s = |usable| Opening { letter: 83, usable, fixed: 0 };
+    let s = |usable| Opening { letter: 83, usable, fixed: 0, box_number: 0 };
     let packet = Request::Packet { match_word: 0x0123456789ABCDEF, mask_word: 0x00000000FFFFFFFF, allowed: 15 };
     run(s(9), &[]);
     run(s(15), &[event(0x51, 1), event(0x31, 2), event(0x52, 0), event(0x2F, 0)]);
@@ -150,7 +153,18 @@ fn on_s() {
     run(s(14), &[packet, event(0x51, 3)]);
 }
 
+fn on_c() {
+    let c = |usable, box_number| Opening { letter: 67, usable, fixed: 0, box_number };
+    let event = |code, mask| Request::Event { code, mask, allowed: 63 };
+    let six = [event(0x19, 0), event(0x1B, 0), event(0x1F, 0), event(0x23, 0), event(0x0B, 0x07), event(0x28, 0xA5)];
+    run(c(63, 0), &[]);
+    run(c(63, 0), &six);
+    run(c(48, 1), &[event(0x1F, 0)]);
+    run(c(62, 7), &[event(0x0B, 0x18), event(0x14, 0x05), event(0x09, 0x7F)]);
+}
+
 fn main() {
     on_g();
     on_s();
+    on_c();
 }

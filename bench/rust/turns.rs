@@ -15,7 +15,7 @@ const CALLS_IN_A_LIST: usize = 60;
 const ROUNDS: usize = 2_000;
 const TURNS: usize = 200;
 
-/// The numbers of a call (an open has 0, the device, the usable set and the fixed enables), and of its answer: the
+/// The numbers of a call (an open has 0, the device, the usable set, the fixed enables and the box), and of its answer: the
 /// refusal or 0, the number taken, the number of writes, the slice.
 const CALL: usize = 6;
 const ANSWER: usize = 3 + LIST;
@@ -38,7 +38,7 @@ mod proved {
 /// One call, with its answer in the same numbers as the proved planner's.
 fn called(session: &mut impl Calls, call: &[u64], answer: &mut [u64]) {
     let outcome = match call[0] {
-        0 => session.open(Opening { letter: call[1], usable: call[2], fixed: call[3] }),
+        0 => session.open(Opening { letter: call[1], usable: call[2], fixed: call[3], box_number: call[4] }),
         1 => session.add(call[1], to_request(&call[2..])),
         2 => session.drop(call[1]),
         _ => session.turn(&mut answer[3..3 + LIST.min(call[1] as usize)]).map(|turn| {
@@ -73,8 +73,26 @@ fn proved_answers(calls: &[u64]) -> Vec<u64> {
 
 /// A request that is well-formed more often than not.
 fn likely_request(numbers: &mut Numbers) -> Request {
-    let set = |numbers: &mut Numbers| numbers.pick(&[15, 15, 1, 2, 6, 12, 16]);
-    let codes = [(0xC0, 0), (0x3C, 0), (0x2E, 0x41), (0x51, 3), (0x31, 1), (0x52, 0), (0x51, 4), (0x31, 0), (0xB7, 1)];
+    let set = |numbers: &mut Numbers| numbers.pick(&[15, 15, 1, 2, 6, 12, 16, 48, 63, 64]);
+    let codes = [
+        (0xC0, 0),
+        (0x3C, 0),
+        (0x2E, 0x41),
+        (0x51, 3),
+        (0x31, 1),
+        (0x52, 0),
+        (0x51, 4),
+        (0x31, 0),
+        (0xB7, 1),
+        (0x19, 0),
+        (0x19, 1),
+        (0x1F, 0),
+        (0x0B, 0x18),
+        (0x0B, 0),
+        (0x0E, 1),
+        (0x14, 5),
+        (0x28, 0xFF),
+    ];
     let words = [0x10001, 0x10002, 0x10004, 0x1_2000_0001, 0x10040, 1, 0x2_0001_0001, 0x8001_0001, 0x40001, 0x50001, 0x60001];
     match numbers.below(10) {
         0 => random_request(numbers),
@@ -88,18 +106,25 @@ fn likely_request(numbers: &mut Numbers) -> Request {
     }
 }
 
+fn open_call(numbers: &mut Numbers) -> [u64; CALL] {
+    let letter = numbers.pick(&[71, 83, 67, 67, 72]);
+    let (four, six) = (numbers.below(17), numbers.below(65));
+    let usable = if letter == 67 { six } else { four };
+    [0, letter, usable, numbers.pick(&[0, 0, 0, 1, 5, 7, 8]), numbers.pick(&[0, 0, 0, 1, 2, 4, 7, 8]), 0]
+}
+
 fn call(numbers: &mut Numbers, place: usize) -> [u64; CALL] {
     let verb = if place == 0 { 0 } else { numbers.pick(&[0, 1, 1, 1, 1, 1, 2, 3, 3, 3, 3]) };
     match verb {
-        0 => [0, numbers.pick(&[71, 83, 72]), numbers.below(17), numbers.pick(&[0, 0, 0, 1, 5, 7, 8]), 0, 0],
+        0 => open_call(numbers),
         1 => {
             let row = to_row(likely_request(numbers));
             [1, numbers.below(24), row[0], row[1], row[2], row[3]]
         }
         2 => [2, numbers.below(24), 0, 0, 0, 0],
         _ => {
-            let short = numbers.below(37);
-            [3, numbers.pick(&[36, 36, 36, 40, short]), 0, 0, 0, 0]
+            let short = numbers.below(41);
+            [3, numbers.pick(&[40, 40, 40, 44, short]), 0, 0, 0, 0]
         }
     }
 }
@@ -124,7 +149,7 @@ fn turn(session: &mut Session, list: &mut [u64]) -> Result<Turn, u64> {
 /// The writes of the last of the turns, as the proved side makes them.
 fn rust_turns(letter: u64, usable: u64, rows: &[u64], turns: usize) -> usize {
     let mut session = Session::new();
-    session.open(Opening { letter, usable, fixed: 0 }).unwrap();
+    session.open(Opening { letter, usable, fixed: 0, box_number: 0 }).unwrap();
     for (i, row) in rows.chunks(4).enumerate() {
         session.add(i as u64 + 1, to_request(row)).unwrap();
     }
@@ -136,40 +161,44 @@ fn rust_turns(letter: u64, usable: u64, rows: &[u64], turns: usize) -> usize {
     writes
 }
 
-/// A queue of so many requests: all free, all on one counter, or mixed.
+/// A queue of so many requests: all free, all on one counter, or mixed. On C they are events alone.
 fn queue(kind: &str, length: usize) -> Vec<u64> {
-    let free = Request::Event { code: 0xC0, mask: 0, allowed: 15 };
-    let pinned = Request::Event { code: 0xC0, mask: 0, allowed: 1 };
+    let event = |code, allowed| Request::Event { code, mask: 0, allowed };
     let mixed = [
         Request::Offcore { word: 0x10001, allowed: 15 },
         Request::Latency { types: 1, first: 15, second: 15 },
-        pinned,
+        event(0xC0, 1),
         Request::Offcore { word: 0x10002, allowed: 12 },
-        free,
+        event(0xC0, 15),
         Request::Latency { types: 2, first: 3, second: 12 },
     ];
+    let half = [event(0x19, 63), event(0x19, 1)];
     let request = |i| match kind {
-        "free" => free,
-        "pinned" => pinned,
+        "free" => event(0xC0, 15),
+        "pinned" => event(0xC0, 1),
+        "free on C" => event(0x19, 63),
+        "half pinned on C" => half[i % half.len()],
         _ => mixed[i % mixed.len()],
     };
     (0..length).flat_map(|i| to_row(request(i))).collect()
 }
 
-fn case(kind: &str, length: usize) -> Case<'static> {
+fn case(letter: u64, usable: u64, kind: &str, length: usize) -> Case<'static> {
     let rows = queue(kind, length);
-    assert_eq!(proved::turns(71, 15, &rows, 37), rust_turns(71, 15, &rows, 37));
+    assert_eq!(proved::turns(letter, usable, &rows, 37), rust_turns(letter, usable, &rows, 37));
     let same_rows = rows.clone();
     Case {
         name: format!("turn, {kind}, {length} waiting"),
-        ours: Box::new(move || proved::turns(71, 15, black_box(&rows), TURNS) as u64),
-        theirs: Box::new(move || rust_turns(71, 15, black_box(&same_rows), TURNS) as u64),
+        ours: Box::new(move || proved::turns(letter, usable, black_box(&rows), TURNS) as u64),
+        theirs: Box::new(move || rust_turns(letter, usable, black_box(&same_rows), TURNS) as u64),
         units: TURNS,
         rounds: ROUNDS,
     }
 }
 
 pub fn cases() -> Vec<Case<'static>> {
-    let kinds = ["free", "pinned", "mixed"];
-    kinds.iter().flat_map(|kind| [1, 4, 16].map(|length| case(kind, length))).collect()
+    let on_g = ["free", "pinned", "mixed"].map(|kind| (71, 15, kind));
+    let on_c = ["free on C", "half pinned on C"].map(|kind| (67, 63, kind));
+    let kinds = on_g.into_iter().chain(on_c);
+    kinds.flat_map(|(letter, usable, kind)| [1, 4, 16].map(|length| case(letter, usable, kind, length))).collect()
 }

@@ -80,17 +80,20 @@ fn hex_of(field: &[u8], width: usize) -> Option<u64> {
     Some(number)
 }
 
-/// The device's number is the ASCII code of its letter; the grammar has the letters of the devices alone.
-fn device_of(field: &[u8]) -> Option<u64> {
+/// The device of a letter; the grammar has the letters of the devices alone.
+fn device_of(field: &[u8]) -> Option<&'static Device> {
     match field {
-        [letter] if Device::named(*letter as u64).is_some() => Some(*letter as u64),
+        [letter] => Device::named(*letter as u64),
         _ => None,
     }
 }
 
+/// Where the device has several boxes the box is one more field.
 fn opening(fields: &mut Fields) -> Option<Opening> {
-    let letter = device_of(fields.next()?)?;
-    Some(Opening { letter, usable: fields.decimal()?, fixed: fields.decimal()? })
+    let device = device_of(fields.next()?)?;
+    let (usable, fixed) = (fields.decimal()?, fields.decimal()?);
+    let box_number = if device.has_boxes() { fields.decimal()? } else { 0 };
+    Some(Opening { letter: device.letter as u64, usable, fixed, box_number })
 }
 
 fn event(fields: &mut Fields) -> Option<Request> {

@@ -1,4 +1,6 @@
-//! The devices of document 01, a row each: whatever tells one from another stands in this table.
+//! The devices of document 01 and of order 3, a row each: whatever tells one from another stands in this table.
+
+use super::catalogue::{self, Event};
 
 /// The filter registers of a device, and with them the requests that need them.
 #[derive(Clone, Copy, PartialEq, Eq, Debug)]
@@ -7,10 +9,12 @@ pub enum Filters {
     OffcoreResponse,
     /// S_MSR_MM_CFG, MATCH and MASK, for packet requests.
     PacketMatch,
+    /// None: events alone.
+    Absent,
 }
 
 /// The control, counter and global registers; those of counter k lie k steps after those of counter 0.
-#[derive(Debug)]
+#[derive(Clone, Copy, Debug)]
 pub struct Addresses {
     pub global: u64,
     pub control: u64,
@@ -27,14 +31,16 @@ pub struct Device {
     pub filters: Filters,
     /// The highest number for the enables of its fixed counters; 0 where it has none.
     pub fixed: u64,
+    /// The addresses in box 0.
     pub addresses: Addresses,
-    /// Each row: a code, and the lowest and the highest unit mask listed for it. A code may have several rows.
-    pub events: &'static [(u8, u8, u8)],
+    /// How far the addresses of each box lie behind those of box 0; a device that is no box has box 0 alone.
+    pub boxes: &'static [u64],
+    pub events: &'static [Event],
     /// Whether a pair that is not listed gets 8; otherwise only a code does, and a mask gets 9 or 10.
     pub listed_by_pair: bool,
 }
 
-pub static DEVICES: [Device; 2] = [
+pub static DEVICES: [Device; 3] = [
     Device {
         letter: b'G',
         counters: 4,
@@ -42,7 +48,8 @@ pub static DEVICES: [Device; 2] = [
         filters: Filters::OffcoreResponse,
         fixed: 7,
         addresses: Addresses { global: 0x38F, control: 0x186, counter: 0xC1, step: 1 },
-        events: &[(0x3C, 0, 0), (0xC0, 0, 0), (0x3C, 1, 1), (0x2E, 0x4F, 0x4F), (0x2E, 0x41, 0x41), (0xC4, 0, 0), (0xC5, 0, 0)],
+        boxes: &[0],
+        events: catalogue::G,
         listed_by_pair: true,
     },
     Device {
@@ -52,7 +59,19 @@ pub static DEVICES: [Device; 2] = [
         filters: Filters::PacketMatch,
         fixed: 0,
         addresses: Addresses { global: 0xC40, control: 0xC50, counter: 0xC51, step: 2 },
-        events: &[(0x51, 1, 3), (0x31, 1, 3), (0x52, 0, 0), (0x2B, 0, 0), (0x2D, 0, 0), (0x2F, 0, 0)],
+        boxes: &[0],
+        events: catalogue::S,
+        listed_by_pair: false,
+    },
+    Device {
+        letter: b'C',
+        counters: 6,
+        enable: 0x400000,
+        filters: Filters::Absent,
+        fixed: 0,
+        addresses: Addresses { global: 0xD00, control: 0xD10, counter: 0xD11, step: 2 },
+        boxes: &[0x00, 0x80, 0x40, 0xC0, 0x20, 0xA0, 0x60, 0xE0],
+        events: catalogue::C,
         listed_by_pair: false,
     },
 ];
@@ -68,36 +87,33 @@ impl Device {
         (1 << self.counters) - 1
     }
 
-    fn lists_code(&self, code: u8) -> bool {
-        self.events.iter().any(|row| row.0 == code)
-    }
-
-    fn lists_pair(&self, code: u8, mask: u8) -> bool {
-        self.events.iter().any(|&(listed, low, high)| listed == code && low <= mask && mask <= high)
+    /// Whether an open line names the box.
+    pub fn has_boxes(&self) -> bool {
+        self.boxes.len() > 1
     }
 
     /// Every pair that is listed, in the table's order.
     pub fn pairs(&self) -> Vec<(u8, u8)> {
-        self.events.iter().flat_map(|&(code, low, high)| (low..=high).map(move |mask| (code, mask))).collect()
+        self.events.iter().flat_map(|event| event.masks.all().into_iter().map(move |mask| (event.code, mask))).collect()
     }
 
-    /// The number that refuses an event's code and mask: 8, 9 or 10. A mask that is not listed is 0 or above those listed.
+    /// The number that refuses an event's code and mask: 8, or for a mask that is not listed 9 where it is 0 and otherwise 10.
     pub fn event_refusal(&self, code: u8, mask: u8) -> Option<u64> {
-        match self.lists_pair(code, mask) {
-            true => None,
-            false if self.listed_by_pair || !self.lists_code(code) => Some(8),
-            false if mask == 0 => Some(9),
-            false => Some(10),
+        match self.events.iter().find(|event| event.code == code) {
+            Some(event) if event.masks.has(mask) => None,
+            Some(_) if !self.listed_by_pair => Some(if mask == 0 { 9 } else { 10 }),
+            _ => Some(8),
         }
     }
 }
 
-/// What open and the reader are given: the device's letter, the usable set, and the enables of the fixed counters.
+/// What open and the reader are given: the device's letter, the usable set, the enables of the fixed counters, and the box.
 #[derive(Clone, Copy, PartialEq, Eq, Debug)]
 pub struct Opening {
     pub letter: u64,
     pub usable: u64,
     pub fixed: u64,
+    pub box_number: u64,
 }
 
 /// What an accepted open was given.
@@ -106,6 +122,7 @@ pub struct Setup {
     pub device: &'static Device,
     pub usable: u64,
     pub fixed: u64,
+    pub box_number: u64,
 }
 
 /// Where the enables of the fixed counters stand in IA32_PERF_GLOBAL_CTRL: bits 32 to 34.
@@ -113,14 +130,22 @@ const FIXED_PLACE: u64 = 32;
 
 impl Setup {
     /// Refuses with 3: a device that is not there, a usable set that is empty or has a counter too many, or a fixed counter
-    /// that the device does not have.
+    /// or a box that the device does not have.
     pub fn of(opening: Opening) -> Result<Setup, u64> {
-        let Opening { letter, usable, fixed } = opening;
+        let Opening { letter, usable, fixed, box_number } = opening;
         let device = Device::named(letter).ok_or(3u64)?;
-        match usable != 0 && usable <= device.all() && fixed <= device.fixed {
-            true => Ok(Setup { device, usable, fixed }),
+        let known = fixed <= device.fixed && box_number < device.boxes.len() as u64;
+        match usable != 0 && usable <= device.all() && known {
+            true => Ok(Setup { device, usable, fixed, box_number }),
             false => Err(3),
         }
+    }
+
+    /// The addresses in the session's box.
+    pub fn addresses(&self) -> Addresses {
+        let Addresses { global, control, counter, step } = self.device.addresses;
+        let offset = self.device.boxes[self.box_number as usize];
+        Addresses { global: global + offset, control: control + offset, counter: counter + offset, step }
     }
 
     /// The counters that belong to somebody else.

@@ -1,9 +1,11 @@
-//! Two planners for document 01, written from that document alone; they share no code with the crates.
+//! Two planners for document 01 and the orders of document 02, written from the papers alone; they share no code with the
+//! crates.
 //! `model` is slow and clear: it says what the answers are, and the stored outputs come from it.
 //! `fast` takes the road of the proved planner: it is what the proved one is timed against.
 //! They share the table of devices, the requests with their checks, and the shape of the calls; each program here uses a part.
 #![allow(dead_code)]
 
+pub mod catalogue;
 pub mod devices;
 pub mod fast;
 pub mod model;
@@ -16,8 +18,8 @@ use requests::{Entry, Place, Request};
 pub const LIMIT: usize = 16;
 /// As many places as a plan has room for, at least as many as a device has counters.
 pub const PLACES: usize = 8;
-/// The numbers that are lent to a turn of a line: the room of 18 writes, the most there are.
-pub const LIST: usize = 36;
+/// The numbers that are lent to a turn of a line: the room of 20 writes, the most there are.
+pub const LIST: usize = 40;
 
 /// What a turn took, in the order taken, with the places that the plan gives, and the number of its writes.
 #[derive(Clone, Copy, PartialEq, Eq, Debug)]

@@ -48,8 +48,9 @@ fn first_of(ten: bool, nine: bool, eleven: bool) -> Option<u64> {
     }
 }
 
-fn event_refusal(device: &Device, code: u8, mask: u8, allowed: u64) -> Option<u64> {
-    match device.event_refusal(code, mask) {
+/// The number of an event, by the one that refuses its code and mask: 8 stands before the set's 10, and that before 9.
+pub fn event_refusal(device: &Device, of_pair: Option<u64>, allowed: u64) -> Option<u64> {
+    match of_pair {
         Some(8) => Some(8),
         _ if allowed > device.all() => Some(10),
         number => number,
@@ -73,7 +74,7 @@ fn latency_refusal(device: &Device, types: u16, first: u64, second: u64) -> Opti
 /// The number of the checks 7, 8, 10, 9 and 11 that refuses a request on this device.
 pub fn refusal_of(device: &Device, request: Request) -> Option<u64> {
     match (request, device.filters) {
-        (Request::Event { code, mask, allowed }, _) => event_refusal(device, code, mask, allowed),
+        (Request::Event { code, mask, allowed }, _) => event_refusal(device, device.event_refusal(code, mask), allowed),
         (Request::Packet { allowed, .. }, Filters::PacketMatch) => first_of(allowed > device.all(), false, false),
         (Request::Offcore { word, allowed }, Filters::OffcoreResponse) => offcore_refusal(device, word, allowed),
         (Request::Latency { types, first, second }, Filters::OffcoreResponse) => latency_refusal(device, types, first, second),

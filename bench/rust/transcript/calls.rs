@@ -1,9 +1,10 @@
 //! Random calls as lines without their newline: in the grammar, mostly accepted, and refused when odd values are drawn.
 
 use crate::numbers::Numbers;
+use crate::planner::catalogue::Event;
 use crate::planner::devices::{Device, Filters};
 
-/// What the calls are drawn for: the device, its usable set and fixed enables, how many ids there are, and how many of
+/// What the calls are drawn for: the device, its usable set, fixed enables and box, how many ids there are, and how many of
 /// a hundred fields get an odd value. In a tight bench requests get in each other's way: nested sets, few words, and those
 /// of latency requests.
 pub struct Bench {
@@ -11,13 +12,14 @@ pub struct Bench {
     pub device: &'static Device,
     pub usable: u64,
     pub fixed: u64,
+    pub box_number: u64,
     pub ids: u64,
     pub odd: u64,
     pub tight: bool,
 }
 
-/// Pairs that are not listed, or are listed on the other device, or have a mask out of range.
-const ODD_PAIRS: [(u8, u8); 12] = [
+/// Pairs that are not listed, or are listed on another device, or have a mask out of range.
+const ODD_PAIRS: [(u8, u8); 18] = [
     (0xB7, 1),
     (0xB7, 2),
     (0, 0),
@@ -30,6 +32,12 @@ const ODD_PAIRS: [(u8, u8); 12] = [
     (0x31, 0xFF),
     (0xFF, 0xFF),
     (0x2B, 3),
+    (0x0B, 0),
+    (0x0B, 5),
+    (0x0E, 0),
+    (0x0E, 1),
+    (0x15, 1),
+    (0x19, 1),
 ];
 const WORDS: [u64; 12] = [
     0x10001,
@@ -86,7 +94,7 @@ impl Bench {
     fn set(&mut self) -> u64 {
         let all = self.device.all();
         if self.odd() {
-            return self.numbers.pick(&[0, all + 1, 31, 255, 65535, 99999, all & !self.usable]);
+            return self.numbers.pick(&[0, all + 1, 31, 63, 64, 255, 65535, 99999, all & !self.usable]);
         }
         if self.tight {
             return self.nested_set();
@@ -102,10 +110,29 @@ impl Bench {
         self.numbers.pick(&[all >> without, all >> without, all << without & all])
     }
 
+    /// A listed pair: every code as often as another, and every mask of a code.
+    fn pair(&mut self) -> (u8, u8) {
+        let listed = |event: &&Event| !event.masks.all().is_empty();
+        let events: Vec<&Event> = self.device.events.iter().filter(listed).collect();
+        let event = self.numbers.pick(&events);
+        (event.code, self.numbers.pick(&event.masks.all()))
+    }
+
+    /// A pair that is mostly not listed: one of the odd ones, a listed code with any mask, or any code of the range of C.
+    fn odd_pair(&mut self) -> (u8, u8) {
+        let any = self.numbers.below(256) as u8;
+        let mask = self.numbers.pick(&[0, 1, any]);
+        match self.numbers.below(3) {
+            0 => self.numbers.pick(&ODD_PAIRS),
+            1 => (self.numbers.pick(self.device.events).code, mask),
+            _ => (self.numbers.below(0x30) as u8, mask),
+        }
+    }
+
     pub fn event(&mut self, id: u64) -> String {
         let (code, mask) = match self.odd() {
-            true => self.numbers.pick(&ODD_PAIRS),
-            false => self.numbers.pick(&self.device.pairs()),
+            true => self.odd_pair(),
+            false => self.pair(),
         };
         format!("event\t{id}\t{code:02X}\t{mask:02X}\t{}", self.set())
     }
@@ -137,15 +164,16 @@ impl Bench {
         format!("latency\t{id}\t{types:04X}\t{}\t{}", self.set(), self.set())
     }
 
-    /// A request of a kind that the device has, or in odd cases one of the other filters'.
+    /// A request of a kind that the device has, or in odd cases one of other filters.
     pub fn add_with(&mut self, id: u64) -> String {
         let filters = match (self.odd(), self.device.filters) {
             (false, own) => own,
             (true, Filters::OffcoreResponse) => Filters::PacketMatch,
             (true, Filters::PacketMatch) => Filters::OffcoreResponse,
+            (true, Filters::Absent) => self.numbers.pick(&[Filters::OffcoreResponse, Filters::PacketMatch]),
         };
         match (self.numbers.below(4), filters) {
-            (0, _) => self.event(id),
+            (0, _) | (_, Filters::Absent) => self.event(id),
             (1, Filters::OffcoreResponse) if self.tight => self.offcore(id),
             (1, _) => self.event(id),
             (2, Filters::OffcoreResponse) => self.offcore(id),
@@ -163,19 +191,29 @@ impl Bench {
         format!("drop\t{}", self.id())
     }
 
-    /// The open of the bench's device with these numbers.
-    pub fn open_line(&self, usable: u64, fixed: u64) -> String {
-        format!("open\t{}\t{usable}\t{fixed}", self.device.letter as char)
+    /// The open of the bench's device with these numbers; the box is a field where the device has several.
+    pub fn open_line(&self, usable: u64, fixed: u64, box_number: u64) -> String {
+        let line = format!("open\t{}\t{usable}\t{fixed}", self.device.letter as char);
+        match self.device.has_boxes() {
+            true => format!("{line}\t{box_number}"),
+            false => line,
+        }
+    }
+
+    /// The bench's own open.
+    pub fn own_open(&self) -> String {
+        self.open_line(self.usable, self.fixed, self.box_number)
     }
 
     /// The bench's own open, or in odd cases one of another device, with other numbers, or with a field too few or too many.
     pub fn open(&mut self) -> String {
         if !self.odd() {
-            return self.open_line(self.usable, self.fixed);
+            return self.own_open();
         }
-        let letter = self.numbers.pick(&['G', 'S', 'H']);
-        let usable = self.numbers.pick(&[0, 7, 7, 16, 99999]);
-        let fixed = self.numbers.pick(&["", "\t0", "\t0", "\t1", "\t7", "\t8", "\t99999", "\t07", "\t-1", "\t0\t0"]);
-        format!("open\t{letter}\t{usable}{fixed}")
+        let letter = self.numbers.pick(&['G', 'S', 'C', 'C', 'H']);
+        let usable = self.numbers.pick(&[0, 7, 7, 16, 63, 64, 99999]);
+        let fixed = self.numbers.pick(&["", "\t0", "\t0", "\t0", "\t1", "\t7", "\t8", "\t99999", "\t07", "\t-1"]);
+        let box_number = self.numbers.pick(&["", "", "\t0", "\t1", "\t7", "\t8", "\t99999", "\t01", "\t", "\t0\t0"]);
+        format!("open\t{letter}\t{usable}{fixed}{box_number}")
     }
 }

@@ -51,10 +51,18 @@ fn next_call(bench: &mut Bench, session: &Session, goal: usize) -> Vec<u8> {
     }
 }
 
+/// A bench on this device, with any fixed enables and box that it has.
+fn bench_on(device: &'static Device, usable: u64, odd: u64, mut numbers: Numbers) -> Bench {
+    let fixed = numbers.below(device.fixed + 1);
+    let box_number = numbers.below(device.boxes.len() as u64);
+    Bench { numbers, device, usable, fixed, box_number, ids: IDS, odd, tight: false }
+}
+
 /// A transcript of so many lines: mostly accepted adds and drops, a fifth turns, a tenth refused or ill-formed lines.
 pub fn long(device: char, lines: usize, seed: u64) -> Vec<u8> {
     let device = Device::named(device as u64).expect("a device");
-    let mut bench = Bench { numbers: numbers_from(seed), device, usable: device.all(), fixed: 0, ids: IDS, odd: 0, tight: false };
+    let mut bench = bench_on(device, device.all(), 0, numbers_from(seed));
+    (bench.fixed, bench.box_number) = (0, 0);
     let mut session = Session::new();
     let mut block = [0; LONGEST_ANSWER];
     let mut transcript = Vec::new();
@@ -112,13 +120,15 @@ struct Mix {
 fn opening(bench: &mut Bench, transcript: &mut Vec<u8>) {
     let bad_set = bench.numbers.pick(&[0, bench.device.all() + 1, 17, 99999]);
     let bad_fixed = bench.numbers.pick(&[bench.device.fixed + 1, 8, 99999]);
+    let bad_box = bench.numbers.pick(&[8, 9, 99999]);
     match bench.numbers.below(10) {
-        0 => push(transcript, bench.open_line(bad_set, bench.fixed).as_bytes()),
-        1 => push(transcript, bench.open_line(bench.usable, bad_fixed).as_bytes()),
-        2 => push(transcript, bench.open_line(bad_set, bad_fixed).as_bytes()),
+        0 => push(transcript, bench.open_line(bad_set, bench.fixed, bench.box_number).as_bytes()),
+        1 => push(transcript, bench.open_line(bench.usable, bad_fixed, bench.box_number).as_bytes()),
+        2 => push(transcript, bench.open_line(bad_set, bad_fixed, bad_box).as_bytes()),
+        3 if bench.device.has_boxes() => push(transcript, bench.open_line(bench.usable, bench.fixed, bad_box).as_bytes()),
         _ => {}
     }
-    push(transcript, bench.open_line(bench.usable, bench.fixed).as_bytes());
+    push(transcript, bench.own_open().as_bytes());
 }
 
 fn mixed_lines(bench: &mut Bench, mix: Mix) -> Vec<u8> {
@@ -144,9 +154,7 @@ fn mixed_lines(bench: &mut Bench, mix: Mix) -> Vec<u8> {
 /// One transcript of so many calls with every kind of line. On S its last line lacks the newline.
 pub fn mixed(device: char, usable: u64, calls: u64, seed: u64) -> Vec<u8> {
     let named = Device::named(device as u64).expect("a device");
-    let mut numbers = numbers_from(seed);
-    let fixed = numbers.below(named.fixed + 1);
-    let mut bench = Bench { numbers, device: named, usable, fixed, ids: IDS, odd: 8, tight: false };
+    let mut bench = bench_on(named, usable, 8, numbers_from(seed));
     let mut transcript = mixed_lines(&mut bench, Mix { calls, opened_at: 6, overflow_at: calls / 2, damage: 12, noise: 4 });
     if device == 'S' {
         transcript.pop();
@@ -192,8 +200,7 @@ pub fn random(number: u64, seed: u64) -> Vec<u8> {
     let calls = if round % 250 == 249 { 6000 } else { numbers.below(100) };
     let usable = round % device.all() + 1;
     let odd = [0, 4, 15, 40][(round / device.all() % 4) as usize];
-    let fixed = numbers.below(device.fixed + 1);
-    let bench = Bench { numbers, device, usable, fixed, ids: IDS, odd, tight: false };
+    let bench = bench_on(device, usable, odd, numbers);
     match round % 4 {
         3 => tight(bench, calls),
         _ => loose(bench, calls),

@@ -54,6 +54,7 @@ impl Settings {
             (Filters::OffcoreResponse, _) => 2,
             (Filters::PacketMatch, None) => 1,
             (Filters::PacketMatch, Some(_)) => 4,
+            (Filters::Absent, _) => 0,
         }
     }
 
@@ -86,6 +87,7 @@ impl List<'_> {
                 self.put(0xE4A, mask_word);
                 self.put(0xE48, 1 << 63);
             }
+            (Filters::Absent, _) => {}
         }
     }
 }
@@ -95,7 +97,7 @@ pub fn write_list(setup: Setup, taken: &[Entry], plan: &[Place; PLACES], out: &m
     let settings = Settings::of(setup, taken, plan);
     let count = settings.count(setup);
     let mut list = List { rest: out.get_mut(..2 * count)?.chunks_exact_mut(2) };
-    let Addresses { global, control, counter, step } = setup.device.addresses;
+    let Addresses { global, control, counter, step } = setup.addresses();
     list.put(global, setup.global(0));
     for k in counters(setup.usable) {
         list.put(control + step * k as u64, 0);

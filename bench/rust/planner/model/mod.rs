@@ -1,12 +1,13 @@
 //! The slow clear model: the answers as document 01 words them, with lists on the heap and a search for every candidate.
 //! The stored outputs of the program crates come from it, and the fast planner is compared with it. It is never timed.
 
+pub mod c_box;
 pub mod plan;
 pub mod reader;
 pub mod writes;
 
-use super::devices::{Opening, Setup};
-use super::requests::{refusal_of, Entry, Place, Request, VACANT};
+use super::devices::{Device, Opening, Setup};
+use super::requests::{self, event_refusal, Entry, Place, Request, VACANT};
 use super::{Calls, Turn, LIMIT, PLACES};
 use plan::first_plan;
 
@@ -18,6 +19,16 @@ pub struct Session {
 
 pub fn requests_of(entries: &[Entry]) -> Vec<Request> {
     entries.iter().map(|entry| entry.request).collect()
+}
+
+/// The number of the checks 7, 8, 10, 9 and 11 that refuses a request. The C-Box's events are judged by the printed pages.
+pub fn refusal_of(device: &Device, request: Request) -> Option<u64> {
+    match request {
+        Request::Event { code, mask, allowed } if device.letter == b'C' => {
+            event_refusal(device, c_box::event_refusal(code, mask), allowed)
+        }
+        _ => requests::refusal_of(device, request),
+    }
 }
 
 /// The requests taken and those passed over. A request is taken exactly when it and those already taken have a plan.

@@ -1,7 +1,8 @@
 //! The reader: register values back to what each counter counts.
 
+use super::refusal_of;
 use crate::planner::devices::{Filters, Opening, Setup};
-use crate::planner::requests::{latency_words, refusal_of, Request, OUTSTANDING};
+use crate::planner::requests::{latency_words, Request, OUTSTANDING};
 use crate::planner::PLACES;
 
 /// The values that the reader is given; what a device does not have is not looked at.
@@ -72,6 +73,7 @@ fn filters_held(setup: Setup, r: &Registers, states: &[State]) -> bool {
                 && (if on[0] == 0 { r.rsp[0] == 0 } else { offcore(r.rsp[0]) || latency_held(setup, r, on) })
         }
         Filters::PacketMatch => r.mm_cfg == if packets == 0 { 0 } else { 1 << 63 },
+        Filters::Absent => true,
     }
 }
 

@@ -47,7 +47,7 @@ fn packet_match(requests: &[Request]) -> Vec<Write> {
 
 pub fn list_of(setup: Setup, requests: &[Request], plan: &[Place]) -> Vec<Write> {
     let device = setup.device;
-    let at = &device.addresses;
+    let at = setup.addresses();
     let given = requests.iter().zip(plan);
     let mut words: Vec<(u8, u64)> = given.flat_map(|(request, place)| words_of(device, *request, *place)).collect();
     words.sort();
@@ -56,6 +56,7 @@ pub fn list_of(setup: Setup, requests: &[Request], plan: &[Place]) -> Vec<Write>
     let filters = match device.filters {
         Filters::OffcoreResponse => offcore_response(requests, plan),
         Filters::PacketMatch => packet_match(requests),
+        Filters::Absent => Vec::new(),
     };
     let mut list = vec![(at.global, setup.global(0))];
     list.extend(usable.map(|k| (at.control + at.step * k, 0)));
