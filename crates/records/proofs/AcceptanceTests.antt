@@ -7,8 +7,8 @@ use Rattle.records.specs.Fields.{fields, sameBytes}
 use Rattle.records.specs.Numbers.{digitOf, numberFrom, decimalOf, hexOf}
 use Rattle.records.specs.Parse.{longest, tooLong, parseText, isClosed, textLength, parseLine}
 use Rattle.records.specs.Text.{bytes, tab, newline}
-use Rattle.records.specs.Verbs.{lineFrom, lettered, openFormats, openOn, openLine, eventLine, packetLine, offcoreLine, latencyLine, dropLine, turnLine, hasVerb, verbs, recordOf}
+use Rattle.records.specs.Verbs.{lineFrom, lettered, openFormats, onBox, openOn, openLine, eventLine, packetLine, offcoreLine, latencyLine, dropLine, turnLine, hasVerb, verbs, recordOf}
 
 pub examples-hold : Examples
-unfolding both firstHolding letterOf devices named deviceOf tabbed fields sameBytes digitOf numberFrom decimalOf hexOf longest tooLong parseText isClosed textLength parseLine bytes tab newline lineFrom lettered openFormats openOn openLine eventLine packetLine offcoreLine latencyLine dropLine turnLine hasVerb verbs recordOf
+unfolding both firstHolding letterOf devices named deviceOf tabbed fields sameBytes digitOf numberFrom decimalOf hexOf longest tooLong parseText isClosed textLength parseLine bytes tab newline lineFrom lettered openFormats onBox openOn openLine eventLine packetLine offcoreLine latencyLine dropLine turnLine hasVerb verbs recordOf
 examples-hold = refl

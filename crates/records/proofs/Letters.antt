@@ -11,28 +11,30 @@ use lib.ListN.{length, getD, drop, drop-of-length-le}
 use lib.Seq.{drop-cons}
 use borrow.Author.Tests.{eq-eqb, ne-eqb}
 use Rattle.requests.specs.declared.Device.{Device}
+use Rattle.requests.specs.declared.Device.the-variants.{G, S, C}
 use Rattle.requests.specs.Choice.{pick}
 use Rattle.requests.specs.Devices.{letterOf, devices, named, deviceOf}
-use Rattle.requests.proofs.DeviceNumbers.{numbers}
-use Rattle.requests.proofs.Openings.{letter-is}
+use Rattle.requests.proofs.Openings.{letter-is, this-letter}
 use Rattle.records.specs.Fields.{sameBytes}
-use Rattle.records.specs.Verbs.{lettered, withDevice}
+use Rattle.records.specs.Verbs.{lettered, withDevice, onBox}
 use Rattle.records.specs.declared.Record.{Record}
 use Rattle.records.specs.declared.Parsed.{Parsed}
 use Rattle.records.specs.declared.Parsed.the-variants.{Line}
 use Rattle.records.proofs.Outcomes.{fault-not-line}
 use Rattle.records.proofs.Formats.{same-bytes}
 
--- a device's letter is read as the device
-pub letter-reads : (d : Device) → lettered (letterOf d ∷ []) ≡ some d
-unfolding lettered
-letter-reads d = numbers d .letter-names
+-- a device's letter is read as the device, at box 0
+pub letter-reads : (d : Device) → lettered (letterOf d ∷ []) ≡ some (onBox d 0)
+unfolding lettered onBox letterOf deviceOf named devices
+letter-reads G = refl
+letter-reads S = refl
+letter-reads (C b) = refl
 
 -- and nothing else is
 pub lettered-only : (f : List ℕ) (d : Device) → lettered f ≡ some d → f ≡ letterOf d ∷ []
 unfolding lettered
 lettered-only [] d e = absurd (Option·none-ne-some d e)
-lettered-only (letter ∷ []) d e = ap (λ (x : ℕ). x ∷ []) (sym (letter-is letter d e))
+lettered-only (letter ∷ []) d e = ap (λ (x : ℕ). x ∷ []) (sym (letter-is letter 0 d e))
 lettered-only (letter ∷ b ∷ f) d e = absurd (Option·none-ne-some d e)
 
 -- a device was there
@@ -48,17 +50,20 @@ letteredIn ds (letter ∷ []) = named ds letter
 letteredIn ds (letter ∷ b ∷ f) = none
 
 -- among all
-pub lettered-all : (f : List ℕ) → letteredIn devices f ≡ lettered f
+pub lettered-all : (f : List ℕ) → letteredIn (devices 0) f ≡ lettered f
 unfolding lettered letteredIn deviceOf
 lettered-all [] = refl
 lettered-all (letter ∷ []) = refl
 lettered-all (letter ∷ b ∷ f) = refl
 
--- the field is the letter
-pub letter-here : (f : List ℕ) (d : Device) → sameBytes f (letterOf d ∷ []) ≡ true → lettered f ≡ some d
-letter-here f d e = ap lettered (same-bytes f (letterOf d ∷ []) e) ∙ letter-reads d
+-- the field is the letter of the device at place i
+pub letter-here : (f : List ℕ) (ds : List Device) (i : ℕ) (x : Device) → i < length ds → sameBytes f (letterOf (getD ds i x) ∷ []) ≡ true
+    → letteredIn (drop i ds) f ≡ some (getD ds i x)
+unfolding letteredIn
+letter-here f ds i x l e =
+    ap (letteredIn (drop i ds)) (same-bytes f (letterOf (getD ds i x) ∷ []) e) ∙ this-letter ds i (letterOf (getD ds i x)) x l refl
 
--- it is not the letter of the first device
+-- it is not that of the first device
 letter-passed : (f : List ℕ) (d : Device) (ds : List Device) → sameBytes f (letterOf d ∷ []) ≡ false → letteredIn ds f ≡ letteredIn (d ∷ ds) f
 unfolding letteredIn sameBytes named
 letter-passed [] d ds e = refl

@@ -9,14 +9,14 @@ use native.Mathlib.Omega.{arith}
 use lib.ListN.{drop}
 use lib.Seq.{drop-cons}
 use Rattle.requests.specs.declared.Device.{Device}
-use Rattle.requests.specs.declared.Device.the-variants.{G, S}
+use Rattle.requests.specs.declared.Device.the-variants.{G, S, C}
 use Rattle.requests.specs.declared.Request.the-variants.{Event, Packet, Offcore, Latency}
 use Rattle.requests.specs.Choice.{Row, firstHolding}
-use Rattle.requests.specs.Devices.{letterOf}
+use Rattle.requests.specs.Devices.{letterOf, boxOf}
 use Rattle.records.specs.Text.{bytes}
-use Rattle.records.specs.Records.{openFields, addFields, recordFields, Fits}
+use Rattle.records.specs.Records.{boxFields, openFields, addFields, recordFields, Fits}
 use Rattle.records.specs.Fields.{fields, fieldAt}
-use Rattle.records.specs.Verbs.{setOf, lineFrom, lettered, openFormats, openWith, openOn, openLine, eventLine, packetLine, offcoreLine, latencyLine, dropLine, turnLine, hasVerb, verbs, recordOf}
+use Rattle.records.specs.Verbs.{setOf, lineFrom, lettered, openFormats, onBox, openWith, openOn, openLine, eventLine, packetLine, offcoreLine, latencyLine, dropLine, turnLine, hasVerb, verbs, recordOf}
 use Rattle.records.specs.declared.Record.{Record}
 use Rattle.records.specs.declared.Record.the-variants.{Add, Drop, Turn}
 use Rattle.records.specs.declared.Parsed.{Parsed}
@@ -66,9 +66,11 @@ module _ (d : Device) (fs : List Format) (made : Values fs → Record) (fits : (
 -- each device's
 open-on-tells : (d : Device) (t : List ℕ) → hasVerb t "open" ≡ true → fieldAt t 1 ≡ letterOf d ∷ [] → (closed : Bool) (r : Record)
     → openOn t closed d ≡ Line r → Told t closed r
-unfolding openOn openFormats lineFrom recordFields openFields
-open-on-tells G = device-tells G (decimal ∷ decimal ∷ []) (λ v. openWith G (v .0) (v .1 .0) 0 0 0) (λ v h. (h .0, h .1 .0)) (λ v. refl)
-open-on-tells S = device-tells S (decimal ∷ decimal ∷ []) (λ v. openWith S (v .0) (v .1 .0) 0 0 0) (λ v h. (h .0, h .1 .0)) (λ v. refl)
+unfolding openOn openFormats onBox lineFrom recordFields openFields boxFields letterOf boxOf
+open-on-tells G = device-tells G (decimal ∷ decimal ∷ []) (λ v. openWith G (v .0) (v .1 .0) 0 0 0) (λ v h. (h .0, h .1 .0, omega arith)) (λ v. refl)
+open-on-tells S = device-tells S (decimal ∷ decimal ∷ []) (λ v. openWith S (v .0) (v .1 .0) 0 0 0) (λ v h. (h .0, h .1 .0, omega arith)) (λ v. refl)
+open-on-tells (C b) =
+    device-tells (C b) (decimal ∷ decimal ∷ decimal ∷ []) (λ v. openWith (C b) (v .0) (v .1 .0) (v .1 .1 .0) 0 0) (λ v h. (h .0, h .1 .0, h .1 .1 .0)) (λ v. refl)
 
 open-tells : (t : List ℕ) → hasVerb t "open" ≡ true → (closed : Bool) (r : Record) → openLine t closed ≡ Line r → Told t closed r
 unfolding openLine

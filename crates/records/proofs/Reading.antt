@@ -5,14 +5,15 @@ use mathlib.Core.List.{List}
 use Prim.Native.Nat.{ℕ}
 use Rattle.requests.specs.declared.CounterSet.{CounterSet}
 use Rattle.requests.specs.declared.Device.{Device}
-use Rattle.requests.specs.declared.Device.the-variants.{G, S}
+use Rattle.requests.specs.declared.Device.the-variants.{G, S, C}
 use Rattle.requests.specs.declared.Setup.{Setup}
 use Rattle.requests.specs.declared.Request.the-variants.{Event, Packet, Offcore, Latency}
 use Rattle.requests.specs.Choice.{firstHolding, both}
+use Rattle.requests.specs.Devices.{boxOf}
 use Rattle.records.specs.Text.{bytes}
-use Rattle.records.specs.Records.{Decimal, OpenFits, openFields, addFields, recordFields, Fits}
+use Rattle.records.specs.Records.{Decimal, OpenFits, boxFields, openFields, addFields, recordFields, Fits}
 use Rattle.records.specs.Fields.{fields, sameBytes}
-use Rattle.records.specs.Verbs.{lineFrom, openFormats, openOn, openLine, eventLine, packetLine, offcoreLine, latencyLine, dropLine, turnLine, hasVerb, verbs, recordOf}
+use Rattle.records.specs.Verbs.{lineFrom, openFormats, onBox, openOn, openLine, eventLine, packetLine, offcoreLine, latencyLine, dropLine, turnLine, hasVerb, verbs, recordOf}
 use Rattle.records.specs.declared.Record.{Record}
 use Rattle.records.specs.declared.Record.the-variants.{Open, Add, Drop, Turn}
 use Rattle.records.specs.declared.Parsed.the-variants.{Line}
@@ -22,11 +23,12 @@ use Rattle.records.proofs.Letters.{letter-reads}
 use Rattle.records.proofs.VerbRows.{read-by}
 
 -- the fields behind a device's letter are read back
-device-read : (t : List ℕ) (d : Device) (u : CounterSet) (f : ℕ) → Decimal (u .0) × Decimal f
-    → fields t ≡ openFields (record { device = d; usable = u; fixed = f }) → openOn t true d ≡ Line (Open (record { device = d; usable = u; fixed = f }))
-unfolding openFields openOn openFormats lineFrom both
+device-read : (t : List ℕ) (d : Device) (u : CounterSet) (f : ℕ) → Decimal (u .0) × Decimal f × Decimal (boxOf d)
+    → fields t ≡ openFields (record { device = d; usable = u; fixed = f }) → openOn t true (onBox d 0) ≡ Line (Open (record { device = d; usable = u; fixed = f }))
+unfolding openFields boxFields boxOf openOn openFormats onBox lineFrom both
 device-read t G u f h e = rw (e, decimal-reads (u .0) (h .0), decimal-reads f (h .1))
 device-read t S u f h e = rw (e, decimal-reads (u .0) (h .0), decimal-reads f (h .1))
+device-read t (C b) u f h e = rw (e, decimal-reads (u .0) (h .0), decimal-reads f (h .1), decimal-reads b (h .2))
 
 -- the letter is, too
 open-read : (t : List ℕ) (s : Setup) → OpenFits s → fields t ≡ openFields s → openLine t true ≡ Line (Open s)

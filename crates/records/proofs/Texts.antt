@@ -10,11 +10,13 @@ use borrow.Author.Tests.{leb-true, ne-eqb}
 use Rattle.requests.specs.Choice.{both}
 use Rattle.requests.proofs.DeviceNumbers.{numbers}
 use Rattle.requests.proofs.Tests.{both-parts}
+use Rattle.requests.specs.declared.CounterSet.{CounterSet}
 use Rattle.requests.specs.declared.Device.{Device}
+use Rattle.requests.specs.declared.Device.the-variants.{G, S, C}
 use Rattle.requests.specs.declared.Request.the-variants.{Event, Packet, Offcore, Latency}
-use Rattle.requests.specs.Devices.{letterOf}
+use Rattle.requests.specs.Devices.{letterOf, boxOf}
 use Rattle.records.specs.Text.{bytes, tab, hexText, decimalText, newline}
-use Rattle.records.specs.Records.{openFields, addFields, recordFields, recordText, Decimal, Hex, Fits}
+use Rattle.records.specs.Records.{boxFields, openFields, addFields, recordFields, recordText, Decimal, Hex, Fits}
 use Rattle.records.specs.Fields.{fields}
 use Rattle.records.specs.declared.Record.{Record}
 use Rattle.records.specs.declared.Record.the-variants.{Open, Add, Drop, Turn}
@@ -62,11 +64,18 @@ text-of r word fs e small plain =
     let size : length (w .text) ≤ 80 = omega (arith, w .size, leb-true (length word) 7 short, leb-true (length fs) 4 few) in
     record { text = w .text; line = rw e (w .line); parts = w .parts ∙ sym e; fits-line = size }
 
+-- that of an open line
+open-written : (d : Device) (u : CounterSet) (f : ℕ) → Decimal (u .0) × Decimal f × Decimal (boxOf d) → TextOf (Open (record { device = d; usable = u; fixed = f }))
+unfolding recordFields openFields boxFields boxOf bytes brief oneField lacks tab newline both
+open-written G u f h = text-of _ _ _ refl refl (more (letter-plain G) (more (decimal-plain (u .0) (h .0)) (more (decimal-plain f (h .1)) none)))
+open-written S u f h = text-of _ _ _ refl refl (more (letter-plain S) (more (decimal-plain (u .0) (h .0)) (more (decimal-plain f (h .1)) none)))
+open-written (C b) u f h =
+    text-of _ _ _ refl refl (more (letter-plain (C b)) (more (decimal-plain (u .0) (h .0)) (more (decimal-plain f (h .1)) (more (decimal-plain b (h .2)) none))))
+
 -- every record has one
 pub record-written : (r : Record) → Fits r → TextOf r
-unfolding recordFields openFields addFields bytes brief oneField lacks tab newline both
-record-written (Open s) h =
-    text-of _ _ _ refl refl (more (letter-plain (s .device)) (more (decimal-plain (s .usable .0) (h .0)) (more (decimal-plain (s .fixed) (h .1)) none)))
+unfolding recordFields addFields bytes brief oneField lacks tab newline both
+record-written (Open s) h = open-written (s .device) (s .usable) (s .fixed) h
 record-written (Add id (Event c m a)) h =
     text-of _ _ _ refl refl
     (more (decimal-plain id (h .0)) (more (hex-plain 2 c (omega arith) (h .1)) (more (hex-plain 2 m (omega arith) (h .2)) (more (decimal-plain (a .0) (h .3)) none))))

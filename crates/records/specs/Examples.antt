@@ -5,7 +5,7 @@ use Prim.Native.Nat.{ℕ}
 use Prim.Native.String.{String}
 use lib.Dec.{eqb}
 use Rattle.requests.specs.declared.CounterSet.{CounterSet}
-use Rattle.requests.specs.declared.Device.the-variants.{G, S}
+use Rattle.requests.specs.declared.Device.the-variants.{G, S, C}
 use Rattle.requests.specs.declared.Request.the-variants.{Event, Packet, Offcore, Latency}
 use Rattle.requests.specs.Choice.{pick}
 use Rattle.records.specs.Text.{bytes, tab, newline}
@@ -34,8 +34,10 @@ abbrev pub examples : List Example
 examples =
     closed "open G 15 7" (Line (Open (record { device = G; usable = set 15; fixed = 7 })))
     ∷ closed "open S 14 0" (Line (Open (record { device = S; usable = set 14; fixed = 0 })))
+    ∷ closed "open C 63 0 7" (Line (Open (record { device = C 7; usable = set 63; fixed = 0 })))
     -- numbers that no device opens with: the grammar does not judge them
     ∷ closed "open S 0 99999" (Line (Open (record { device = S; usable = set 0; fixed = 99999 })))
+    ∷ closed "open C 64 1 8" (Line (Open (record { device = C 8; usable = set 64; fixed = 1 })))
     ∷ closed "event 1 C0 00 1" (Line (Add 1 (Event 0xC0 0x00 (set 1))))
     ∷ closed "packet 2 00000000000000A5 8000000000000000 8" (Line (Add 2 (Packet 0xA5 0x8000000000000000 (set 8))))
     ∷ closed "offcore 3 0000000000010001 15" (Line (Add 3 (Offcore 0x10001 (set 15))))
@@ -49,6 +51,7 @@ examples =
     ∷ closed "open GS 15 0" (Fault 1)
     ∷ closed "open G 15 08" (Fault 3)
     ∷ closed "open G 15 -1" (Fault 3)
+    ∷ closed "open C 63 0 07" (Fault 4)
     ∷ closed "drop 01" (Fault 1)
     ∷ closed "drop 123456" (Fault 1)
     ∷ closed "event 1 c0 00 1" (Fault 2)
@@ -57,6 +60,9 @@ examples =
     ∷ closed "event 1 C0" (Fault 3)
     ∷ closed "open G 15" (Fault 3)
     ∷ closed "open G 15 0 0" (Fault 4)
+    ∷ closed "open S 15 0 0" (Fault 4)
+    ∷ closed "open C 63 0" (Fault 4)
+    ∷ closed "open C 63 0 7 0" (Fault 5)
     ∷ closed "turn " (Fault 1)
     ∷ closed "drop 1 2" (Fault 2)
     ∷ closed "drop  1" (Fault 1)

@@ -1,10 +1,12 @@
 -- Document 01, 'Lines': the records, and the text of each.
 use mathlib.Core.List.{List, [], _∷_}
 use Prim.Native.Nat.{ℕ, _^_, _<_}
+use Rattle.requests.specs.declared.Device.{Device}
+use Rattle.requests.specs.declared.Device.the-variants.{G, S, C}
 use Rattle.requests.specs.declared.Setup.{Setup}
 use Rattle.requests.specs.declared.Request.{Request}
 use Rattle.requests.specs.declared.Request.the-variants.{Event, Packet, Offcore, Latency}
-use Rattle.requests.specs.Devices.{letterOf}
+use Rattle.requests.specs.Devices.{letterOf, boxOf}
 use Rattle.records.specs.Text.{bytes, hexText, decimalText, lineOf}
 use Rattle.records.specs.declared.Record.{Record}
 use Rattle.records.specs.declared.Record.the-variants.{Open, Add, Drop, Turn}
@@ -16,9 +18,15 @@ addFields id (Packet x y a) = bytes "packet" ∷ decimalText id ∷ hexText 16 x
 addFields id (Offcore w a) = bytes "offcore" ∷ decimalText id ∷ hexText 16 w ∷ decimalText (a .0) ∷ []
 addFields id (Latency t a b) = bytes "latency" ∷ decimalText id ∷ hexText 4 t ∷ decimalText (a .0) ∷ decimalText (b .0) ∷ []
 
+-- "C's `open` line has the box as a fifth field"
+unfoldable pub boxFields : Device → List (List ℕ)
+boxFields G = []
+boxFields S = []
+boxFields (C b) = decimalText b ∷ []
+
 -- the fields of a record that opens
 unfoldable pub openFields : Setup → List (List ℕ)
-openFields s = bytes "open" ∷ (letterOf (s .device) ∷ []) ∷ decimalText (s .usable .0) ∷ decimalText (s .fixed) ∷ []
+openFields s = bytes "open" ∷ (letterOf (s .device) ∷ []) ∷ decimalText (s .usable .0) ∷ decimalText (s .fixed) ∷ boxFields (s .device)
 
 -- the fields of a record
 unfoldable pub recordFields : Record → List (List ℕ)
@@ -48,7 +56,7 @@ AddFits id (Latency t a b) = Decimal id × Hex 4 t × Decimal (a .0) × Decimal 
 
 -- the numbers of a record that opens fit their fields
 abbrev pub OpenFits : Setup → Type 0
-OpenFits s = Decimal (s .usable .0) × Decimal (s .fixed)
+OpenFits s = Decimal (s .usable .0) × Decimal (s .fixed) × Decimal (boxOf (s .device))
 
 -- the numbers of a record fit their fields
 abbrev pub Fits : Record → Type 0

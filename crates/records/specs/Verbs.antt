@@ -8,7 +8,7 @@ use mathlib.Core.Option.{Option, none, some}
 use lib.ListN.{length, getD, set}
 use lib.Dec.{eqb}
 use Rattle.requests.specs.declared.Device.{Device}
-use Rattle.requests.specs.declared.Device.the-variants.{G, S}
+use Rattle.requests.specs.declared.Device.the-variants.{G, S, C}
 use Rattle.requests.specs.declared.CounterSet.{CounterSet}
 use Rattle.requests.specs.declared.Request.the-variants.{Event, Packet, Offcore, Latency}
 use Rattle.requests.specs.Choice.{both, pick, Row, firstHolding}
@@ -53,10 +53,10 @@ lineFrom (w ∷ ws) t closed first i values made =
 abbrev pub numberLine : ℕ → List ℕ → List ℕ → Bool → Made → Parsed
 numberLine first formats t closed made = lineFrom formats t closed first 0 (0 ∷ 0 ∷ 0 ∷ 0 ∷ 0 ∷ []) made
 
--- the device whose letter is the field
+-- the device whose letter is the field, as its box 0
 unfoldable pub lettered : List ℕ → Option Device
 lettered [] = none
-lettered (letter ∷ []) = deviceOf letter
+lettered (letter ∷ []) = deviceOf letter 0
 lettered (letter ∷ b ∷ more) = none
 
 -- what follows a device, or the field at fault
@@ -64,20 +64,27 @@ abbrev pub withDevice : Option Device → ℕ → (Device → Parsed) → Parsed
 withDevice (some d) k next = next d
 withDevice none k next = Fault k
 
--- the formats of the fields behind a device's letter, all decimals: usable, fixed
+-- the formats of the fields behind a device's letter, all decimals: usable, fixed, and the box on C
 unfoldable pub openFormats : Device → List ℕ
 openFormats G = 0 ∷ 0 ∷ []
 openFormats S = 0 ∷ 0 ∷ []
+openFormats (C b) = 0 ∷ 0 ∷ 0 ∷ []
+
+-- the device with its box of that number
+unfoldable pub onBox : Device → ℕ → Device
+onBox G n = G
+onBox S n = S
+onBox (C b) n = C n
 
 -- the record that a device and the numbers behind its letter make
 abbrev pub openWith : Device → Made
-openWith d usable fixed a b c = Open (record { device = d; usable = setOf usable; fixed = fixed })
+openWith d usable fixed box a b = Open (record { device = onBox d box; usable = setOf usable; fixed = fixed })
 
 -- `open` with a device that is known
 unfoldable pub openOn : List ℕ → Bool → Device → Parsed
 openOn t closed d = numberLine 2 (openFormats d) t closed (openWith d)
 
--- `open` letter usable fixed
+-- `open` letter usable fixed, and box on C
 unfoldable pub openLine : List ℕ → Bool → Parsed
 openLine t closed = withDevice (lettered (fieldAt t 1)) 1 (openOn t closed)
 

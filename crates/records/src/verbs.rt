@@ -10,7 +10,7 @@ use requests::CounterSet;
 use requests::Device;
 use requests::Request;
 use requests::Setup;
-use requests::devices::DEVICES;
+use requests::devices::devices;
 use requests::devices::letter_of;
 ghost use mathlib.Core.Path.{_≡_};
 ghost use mathlib.Core.List.{[], _∷_};
@@ -21,7 +21,7 @@ ghost use Rattle.requests.specs.Choice.{both, pick};
 ghost use Rattle.requests.specs.Devices.{letterOf};
 ghost use Rattle.records.specs.Fields.{fieldAt, sameBytes};
 ghost use Rattle.records.specs.Parts.{Parted};
-ghost use Rattle.records.specs.Verbs.{Narrow, Numbered, openFormats, openOn, openLine, eventLine, packetLine, offcoreLine, latencyLine, dropLine, turnLine, recordOf};
+ghost use Rattle.records.specs.Verbs.{Narrow, Numbered, openFormats, onBox, openOn, openLine, eventLine, packetLine, offcoreLine, latencyLine, dropLine, turnLine, recordOf};
 
 // The format of a decimal; that of a hex number is how many digits it has.
 const DECIMAL: usize = 0;
@@ -81,6 +81,18 @@ fn open_numbers(text: &[u8], parts: Parts, closed: bool, device: Device) -> Line
     match device {
         Device::G => numbers_of(text, parts, closed, 2, &[DECIMAL, DECIMAL]),
         Device::S => numbers_of(text, parts, closed, 2, &[DECIMAL, DECIMAL]),
+        Device::C(_) => numbers_of(text, parts, closed, 2, &[DECIMAL, DECIMAL, DECIMAL]),
+    }
+}
+
+// The device with its box of that number.
+fn on_box(device: Device, number: u64) -> Device
+    ensures { λ r. ⌜ r ≡ onBox device number ⌝ }
+{
+    match device {
+        Device::G => Device::G,
+        Device::S => Device::S,
+        Device::C(_) => Device::C(number),
     }
 }
 
@@ -91,9 +103,9 @@ fn open_on(text: &[u8], parts: Parts, closed: bool, device: Device) -> Parsed
 {
     match open_numbers(text, parts, closed, device) {
         LineNumbers::Fault(k) => Parsed::Fault(k),
-        LineNumbers::Read(usable, fixed, _, _, _) => {
+        LineNumbers::Read(usable, fixed, cbox, _, _) => {
             let setup = Setup {
-                device,
+                device: on_box(device, cbox),
                 usable: CounterSet(usable),
                 fixed,
             };
@@ -111,14 +123,15 @@ fn is_letter(text: &[u8], parts: Parts, device: Device) -> bool
     is_word(text, parts, 1, &[letter])
 }
 
-// `open` letter usable fixed
+// `open` letter usable fixed, and box on C
 fn open_line(text: &[u8], parts: Parts, closed: bool) -> Parsed
     requires { ⌜ Parted (now text) parts ⌝ }
     ensures { λ r. ⌜ r ≡ openLine (now (text .entry)) closed ⌝ }
 {
+    let devices = devices(0);
     let mut i = 0;
-    while i < DEVICES.len() {
-        let device = DEVICES[i];
+    while i < devices.len() {
+        let device = devices[i];
         if is_letter(text, parts, device) {
             return open_on(text, parts, closed, device);
         }

@@ -31,6 +31,11 @@ counters-fit d = omega (arith, numbers d .counters-few)
 pub letter-named : (n box : ℕ) (d : Device) → n ≡ letterOf d → box ≡ boxOf d → deviceOf n box ≡ some d
 letter-named n box d e f = ap (λ (x : ℕ). deviceOf x box) e ∙ numbers d .letter-names box f
 
+-- there is a device of each of three letters
+pub device-count : (box : ℕ) → length (devices box) ≡ 3
+unfolding devices
+device-count box = refl
+
 -- the list names the device whose letter it is
 pub this-letter : (ds : List Device) (i n : ℕ) (x : Device) → i < length ds → n ≡ letterOf (getD ds i x) → named (drop i ds) n ≡ some (getD ds i x)
 unfolding named

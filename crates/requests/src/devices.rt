@@ -7,7 +7,7 @@ use crate::Refusal;
 use crate::Setup;
 ghost use mathlib.Core.Path.{_≡_};
 ghost use Rattle.requests.specs.Choice.{pick};
-ghost use Rattle.requests.specs.Devices.{counterCount, allCounters, fixedCount, allFixed, letterOf, boxCount, boxOf, packetsOn, offcoreOn, pairsJudged, usableSet, opens, setupOn, setupOf, openingOf, openedAs};
+ghost use Rattle.requests.specs.Devices.{counterCount, allCounters, fixedCount, allFixed, letterOf, boxCount, boxOf, devices, packetsOn, offcoreOn, pairsJudged, usableSet, opens, setupOn, setupOf, openingOf, openedAs};
 
 // The number of counters that arrays have room for.
 pub const CAPACITY: usize = 8;
@@ -81,6 +81,13 @@ pub fn box_of(d: Device) -> u64
         Device::S => 0,
         Device::C(number) => number,
     }
+}
+
+// A device of each letter, where the box has the number.
+pub fn devices(cbox: u64) -> [Device; 3]
+    ensures { λ r. ⌜ r ≡ devices cbox ⌝ }
+{
+    [Device::G, Device::S, Device::C(cbox)]
 }
 
 // Whether the device has packet requests.
@@ -161,7 +168,7 @@ pub fn setup_of(o: Opening) -> Opened
     ensures { λ r. ⌜ r ≡ openedAs (setupOf o) ⌝ }
 {
     let letter = o.device;
-    let devices = [Device::G, Device::S, Device::C(o.cbox)];
+    let devices = devices(o.cbox);
     let mut i = 0;
     while i < devices.len() {
         let device = devices[i];

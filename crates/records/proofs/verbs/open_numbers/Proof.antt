@@ -13,6 +13,10 @@ returns-2 : tie.Need-returns-2
 unfolding openFormats
 returns-2 c = rw (c .before .before .enum-told2 .given .1) (c .numbers-of2 .ensures)
 
+returns-3 : tie.Need-returns-3
+unfolding openFormats
+returns-3 c = rw (c .before .before .enum-told3 .given .1) (c .numbers-of3 .ensures)
+
 pub open-numbers-spec : {M : Type 1} → statement M
 open-numbers-spec =
     tie.close
@@ -23,5 +27,9 @@ open-numbers-spec =
     (λ c. search needs)
     (λ c. search needs)
     (λ c κs. search needs)
+    (λ c. search needs)
+    (λ c. search needs)
+    (λ c κs. search needs)
     returns
-    returns-2)
+    returns-2
+    returns-3)
