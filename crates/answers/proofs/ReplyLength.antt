@@ -1,4 +1,4 @@
--- No reply is longer than the room for one: a turn has at most 8 requests of 136 bytes, 18 writes of 26 bytes and the answer, any other reply the answer alone.
+-- No reply is longer than the room for one: a turn has at most 8 requests of 136 bytes, 22 writes of 26 bytes and the answer, any other reply the answer alone.
 use mathlib.Core.List.{List}
 use Prim.Native.Nat.{ℕ, _*_, _≤_}
 use native.Mathlib.Omega.{arith}

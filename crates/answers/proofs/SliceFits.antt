@@ -1,4 +1,4 @@
--- No call that a line makes is refused by row 14: it applies to no turn with room for 18 writes, by the limit of the writes, and to no other call.
+-- No call that a line makes is refused by row 14: it applies to no turn with room for 22 writes, by the limit of the writes, and to no other call.
 use mathlib.Core.Path.{_≡_, sym, _∙_}
 use mathlib.Core.List.{List}
 use mathlib.Core.Option.{none}

@@ -9,7 +9,7 @@ use lib.Dec.{eqb}
 use lib.ListN.{getD}
 use lib.Pow.{pow-mono}
 use Rattle.requests.specs.declared.Device.{Device}
-use Rattle.requests.specs.declared.Device.the-variants.{G, S}
+use Rattle.requests.specs.declared.Device.the-variants.{G, S, C}
 use Rattle.requests.specs.declared.Setup.{Setup}
 use Rattle.requests.specs.declared.Request.{Request}
 use Rattle.requests.specs.declared.Request.the-variants.{Event, Packet, Offcore, Latency}
@@ -156,6 +156,7 @@ module _ (rs : List Request) (ps : List Place) (fit : All WordsFit rs) where
   unfolding filterWrites offcoreWrites settingsOf rsp0At rsp1At
   filters-fit G = cons (filter-fits rsp0At _ (omega arith) (rsp-word-fits 0)) (cons (filter-fits rsp1At _ (omega arith) (rsp-word-fits 1)) nil)
   filters-fit S = packet-writes-fit (nonempty (flatMap packetsOf rs)) _ _ (all-head (0, 0) (flatMap packetsOf rs) (zero-fits, zero-fits) (packets-fit fit))
+  filters-fit (C b) = nil
 
   pub writes-fit : (s : Setup) → All WriteFits (writes s rs ps)
   unfolding writes settingsOf

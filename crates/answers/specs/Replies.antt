@@ -45,9 +45,9 @@ setLines [] = []
 setLines (a ∷ []) = []
 setLines (a ∷ v ∷ rest) = lineOf (bytes "set" ∷ hexText 4 a ∷ hexText 16 v ∷ []) ++ setLines rest
 
--- the length of the slice that a line lends a turn: room for 18 writes
+-- the length of the slice that a line lends a turn: room for 22 writes
 unfoldable pub turnRoom : ℕ
-turnRoom = 36
+turnRoom = 44
 
 -- the reply to an open, add or drop
 unfoldable pub replyOf : Answered → Reply

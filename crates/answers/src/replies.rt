@@ -22,8 +22,8 @@ ghost use Rattle.answers.specs.Replies.{replyOf, turnReply, turnRoom, re
 ghost use Rattle.answers.specs.Written.{replyRoom, repliedIn, repliedOut};
 ghost use Rattle.answers.specs.Texts.{Delivered};
 
-// The numbers that a turn is lent: the room of 18 writes, the most that there are.
-const TURN_ROOM: usize = 36;
+// The numbers that a turn is lent: the room of 22 writes, as long as any list.
+const TURN_ROOM: usize = 44;
 
 // The room for any reply, in bytes.
 pub const REPLY_ROOM: usize = 2048;

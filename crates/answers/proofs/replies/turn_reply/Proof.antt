@@ -17,8 +17,9 @@ turn-requires : tie.Need-turn-requires
 turn-requires c κs = search needs
 
 -- what the turn answers at most
-limits : (c : tie.After-turn) → (c .turn .result .taken ≤ 8) × (2 * c .turn .result .writes ≤ 36)
-limits c = let s = c .before .before .before .args .session in rw (c .turn .ensures .0) (few-taken s 36, turn-at-most s 36 .writes)
+limits : (c : tie.After-turn) → (c .turn .result .taken ≤ 8) × (2 * c .turn .result .writes ≤ turnRoom)
+unfolding turnRoom
+limits c = let s = c .before .before .before .args .session in rw (c .turn .ensures .0) (few-taken s turnRoom, turn-at-most s turnRoom .writes)
 
 put-takes-requires : tie.Need-put-takes-requires
 unfolding replyRoom
@@ -28,7 +29,7 @@ slice-aggregate-put-sets : tie.Need-slice-aggregate-put-sets
 slice-aggregate-put-sets c = search needs
 
 put-sets-requires : tie.Need-put-sets-requires
-unfolding replyRoom
+unfolding turnRoom replyRoom
 put-sets-requires c κs =
     let turn = c .before .before .before .before .before .before .before .before in
     let t = turn .turn .result in
@@ -36,7 +37,7 @@ put-sets-requires c κs =
     (omega arith, omega (arith, takes-length (t .plan) (t .taken)))
 
 put-answer-requires : tie.Need-put-answer-requires
-unfolding replyRoom
+unfolding turnRoom replyRoom
 put-answer-requires c κs =
     let turn = c .before .before .before .before .before .before .before .before .before .before .before .before in
     let t = turn .turn .result in
