@@ -14,8 +14,8 @@ ghost use mathlib.Core.Path.{_≡_};
 ghost use Prim.Native.Nat.{_≤_};
 ghost use lib.ListN.{length};
 
-// The calls, as a record of six numbers begins with them. Then follow the device, the usable set and the fixed enables, or the id and a
-// request's four numbers, or the length of the slice that a turn is lent.
+// The calls, as a record of six numbers begins with them. Then follow the device, the usable set, the fixed enables and the box, or the id
+// and a request's four numbers, or the length of the slice that a turn is lent.
 const OPEN: u64 = 0;
 
 const ADD: u64 = 1;
@@ -23,7 +23,7 @@ const ADD: u64 = 1;
 const DROP: u64 = 2;
 
 // The longest slice that a turn is lent.
-const ROOM: u64 = 36;
+const ROOM: u64 = 40;
 
 // A request from a row of four numbers.
 fn request_of(kind: u64, a: u64, b: u64, c: u64) -> Request {
@@ -64,17 +64,17 @@ fn number(answer: Answer) -> u64 {
 
 // Where a slice of this length ends, behind the first three numbers.
 fn slice_end(room: u64) -> usize
-    ensures { λ r. ⌜ (3 ≤ r) × (r ≤ 39) ⌝ }
+    ensures { λ r. ⌜ (3 ≤ r) × (r ≤ 43) ⌝ }
 {
     if room < ROOM {
         return room as usize + 3;
     }
-    39
+    43
 }
 
 // A turn that is lent the front of what follows the first three numbers: its answer, the number taken and the number of writes.
 fn answered_turn(session: Session, room: u64, out: &mut [u64]) -> Session
-    requires { ⌜ length (now out) ≡ 39 ⌝ }
+    requires { ⌜ length (now out) ≡ 43 ⌝ }
 {
     let end = slice_end(room);
     let answered = turn(session, &mut out[3..end]);
@@ -97,13 +97,14 @@ fn called(
     c: u64,
     out: &mut [u64],
 ) -> Session
-    requires { ⌜ length (now out) ≡ 39 ⌝ }
+    requires { ⌜ length (now out) ≡ 43 ⌝ }
 {
     if verb == OPEN {
         let opening = Opening {
             device: id,
             usable: CounterSet(kind),
             fixed: a,
+            cbox: b,
         };
         let answered = open(session, opening);
         let answer = answered.answer;
@@ -128,7 +129,7 @@ fn called(
     answered_turn(session, id, out)
 }
 
-// Answers a list of calls, six numbers each, with 39 numbers each: the refusal number or 0, and of a turn the number taken, the number of
+// Answers a list of calls, six numbers each, with 43 numbers each: the refusal number or 0, and of a turn the number taken, the number of
 // writes and the slice. It answers how many calls there was room for, at most 4096.
 #[no_mangle]
 pub extern "C" fn rattle_calls(calls: &[u64], answers: &mut [u64]) -> usize {
@@ -138,12 +139,12 @@ pub extern "C" fn rattle_calls(calls: &[u64], answers: &mut [u64]) -> usize {
         if 4096 <= i {
             return i;
         }
-        if answers.len() / 39 <= i {
+        if answers.len() / 43 <= i {
             return i;
         }
         let at = i * 6;
-        let from = i * 39;
-        let end = from + 39;
+        let from = i * 43;
+        let end = from + 43;
         session = called(
             session,
             calls[at],
@@ -159,13 +160,14 @@ pub extern "C" fn rattle_calls(calls: &[u64], answers: &mut [u64]) -> usize {
     i
 }
 
-// Opens a session with the fixed counters off, adds the requests of the rows, and makes as many turns. It answers the number of writes of the last one.
+// Opens a session with the fixed counters off, on C of box 0, adds the requests of the rows, and makes as many turns. It answers the number of writes of the last one.
 #[no_mangle]
 pub extern "C" fn rattle_turns(device: u64, usable: u64, rows: &[u64], turns: usize) -> usize {
     let opening = Opening {
         device: device,
         usable: CounterSet(usable),
         fixed: 0,
+        cbox: 0,
     };
     let opened = open(new_session(), opening);
     let mut session = opened.session;
@@ -180,7 +182,7 @@ pub extern "C" fn rattle_turns(device: u64, usable: u64, rows: &[u64], turns: us
         session = answered.session;
         i += 1;
     }
-    let mut list: [u64; 36] = [0; 36];
+    let mut list: [u64; 40] = [0; 40];
     let mut writes: usize = 0;
     let mut made: usize = 0;
     while made < turns {

@@ -19,12 +19,13 @@ pub fn event(code: u8, mask: u8, allowed: u64) -> Request {
     }
 }
 
-// The opening of a device with its fixed counters off.
+// The opening of a device with its fixed counters off, at box 0.
 pub fn opening(device: u64, usable: u64) -> Opening {
     Opening {
         device: device,
         usable: CounterSet(usable),
         fixed: 0,
+        cbox: 0,
     }
 }
 
@@ -39,7 +40,7 @@ pub fn added(session: Session, id: u64, request: Request) -> Session {
 
 // The session after a turn.
 pub fn turned(session: Session) -> Session {
-    let mut list: [u64; 36] = [0; 36];
+    let mut list: [u64; 44] = [0; 44];
     let answered = turn(session, &mut list);
     print::turn(answered, &list);
     let next = answered.session;

@@ -101,6 +101,7 @@ fn opening(s: Session) {
     match device {
         Device::G => text(b"session G"),
         Device::S => text(b"session S"),
+        Device::C(_) => text(b"session C"),
     }
     field(setup.usable.0);
     text(b" len");
@@ -181,9 +182,9 @@ fn write(address: u64, value: u64) {
 }
 
 // A write list of `count` writes.
-fn writes(list: &[u64; 36], count: usize) {
+fn writes(list: &[u64; 44], count: usize) {
     let mut i: usize = 0;
-    while i < 18 {
+    while i < 22 {
         if i < count {
             write(list[2 * i], list[2 * i + 1]);
         }
@@ -192,7 +193,7 @@ fn writes(list: &[u64; 36], count: usize) {
 }
 
 // A turn: its plan, its writes, and its answer.
-pub fn turn(t: TurnAnswered, list: &[u64; 36]) {
+pub fn turn(t: TurnAnswered, list: &[u64; 44]) {
     plan(t);
     writes(list, t.writes);
     let a = t.answer;

@@ -8,5 +8,6 @@ pub fn opening(at: [u64; 20]) -> Opening {
         device: at[1],
         usable: CounterSet(at[2]),
         fixed: at[3],
+        cbox: at[4],
     }
 }

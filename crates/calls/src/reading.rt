@@ -11,6 +11,10 @@ use layouts::Reading;
 use layouts::RegisterValues;
 use registers::reader::read;
 use requests::Answer;
+use requests::Opened;
+use requests::Opening;
+use requests::devices::counter_count;
+use requests::devices::setup_of;
 
 // A counter that counts an event: the event, or its filter register with the words.
 fn counted(code: u8, mask: u8, filter: FilterRead) {
@@ -45,11 +49,22 @@ fn state(told: CounterState) {
     }
 }
 
+// How many counters the device of an opening has.
+fn count_of(given: Opening) -> u64 {
+    match setup_of(given) {
+        Opened::With(setup) => {
+            let device = setup.device;
+            counter_count(device)
+        }
+        Opened::Refused(_) => 0,
+    }
+}
+
 // The first counters of a reading.
-fn counters(reading: Reading, count: usize) {
+fn counters(reading: Reading, count: u64) {
     let mut k: usize = 0;
     while k < 8 {
-        if k < count {
+        if (k as u64) < count {
             let counter = reading.counters[k];
             let told = counter.state;
             state(told);
@@ -84,11 +99,12 @@ fn values(numbers: [u64; 20]) -> RegisterValues {
 
 // Reads the registers, and prints what is told of each of the device's counters.
 pub fn reading(numbers: [u64; 20]) {
-    let told = read(opening(numbers), values(numbers));
+    let given = opening(numbers);
+    let told = read(given, values(numbers));
     let answered = told.answer;
     answer(answered);
     match answered {
-        Answer::Accepted => counters(told, 4),
+        Answer::Accepted => counters(told, count_of(given)),
         Answer::Refused(_) => {}
     }
     text(b"\n");

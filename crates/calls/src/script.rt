@@ -78,12 +78,12 @@ fn call(session: Session, line: &[u8], words: Words) -> Session {
     if same(verb, b"turn") && one.fits {
         return turn_call(session, at[1]);
     }
-    let numbers = numbers_in(line, words, b"vldd00-");
+    let numbers = numbers_in(line, words, b"vlddd0-");
     if same(verb, b"open") && numbers.fits {
         let given = numbers.at;
         return open_call(session, given);
     }
-    let values = numbers_in(line, words, b"vldd00-xxxxxxxxxx00");
+    let values = numbers_in(line, words, b"vlddd0-xxxxxxxxxx00");
     if same(verb, b"read") && values.fits {
         let given = values.at;
         return read_call(session, given);

@@ -2,14 +2,25 @@
 use requests::CounterSet;
 use requests::Request;
 
-// Every counter of a device.
+// Every counter of G or S.
 const EVERY: u64 = 15;
+
+// Every counter of a C-Box.
+const EVERY_ON_C: u64 = 63;
 
 pub fn event(code: u8, mask: u8) -> Request {
     Request::Event {
         code: code,
         mask: mask,
         allowed: CounterSet(EVERY),
+    }
+}
+
+pub fn cbox_event(code: u8, mask: u8) -> Request {
+    Request::Event {
+        code: code,
+        mask: mask,
+        allowed: CounterSet(EVERY_ON_C),
     }
 }
 
@@ -39,4 +50,9 @@ pub fn packet() -> Request {
 // At most four requests, in the array that the planner is given.
 pub fn four(a: Request, b: Request, c: Request, d: Request) -> [Request; 8] {
     [a, b, c, d, d, d, d, d]
+}
+
+// At most six.
+pub fn six(a: Request, b: Request, c: Request, d: Request, e: Request, f: Request) -> [Request; 8] {
+    [a, b, c, d, e, f, f, f]
 }

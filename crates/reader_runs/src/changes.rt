@@ -3,6 +3,7 @@ use crate::compare::same;
 use crate::values::changed;
 use crate::values::given;
 use crate::values::looked_at;
+use crate::values::on_device;
 use layouts::Reading;
 use registers::reader::read;
 use requests::Answer;
@@ -27,7 +28,7 @@ pub const ANOTHER: u64 = 4;
 const NOT_ACCEPTED: u64 = 15;
 
 // What the reader tells of the values.
-pub fn reading(setup: Setup, values: [u64; 10]) -> Reading {
+pub fn reading(setup: Setup, values: [u64; 12]) -> Reading {
     read(opening_of(setup), given(values))
 }
 
@@ -45,8 +46,8 @@ fn answered(after: Reading) -> u64 {
 }
 
 // What comes of the change of a bit.
-fn outcome(setup: Setup, values: [u64; 10], told: Reading, register: usize, bit: u64) -> u64
-    requires { ⌜ (register < 10) × (bit < 64) ⌝ }
+fn outcome(setup: Setup, values: [u64; 12], told: Reading, register: usize, bit: u64) -> u64
+    requires { ⌜ (register < 12) × (bit < 64) ⌝ }
 {
     let after = reading(setup, changed(values, register, bit));
     if looked_at(setup, values, register) {
@@ -56,8 +57,8 @@ fn outcome(setup: Setup, values: [u64; 10], told: Reading, register: usize, bit:
 }
 
 // How many bits of a register have the outcome.
-fn bits_with(setup: Setup, values: [u64; 10], told: Reading, register: usize, wanted: u64) -> u64
-    requires { ⌜ register < 10 ⌝ }
+fn bits_with(setup: Setup, values: [u64; 12], told: Reading, register: usize, wanted: u64) -> u64
+    requires { ⌜ register < 12 ⌝ }
     ensures { λ r. ⌜ r ≤ 64 ⌝ }
 {
     let mut found: u64 = 0;
@@ -72,14 +73,25 @@ fn bits_with(setup: Setup, values: [u64; 10], told: Reading, register: usize, wa
     found
 }
 
-// How many bits of all registers have the outcome.
-pub fn count(setup: Setup, values: [u64; 10], told: Reading, wanted: u64) -> u64
-    ensures { λ r. ⌜ r ≤ 640 ⌝ }
+// The same, where the device has the register.
+fn bits_on(setup: Setup, values: [u64; 12], told: Reading, register: usize, wanted: u64) -> u64
+    requires { ⌜ register < 12 ⌝ }
+    ensures { λ r. ⌜ r ≤ 64 ⌝ }
+{
+    if on_device(setup, register) {
+        return bits_with(setup, values, told, register, wanted);
+    }
+    0
+}
+
+// How many bits of all registers of the device have the outcome.
+pub fn count(setup: Setup, values: [u64; 12], told: Reading, wanted: u64) -> u64
+    ensures { λ r. ⌜ r ≤ 768 ⌝ }
 {
     let mut total: u64 = 0;
     let mut register: usize = 0;
-    while register < 10 {
-        total += bits_with(setup, values, told, register, wanted);
+    while register < 12 {
+        total += bits_on(setup, values, told, register, wanted);
         register += 1;
     }
     total

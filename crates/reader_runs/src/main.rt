@@ -7,11 +7,13 @@ mod print;
 mod run;
 mod values;
 
+use crate::asked::cbox_event;
 use crate::asked::event;
 use crate::asked::four;
 use crate::asked::latency;
 use crate::asked::offcore;
 use crate::asked::packet;
+use crate::asked::six;
 use crate::run::run;
 use requests::CounterSet;
 use requests::Device;
@@ -30,6 +32,15 @@ fn g(usable: u64, fixed: u64) -> Setup {
 fn s(usable: u64) -> Setup {
     Setup {
         device: Device::S,
+        usable: CounterSet(usable),
+        fixed: 0,
+    }
+}
+
+// A C-Box with a usable set.
+fn c(usable: u64, cbox: u64) -> Setup {
+    Setup {
+        device: Device::C(cbox),
         usable: CounterSet(usable),
         fixed: 0,
     }
@@ -75,7 +86,30 @@ fn on_s() {
     run(s(14), one, 2);
 }
 
+fn on_c() {
+    let maf = cbox_event(0x1F, 0x00);
+    let listed = six(
+        cbox_event(0x19, 0x00),
+        cbox_event(0x1B, 0x00),
+        maf,
+        cbox_event(0x23, 0x00),
+        cbox_event(0x0B, 0x07),
+        cbox_event(0x28, 0xA5),
+    );
+    let masked = four(
+        cbox_event(0x0B, 0x18),
+        cbox_event(0x14, 0x05),
+        cbox_event(0x09, 0x7F),
+        maf,
+    );
+    run(c(63, 0), listed, 0);
+    run(c(63, 0), listed, 6);
+    run(c(48, 1), four(maf, maf, maf, maf), 1);
+    run(c(62, 7), masked, 3);
+}
+
 fn main() {
     on_g();
     on_s();
+    on_c();
 }

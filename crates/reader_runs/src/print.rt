@@ -4,6 +4,7 @@ use layouts::FilterRead;
 use layouts::Reading;
 use requests::Device;
 use requests::Setup;
+use requests::devices::counter_count;
 
 // Standard output.
 const OUT: i32 = 1;
@@ -26,6 +27,19 @@ fn device(d: Device) {
     match d {
         Device::G => text(b"G"),
         Device::S => text(b"S"),
+        Device::C(_) => text(b"C"),
+    }
+}
+
+// The box, where the device has several.
+fn cbox(d: Device) {
+    match d {
+        Device::G => {}
+        Device::S => {}
+        Device::C(number) => {
+            text(b" box ");
+            decimal(number);
+        }
     }
 }
 
@@ -40,6 +54,7 @@ pub fn setup(s: Setup) {
         text(b" fixed ");
         decimal(s.fixed);
     }
+    cbox(on);
 }
 
 // The filter register and its words.
@@ -76,15 +91,24 @@ fn state(s: CounterState) {
     }
 }
 
-// Counters 0 to 3.
-pub fn counters(reading: Reading) {
+// A line for a counter.
+fn counter(k: u64, told: CounterState) {
+    decimal(k);
+    state(told);
+    text(b"\n");
+}
+
+// The counters of the device.
+pub fn counters(s: Setup, reading: Reading) {
+    let device = s.device;
+    let count = counter_count(device);
     let mut k: usize = 0;
-    while k < 4 {
-        let counter = reading.counters[k];
-        let told = counter.state;
-        decimal(k as u64);
-        state(told);
-        text(b"\n");
+    while k < 8 {
+        if (k as u64) < count {
+            let told = reading.counters[k];
+            let does = told.state;
+            counter(k as u64, does);
+        }
         k += 1;
     }
 }

@@ -11,7 +11,7 @@ use requests::Request;
 use requests::Setup;
 
 // The write list of the first plan, and the number of its writes.
-fn planned(setup: Setup, requests: [Request; 8], count: usize, list: &mut [u64; 36]) -> usize {
+fn planned(setup: Setup, requests: [Request; 8], count: usize, list: &mut [u64; 44]) -> usize {
     let device = setup.device;
     let found = first_plan(setup, requests, count);
     let places = found.places;
@@ -23,7 +23,7 @@ fn planned(setup: Setup, requests: [Request; 8], count: usize, list: &mut [u64; 
 }
 
 // What comes of one bit changed.
-fn one_bit_changed(setup: Setup, values: [u64; 10], told: Reading) {
+fn one_bit_changed(setup: Setup, values: [u64; 12], told: Reading) {
     let same = changes::count(setup, values, told, changes::SAME);
     let another = changes::count(setup, values, told, changes::ANOTHER);
     print::text(b"one bit changed: accepted ");
@@ -39,7 +39,7 @@ fn one_bit_changed(setup: Setup, values: [u64; 10], told: Reading) {
 
 // The first plan of the first `count` requests, written, read, and read with one bit changed.
 pub fn run(setup: Setup, requests: [Request; 8], count: usize) {
-    let mut list: [u64; 36] = [0; 36];
+    let mut list: [u64; 44] = [0; 44];
     let writes = planned(setup, requests, count, &mut list);
     let values = after(&list, writes);
     print::setup(setup);
@@ -47,6 +47,6 @@ pub fn run(setup: Setup, requests: [Request; 8], count: usize) {
     print::decimal(writes as u64);
     print::text(b"\n");
     let told = changes::reading(setup, values);
-    print::counters(told);
+    print::counters(setup, told);
     one_bit_changed(setup, values, told);
 }

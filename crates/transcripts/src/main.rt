@@ -1,4 +1,4 @@
-// Two long mixed transcripts, one for each device, the two examples, and one with fixed counters on, each in a session of its own.
+// Three long mixed transcripts, one for each device, the two examples, and one with fixed counters on, each in a session of its own.
 // The blocks are short and the output has room for little more than one reply, so lines are cut, and blocks are answered in parts.
 use libc::STDOUT_FILENO;
 
@@ -21,4 +21,5 @@ fn main() {
     answer_file(b"lab.txt");
     answer_file(b"field.txt");
     answer_file(b"clock.txt");
+    answer_file(b"c.txt");
 }

@@ -13,7 +13,7 @@ abbrev μ-loop : tie.MeasureT-loop
 μ-loop device usable rows turns session₀ i₀ session i = length rows / 4 - i
 
 abbrev Inv-loop2 : tie.InvT-loop2
-Inv-loop2 device usable rows turns session₀ i list₀ writes₀ made₀ session list writes made = (made ≤ turns) × (length list ≡ 36)
+Inv-loop2 device usable rows turns session₀ i list₀ writes₀ made₀ session list writes made = (made ≤ turns) × (length list ≡ 40)
 
 abbrev μ-loop2 : tie.MeasureT-loop2
 μ-loop2 device usable rows turns session₀ i list₀ writes₀ made₀ session list writes made = turns - made

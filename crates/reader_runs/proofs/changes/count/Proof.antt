@@ -1,14 +1,14 @@
--- `reader_runs::changes::count` finds at most 640 and ends: 64 at most in each of the registers passed, at most 10, and the measure is what is left of 10.
+-- `reader_runs::changes::count` finds at most 768 and ends: 64 at most in each of the registers passed, at most 12, and the measure is what is left of 12.
 use Prim.Native.Nat.{_≤_, _*_, _-_}
 use borrow.Author.Needs.{needs}
 use Rattle.reader_runs.proofs.changes.count.Statement.{statement}
 use Rattle.reader_runs.proofs.changes.count.Tie as tie
 
 abbrev Inv-loop : tie.InvT-loop
-Inv-loop setup values told wanted total₀ register₀ total register = (register ≤ 10) × (total ≤ 64 * register)
+Inv-loop setup values told wanted total₀ register₀ total register = (register ≤ 12) × (total ≤ 64 * register)
 
 abbrev μ-loop : tie.MeasureT-loop
-μ-loop setup values told wanted total₀ register₀ total register = 10 - register
+μ-loop setup values told wanted total₀ register₀ total register = 12 - register
 
 pub count-spec : {M : Type 1} → statement M
 count-spec =
