@@ -37,8 +37,8 @@ pub fn fixed_count(d: Device) -> u64
 {
     match d {
         Device::G => 3,
-        Device::S => 0,
-        Device::C(_) => 0,
+        Device::S => 0, // none
+        Device::C(_) => 0, // none
     }
 }
 
