@@ -34,7 +34,7 @@ given-last ps p l =
     let rest = replicate (8 - suc (length ps)) nothing in
     rw (past, longer, map-last ps p) (set-at (map give ps) nothing rest (give p) (length ps) (length-map ps give) ∙ sym (append-snoc (map give ps) (give p) rest))
 
-places-length : (code i : ℕ) (rs : List Request) → length (placesFrom code i rs) ≡ length rs
+pub places-length : (code i : ℕ) (rs : List Request) → length (placesFrom code i rs) ≡ length rs
 unfolding placesFrom
 places-length code i [] = refl
 places-length code i (r ∷ rs) = ap suc (places-length code (i + 1) rs)
@@ -46,15 +46,19 @@ places-last code i (q ∷ rs) r =
     let s : i + 1 + length rs ≡ i + suc (length rs) = omega arith in
     ap (λ (l : List Place). placeAt code i q ∷ l) (rw (← s) (places-last code (i + 1) rs r))
 
+-- the place of row i behind those of the rows in front
+pub place-behind : (code : ℕ) (rows : List ℕ) (i : ℕ) (r : Request) (p : Place) → r ≡ requestAt rows i → p ≡ placeAt code i r
+    → placesFrom code 0 (rowsFrom rows 0 (i + 1)) ≡ placesFrom code 0 (rowsFrom rows 0 i) ++ (p ∷ [])
+place-behind code rows i r p e f =
+    let more : rowsFrom rows 0 (i + 1) ≡ rowsFrom rows 0 i ++ (r ∷ []) = rw (add-one i) (rows-last rows 0 i ∙ rw (zero-add i, e)) in
+    rw more (places-last code 0 (rowsFrom rows 0 i) r ∙ rw (rows-length rows 0 i, zero-add i, f))
+
 -- the place of row i is laid behind those of the rows in front
 pub place-laid : (code : ℕ) (rows : List ℕ) (i : ℕ) (places : List Given) (r : Request) (p : Place) → i < 8 → r ≡ requestAt rows i → p ≡ placeAt code i r
     → places ≡ given (placesFrom code 0 (rowsFrom rows 0 i)) → set places i (give p) ≡ given (placesFrom code 0 (rowsFrom rows 0 (i + 1)))
 place-laid code rows i places r p l e f g =
     let long : length (placesFrom code 0 (rowsFrom rows 0 i)) ≡ i = places-length code 0 (rowsFrom rows 0 i) ∙ rows-length rows 0 i in
-    let more : rowsFrom rows 0 (i + 1) ≡ rowsFrom rows 0 i ++ (r ∷ []) = rw (add-one i) (rows-last rows 0 i ∙ rw (zero-add i, e)) in
-    let last : placesFrom code 0 (rowsFrom rows 0 (i + 1)) ≡ placesFrom code 0 (rowsFrom rows 0 i) ++ (p ∷ []) =
-    rw more (places-last code 0 (rowsFrom rows 0 i) r ∙ rw (rows-length rows 0 i, zero-add i, f)) in
-    rw (g, last) (rw long at (given-last (placesFrom code 0 (rowsFrom rows 0 i)) p (omega (arith, long))))
+    rw (g, place-behind code rows i r p e f) (rw long at (given-last (placesFrom code 0 (rowsFrom rows 0 i)) p (omega (arith, long))))
 
 pub found-none : (x : ℕ) (o : Option (List Place)) (rows : List ℕ) (places : List Given) → x ≡ packed o → x ≡ 0 → places ≡ given (placesFrom 0 0 (rowsFrom rows 0 0))
     → record { found = false; places = places } ≡ foundOf o

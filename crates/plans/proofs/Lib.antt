@@ -12,7 +12,7 @@ mod Leaving
 mod Admitting
 mod Trying
 mod SecondCounters
-mod Giving
+pub mod Giving
 pub mod PlanTestHolds
 pub mod Sublists
 pub mod PartialPlans
@@ -23,3 +23,5 @@ pub mod PlanLengthHolds
 pub mod PartsHold
 pub mod AcceptanceTests
 pub mod ReachHolds
+pub mod ExtendsHold
+mod FreeBeside

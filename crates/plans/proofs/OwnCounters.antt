@@ -39,7 +39,7 @@ masked d set all e = rw (ap (λ (x : CounterSet). x .0) e) (and-mask (set .0) (c
 pub own-below : (d : Device) (set : CounterSet) → ownSet d set .0 < 2 ^ counterCount d
 own-below d set = mod-lt (set .0) (pow-pos (counterCount d))
 
-has-own : (d : Device) (set : CounterSet) (k : ℕ) → k < counterCount d → has (ownSet d set) k ≡ has set k
+pub has-own : (d : Device) (set : CounterSet) (k : ℕ) → k < counterCount d → has (ownSet d set) k ≡ has set k
 unfolding has bit
 has-own d set k l =
     let n = counterCount d in

@@ -46,11 +46,11 @@ bit-self (suc k) s h b =
 abbrev pub less : CounterSet → ℕ → CounterSet
 less s k = record { 0 = s .0 - 2 ^ k }
 
-has-other : (s : CounterSet) (k j : ℕ) → has s k ≡ true → (k ≡ j → ⊥) → has (less s k) j ≡ has s j
+pub has-other : (s : CounterSet) (k j : ℕ) → has s k ≡ true → (k ≡ j → ⊥) → has (less s k) j ≡ has s j
 unfolding has bit
 has-other s k j h d = ap (λ (x : ℕ). eqb x 1) (bit-other k j (s .0) d (eqb-true _ _ h) (has-le s k h))
 
-has-self : (s : CounterSet) (k j : ℕ) → has s k ≡ true → has (less s k) j ≡ true → k ≡ j → ⊥
+pub has-self : (s : CounterSet) (k j : ℕ) → has s k ≡ true → has (less s k) j ≡ true → k ≡ j → ⊥
 unfolding has bit
 has-self s k j h g e =
     let one : (s .0 - 2 ^ k) / 2 ^ j % 2 ≡ 1 = eqb-true _ _ g in

@@ -128,7 +128,8 @@ placed-code n few none-left = omega arith
 placed-code n few (next {r = r} {k = k} {j = j} f g a d) =
     omega (arith, placed-code n few d, f, g, width-fits n r few, place-first r k j, place-second n r k j g)
 
-plan-code : (n : ℕ) → n ≤ 8 → (rs : List Request) (m : Room) → length rs ≤ 7 → packed (planIn n rs m) < 8796093022208
+-- the plan of at most 7 requests is below 2^43
+pub plan-code : (n : ℕ) → n ≤ 8 → (rs : List Request) (m : Room) → length rs ≤ 7 → packed (planIn n rs m) < 8796093022208
 unfolding packed
 plan-code n few rs m l = go (planIn n rs m) refl
   where
@@ -136,7 +137,6 @@ plan-code n few rs m l = go (planIn n rs m) refl
     go none e = omega arith
     go (some ps) e = omega (arith, placed-code n few (plan-placed n rs m ps e), limit-le (length rs) l)
 
--- the plan of at most 7 requests is below 2^43
 pub rest-code : (n : ℕ) → n ≤ 8 → (rows : List ℕ) (at count : ℕ) (a : Admission) (x : ℕ) → count - at ≤ 7 → x ≡ packed (planAfter n rows at count a) → x < 8796093022208
 unfolding packed
 rest-code n few rows at count (Admitted m) x l e = rw e (plan-code n few (rowsFrom rows at (count - at)) m (omega (arith, rows-length rows at (count - at))))

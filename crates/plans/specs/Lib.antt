@@ -10,6 +10,7 @@ pub mod PlanTest
 pub mod PlanLength
 pub mod Parts
 pub mod Reach
+pub mod Extends
 pub mod PlanTries
 -- The code's own: how it holds its values. No claim.
 pub mod Found
@@ -19,3 +20,4 @@ pub mod Left
 pub mod Filters
 pub mod Remaining
 pub mod Packed
+pub mod Beside

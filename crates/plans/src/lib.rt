@@ -3,6 +3,7 @@ use requests::CounterSet;
 use requests::devices::CAPACITY;
 
 mod counters;
+pub mod extend;
 mod filters;
 pub mod first_plan;
 mod latency;
