@@ -18,7 +18,7 @@ ghost use mathlib.Core.Path.{_≡_};
 ghost use Prim.Native.Nat.{_≤_};
 ghost use lib.ListN.{length, replicate};
 ghost use Rattle.sessions.specs.Sessions.{turnOf, turnSlice};
-ghost use Rattle.answers.specs.Replies.{replyOf, turnReply, turnRoom, recordReply};
+ghost use Rattle.answers.specs.Replies.{replyOf, turnReply, turnRoom};
 ghost use Rattle.answers.specs.Written.{replyRoom, repliedIn, repliedOut};
 ghost use Rattle.answers.specs.Texts.{Delivered};
 
@@ -61,20 +61,8 @@ fn turn_reply(session: Session, out: &mut [u8]) -> Replied
     }
 }
 
-// The reply to a record.
-fn record_reply(session: Session, asked: Record, out: &mut [u8]) -> Replied
-    requires { ⌜ replyRoom ≤ length (now out) ⌝ }
-    ensures { λ r. ⌜ Delivered (recordReply session asked) (now (out .entry)) (now (out .exit)) r ⌝ }
-{
-    match asked {
-        Record::Open(setup) => call_reply(open(session, opening_of(setup)), out),
-        Record::Add { id, request } => call_reply(add(session, id, request), out),
-        Record::Drop { id } => call_reply(drop_request(session, id), out),
-        Record::Turn => turn_reply(session, out),
-    }
-}
-
 // The reply to what a line is, at the start of a slice that has room for any reply; in a shorter one nothing is done.
+// What the calls answer meets before it is written, so that the session is copied once on each way.
 pub fn reply(session: Session, parsed: Parsed, out: &mut [u8]) -> Replied
     ensures { λ r. ⌜ r ≡ repliedIn session parsed (length (now (out .entry))) ⌝ }
     ensures { λ _. ⌜ now (out .exit) ≡ repliedOut session parsed (now (out .entry)) ⌝ }
@@ -85,14 +73,17 @@ pub fn reply(session: Session, parsed: Parsed, out: &mut [u8]) -> Replied
             written: 0,
         };
     }
-    match parsed {
-        Parsed::Line(record) => record_reply(session, record, out),
-        Parsed::Fault(_) => {
-            let written = put_answer(out, 0, Answer::Refused(Refusal::NotInGrammar));
-            Replied {
-                session: session,
-                written: written,
-            }
-        }
-    }
+    let answered = match parsed {
+        Parsed::Fault(_) => Answered {
+            answer: Answer::Refused(Refusal::NotInGrammar),
+            session: session,
+        },
+        Parsed::Line(record) => match record {
+            Record::Turn => return turn_reply(session, out),
+            Record::Open(setup) => open(session, opening_of(setup)),
+            Record::Drop { id } => drop_request(session, id),
+            Record::Add { id, request } => add(session, id, request),
+        },
+    };
+    call_reply(answered, out)
 }

@@ -2,7 +2,7 @@
 -- and the places past it are filled one after another. Assumes nothing.
 use mathlib.Core.Path.{_≡_, refl, ap}
 use Prim.Native.Nat.{ℕ, zero, suc, _+_, _-_, _<_, _≤_}
-use mathlib.Core.List.{List, [], _∷_, _++_, append-assoc}
+use mathlib.Core.List.{List, [], _∷_, _++_, append-assoc, append-nil}
 use native.Mathlib.Numerals.{add-one}
 use native.Mathlib.Omega.{arith}
 use lib.ListN.{length, take, set, replicate, length-append}
@@ -25,3 +25,13 @@ module _ {A : Type 0} (d : A) where
   filled-next front l k i past room so-far =
       let m : i + 1 - k ≡ suc (i - k) = omega arith in
       rw (m, add-one i, take-suc-set l i d room, so-far, append-assoc) (ap (λ (x : List A). front ++ x) (replicate-next (i - k)))
+
+  -- no place is filled yet
+  pub filled-none : (front : List A) (k : ℕ) → front ≡ front ++ replicate (k - k) d
+  filled-none front k = let none : k - k ≡ 0 = omega arith in rw (none, append-nil front)
+
+  -- a filled place filled again
+  pub filled-again : (n k : ℕ) → set (replicate n d) k d ≡ replicate n d
+  filled-again zero k = refl
+  filled-again (suc n) zero = refl
+  filled-again (suc n) (suc k) = ap (λ (l : List A). d ∷ l) (filled-again n k)

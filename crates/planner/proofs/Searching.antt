@@ -1,24 +1,30 @@
 -- What the search answers over the rows of a turn: with one request more behind those taken, and of one request alone; and the number of
 -- usable counters, past which nothing is searched. Assumes nothing.
 use mathlib.Core.Path.{_≡_, refl, ap, sym, _∙_}
-use Prim.Native.Nat.{ℕ, _+_, _≤_, _<_}
-use mathlib.Core.Bool.{false, not, Bool·not-not}
+use Prim.Native.Nat.{ℕ, _+_, _*_, _^_, _≤_, _<_}
+use mathlib.Core.Bool.{true, false, not, Bool·not-not}
 use mathlib.Core.List.{List, [], _∷_, _++_}
+use mathlib.Core.Option.{some}
 use native.Mathlib.Numerals.{add-one}
+use native.Mathlib.Omega.{arith}
 use lib.Dec.{eqb}
 use lib.ListN.{length, take}
 use lib.Seq.{take-at}
 use Rattle.requests.specs.declared.Setup.{Setup}
 use Rattle.requests.specs.declared.Request.{Request}
-use Rattle.requests.specs.Devices.{size}
+use Rattle.requests.specs.Devices.{size, counterCount, capacity}
 use Rattle.plans.specs.Legal.{HasPlan}
-use Rattle.plans.specs.Search.{firstPlan, hasPlan}
+use Rattle.plans.specs.declared.Place.{Place}
+use Rattle.plans.specs.Search.{emptyRoom, planIn, firstPlan, hasPlan}
 use Rattle.plans.specs.Parts.{usableCount}
 use Rattle.plans.specs.Rows.{requestAt, rowsFrom, setRequest}
-use Rattle.plans.specs.Packed.{packed}
+use Rattle.plans.specs.Packed.{packed, placesFrom}
+use Rattle.plans.specs.Beside.{Beside, event}
 use Rattle.plans.proofs.FirstFound.{first-plan}
 use Rattle.plans.proofs.RequestRows.{put-length, rows-length, rows-last, rows-put}
-use Rattle.plans.proofs.Unpacking.{some-packed, none-packed, plan-packed}
+use Rattle.plans.proofs.Unpacking.{some-packed, none-packed, plan-packed, plan-unpacked, plan-code}
+use Rattle.plans.proofs.Giving.{places-length}
+use Rattle.plans.proofs.ExtendsHold.{extends}
 use Rattle.plans.specs.Reach.{leftOf}
 use Rattle.plans.proofs.PlanTestHolds.{plan-test}
 use Rattle.plans.proofs.ReachHolds.{reach}
@@ -76,6 +82,40 @@ searched-rows s rows count r next put back size found e =
       behind = λ exists. behind;
       size = rw (put, put-length) size;
     }
+
+-- ---- an event beside the plan
+
+-- its counter is one of the few that a device has
+pub beside-few : {s : Setup} {ps : List Place} {r : Request} {k : ℕ} → Beside s ps r k → k < 8
+beside-few {s} (event n) = omega (arith, n .unused .0 .0, reach .few (s .device))
+
+-- and the number of the plan has room for it
+pub code-few : (s : Setup) (rows : List ℕ) (count code : ℕ) → code ≡ packed (firstPlan s (rowsFrom rows 0 count)) → count ≤ 7 → code < 8796093022208
+unfolding firstPlan capacity
+code-few s rows count code e h =
+    rw e (plan-code (counterCount (s .device)) (plan-length .device-at-most (s .device)) (rowsFrom rows 0 count) (emptyRoom s) (rw rows-length h))
+
+-- the number of the plan with the event's counter behind it
+extended : (s : Setup) (rs : List Request) (r : Request) (k : ℕ) → (packed (firstPlan s rs) ≡ 0 → ⊥) → Beside s (placesFrom (packed (firstPlan s rs)) 0 rs) r k
+    → packed (firstPlan s rs) + (63 + k * 8) * 2 ^ (6 * length rs) ≡ packed (firstPlan s (rs ++ (r ∷ [])))
+unfolding packed
+extended s rs r k exists b =
+    let f = some-packed (firstPlan s rs) exists in
+    let back = plan-unpacked s rs (f .0) (f .1) in
+    let long : length rs ≡ length (f .0) = sym (places-length (packed (firstPlan s rs)) 0 rs) ∙ ap length back in
+    go (f .0) (f .1) long (rw back at b)
+  where
+    go : {q : Request} (ps : List Place) → firstPlan s rs ≡ some ps → length rs ≡ length ps → Beside s ps q k
+        → packed (firstPlan s rs) + (63 + k * 8) * 2 ^ (6 * length rs) ≡ packed (firstPlan s (rs ++ (q ∷ [])))
+    go ps e long (event {c = c} {m = m} {a = a} n) = rw (extends .event s rs c m a ps k n e, e, long) (sym (extends .number ps k))
+
+pub searched-extended : (s : Setup) (rows : List ℕ) (count : ℕ) (r : Request) (next : List ℕ) → next ≡ setRequest rows count r → requestAt next count ≡ r → length rows ≡ 32
+    → (code : ℕ) → code ≡ packed (firstPlan s (rowsFrom rows 0 count)) → (code ≡ 0 → ⊥) → (k : ℕ) → Beside s (placesFrom code 0 (rowsFrom rows 0 count)) r k
+    → (found : ℕ) → found ≡ code + (63 + k * 8) * 2 ^ (6 * count) → Searched s rows count r next found
+searched-extended s rows count r next put back size code e exists k b found f =
+    let rs = rowsFrom rows 0 count in
+    let more = rw rows-length at (extended s rs r k (λ z. exists (e ∙ z)) (rw e at b)) in
+    searched-rows s rows count r next put back size found (f ∙ rw (e, rows-put rows next count r put back) more)
 
 -- ---- one request
 

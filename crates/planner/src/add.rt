@@ -1,7 +1,8 @@
 // add: a request enters the queue at the back.
 use crate::ids::outside_ids;
-use crate::queue::waits;
-use crate::queue::with_entry;
+use crate::queue::bounded;
+use crate::queue::vacant;
+use plans::extend::counter_alone;
 use plans::rows::ROW_NUMBERS;
 use plans::rows::put_request;
 use plans::search::plan_rows;
@@ -18,20 +19,24 @@ ghost use mathlib.Core.Path.{_≡_};
 ghost use mathlib.Core.List.{_∷_, []};
 ghost use Rattle.requests.specs.Refusals.{answerFor};
 ghost use Rattle.plans.specs.Search.{hasPlan};
-ghost use Rattle.sessions.specs.Calls.{Add};
-ghost use Rattle.sessions.specs.Sessions.{refusedBy, addOf};
+ghost use Rattle.sessions.specs.Calls.{Add, waits};
+ghost use Rattle.sessions.specs.Sessions.{queued, refusedBy, addOf};
 
 // Whether the request has a plan alone.
 fn plans_alone(setup: Setup, request: Request) -> bool
     ensures { λ r. ⌜ r ≡ hasPlan setup (request ∷ []) ⌝ }
 {
+    if counter_alone(setup, request) {
+        return true;
+    }
     let mut rows: [u64; ROW_NUMBERS] = [0; ROW_NUMBERS];
     put_request(&mut rows, 0, request);
     plan_rows(setup, &rows, 1) != 0
 }
 
-// The answer to an add, by the refusal table.
-fn add_answer(session: Session, id: u64, request: Request) -> Answer
+// The answer to an add, by the refusal table, told whether the id is waiting.
+fn add_answer(session: Session, waiting: bool, id: u64, request: Request) -> Answer
+    requires { ⌜ waiting ≡ waits id (queued session) ⌝ }
     ensures { λ r. ⌜ r ≡ answerFor (refusedBy session (Add id request)) ⌝ }
 {
     let opened = session.opened;
@@ -41,7 +46,7 @@ fn add_answer(session: Session, id: u64, request: Request) -> Answer
     if outside_ids(id) {
         return Answer::Refused(Refusal::BadId);
     }
-    if waits(session, id) {
+    if waiting {
         return Answer::Refused(Refusal::IdWaiting);
     }
     let setup = session.setup;
@@ -59,24 +64,45 @@ fn add_answer(session: Session, id: u64, request: Request) -> Answer
 }
 
 // Places a request with its id at the back of the queue.
+// The queue is looked through and changed here, in one copy: a call that indexes it makes a copy of its own.
 pub fn add(session: Session, id: u64, request: Request) -> Answered
     ensures { λ r. ⌜ r ≡ addOf session id request ⌝ }
 {
-    let answer = add_answer(session, id, request);
-    match answer {
-        Answer::Refused(_) => Answered {
-            answer: answer,
-            session: session,
-        },
-        Answer::Accepted => {
-            let entry = Entry {
-                id: id,
-                request: request,
-            };
-            Answered {
-                answer: answer,
-                session: with_entry(session, entry),
-            }
+    let n = bounded(session.len);
+    let mut queue = session.queue;
+    let mut at = 0;
+    while at < n {
+        let entry = queue[at];
+        if id == entry.id {
+            break;
         }
+        at += 1;
+    }
+    let answer = add_answer(session, at < n, id, request);
+    let mut len = session.len;
+    if let Answer::Accepted = answer {
+        queue[n] = Entry {
+            id: id,
+            request: request,
+        };
+        let empty = vacant();
+        let mut k = n + 1;
+        while k < QUEUE_LIMIT {
+            queue[k] = empty;
+            k += 1;
+        }
+        len = n + 1;
+    }
+    let opened = session.opened;
+    let setup = session.setup;
+    let next = Session {
+        opened: opened,
+        setup: setup,
+        queue: queue,
+        len: len,
+    };
+    Answered {
+        answer: answer,
+        session: next,
     }
 }

@@ -1,18 +1,20 @@
 // drop: a request leaves the queue.
 use crate::ids::outside_ids;
-use crate::queue::waits;
-use crate::queue::without_id;
+use crate::queue::bounded;
+use crate::queue::vacant;
 use requests::Answer;
 use requests::Refusal;
 use sessions::Answered;
+use sessions::QUEUE_LIMIT;
 use sessions::Session;
 ghost use mathlib.Core.Path.{_≡_};
 ghost use Rattle.requests.specs.Refusals.{answerFor};
-ghost use Rattle.sessions.specs.Calls.{Drop};
-ghost use Rattle.sessions.specs.Sessions.{refusedBy, dropOf};
+ghost use Rattle.sessions.specs.Calls.{Drop, waits};
+ghost use Rattle.sessions.specs.Sessions.{queued, refusedBy, dropOf};
 
-// The answer to a drop, by the refusal table.
-fn drop_answer(session: Session, id: u64) -> Answer
+// The answer to a drop, by the refusal table, told whether the id is waiting.
+fn drop_answer(session: Session, waiting: bool, id: u64) -> Answer
+    requires { ⌜ waiting ≡ waits id (queued session) ⌝ }
     ensures { λ r. ⌜ r ≡ answerFor (refusedBy session (Drop id)) ⌝ }
 {
     let opened = session.opened;
@@ -22,25 +24,54 @@ fn drop_answer(session: Session, id: u64) -> Answer
     if outside_ids(id) {
         return Answer::Refused(Refusal::BadId);
     }
-    if !waits(session, id) {
+    if !waiting {
         return Answer::Refused(Refusal::IdNotWaiting);
     }
     Answer::Accepted
 }
 
-// Takes the id out of the queue. The others keep their order.
+// Takes the id out of the queue. The others keep their order: they close up in place, from where the id is found on.
 pub fn drop_request(session: Session, id: u64) -> Answered
     ensures { λ r. ⌜ r ≡ dropOf session id ⌝ }
 {
-    let answer = drop_answer(session, id);
-    match answer {
-        Answer::Refused(_) => Answered {
-            answer: answer,
-            session: session,
-        },
-        Answer::Accepted => Answered {
-            answer: answer,
-            session: without_id(session, id),
-        },
+    let n = bounded(session.len);
+    let mut queue = session.queue;
+    let mut at = 0;
+    while at < n {
+        let entry = queue[at];
+        if id == entry.id {
+            break;
+        }
+        at += 1;
+    }
+    let answer = drop_answer(session, at < n, id);
+    let mut len = session.len;
+    if let Answer::Accepted = answer {
+        len = at;
+        for i in at..n {
+            let entry = queue[i];
+            if id != entry.id {
+                queue[len] = entry;
+                len += 1;
+            }
+        }
+        let empty = vacant();
+        let mut k = len;
+        while k < QUEUE_LIMIT {
+            queue[k] = empty;
+            k += 1;
+        }
+    }
+    let opened = session.opened;
+    let setup = session.setup;
+    let next = Session {
+        opened: opened,
+        setup: setup,
+        queue: queue,
+        len: len,
+    };
+    Answered {
+        answer: answer,
+        session: next,
     }
 }

@@ -35,10 +35,14 @@ pub fn new_session() -> Session
 }
 
 // An opened session, with nothing in its queue.
+// A place that is only known when the program runs is made vacant once more: an array of constants alone is cut up by the compiler, and
+// with it every session, which is then copied in many small parts.
 fn opened_with(setup: Setup) -> Session
     ensures { λ r. ⌜ r ≡ sessionOf setup [] ⌝ }
 {
-    let places = [vacant(); QUEUE_LIMIT];
+    let mut places = [vacant(); QUEUE_LIMIT];
+    let usable = setup.usable;
+    places[(usable.0 % 16) as usize] = vacant();
     Session {
         opened: true,
         setup: setup,

@@ -1,6 +1,8 @@
 // What a turn takes and passes over.
 use crate::Chosen;
 use crate::queue::bounded;
+use plans::extend::counter_beside;
+use plans::extend::with_counter;
 use plans::reach::left_at_first;
 use plans::reach::left_by;
 use plans::rows::ROW_NUMBERS;
@@ -20,7 +22,9 @@ ghost use Prim.Native.Nat.{_<_, _≤_};
 ghost use lib.ListN.{length};
 ghost use Rattle.plans.specs.Parts.{usableCount};
 ghost use Rattle.plans.specs.Reach.{leftOf};
+ghost use Rattle.plans.specs.Search.{firstPlan};
 ghost use Rattle.plans.specs.Rows.{rowsFrom};
+ghost use Rattle.plans.specs.Packed.{packed};
 ghost use Rattle.sessions.specs.Sessions.{queued};
 ghost use Rattle.planner.specs.Selections.{Searched, Selected};
 
@@ -47,21 +51,29 @@ fn none_left(usable: CounterSet, left: u64) -> bool
 }
 
 // The plan of the requests taken with one more behind them, packed; 0 where there is none. No plan has more requests than counters are
-// usable, so that nothing is searched once as many are taken, nor where the requests leave no set of counters.
+// usable, so that nothing is searched once as many are taken. Nor is it for an event that has a counter beside the plan of those taken,
+// and where the requests leave no set of counters.
 fn plan_with(
     setup: Setup,
     usable: usize,
     left: u64,
+    code: u64,
     rows: &mut [u64; ROW_NUMBERS],
     count: usize,
     request: Request,
 ) -> u64
     requires { ⌜ (usable ≡ usableCount setup) × (count ≤ usable) × (length (now rows) ≡ 32) ⌝ }
+    requires { ⌜ (code ≡ packed (firstPlan setup (rowsFrom (now rows) 0 count))) × (code ≡ 0 → ⊥) ⌝ }
     requires { ⌜ (setup .usable .0 < 64 → left ≡ leftOf setup (rowsFrom (now rows) 0 count)) ⌝ }
     ensures { λ r. ⌜ Searched setup (now (rows .entry)) count request (now (rows .exit)) r ⌝ }
 {
     if usable <= count {
         return 0;
+    }
+    let counter = counter_beside(setup, code, rows, count, request);
+    if counter < 64 {
+        put_request(rows, count, request);
+        return with_counter(code, count, counter);
     }
     let counters = setup.usable;
     let device = setup.device;
@@ -96,7 +108,7 @@ pub fn select(
     for at in 0..n {
         let entry = session.queue[at];
         let request = entry.request;
-        let found = plan_with(setup, usable, left, rows, count, request);
+        let found = plan_with(setup, usable, left, code, rows, count, request);
         if found == 0 {
             passed[rest] = at;
             rest += 1;

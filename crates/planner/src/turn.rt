@@ -113,23 +113,29 @@ fn turn_accepted(
 }
 
 // Takes the requests that have a plan together, from the front of the queue, and writes their write list into the slice.
+// All answers meet in one local, so that the session is not kept aside for a refusal.
 pub fn turn(session: Session, out: &mut [u64]) -> TurnAnswered
     ensures { λ r. ⌜ r ≡ turnOf session (length (now (out .entry))) ⌝ }
     ensures { λ _. ⌜ now (out .exit) ≡ turnSlice session (now (out .entry)) ⌝ }
 {
     let opened = session.opened;
-    if !opened {
-        return turn_refused(session, Refusal::CallOrder);
+    let mut answered = turn_refused(session, Refusal::CallOrder);
+    if opened {
+        let setup = session.setup;
+        let mut rows: [u64; ROW_NUMBERS] = [0; ROW_NUMBERS];
+        let mut taken: [usize; CAPACITY] = [0; CAPACITY];
+        let mut passed: [usize; QUEUE_LIMIT] = [0; QUEUE_LIMIT];
+        let chosen = select(session, &mut rows, &mut taken, &mut passed);
+        let device = setup.device;
+        let settings = settings_in(device, chosen.code, &rows, chosen.count);
+        match write_list(out, setup, settings) {
+            WriteAnswer::TooShort => {
+                answered = turn_refused(session, Refusal::SliceTooShort);
+            }
+            WriteAnswer::Written(writes) => {
+                answered = turn_accepted(session, &taken, &passed, chosen, writes);
+            }
+        }
     }
-    let setup = session.setup;
-    let mut rows: [u64; ROW_NUMBERS] = [0; ROW_NUMBERS];
-    let mut taken: [usize; CAPACITY] = [0; CAPACITY];
-    let mut passed: [usize; QUEUE_LIMIT] = [0; QUEUE_LIMIT];
-    let chosen = select(session, &mut rows, &mut taken, &mut passed);
-    let device = setup.device;
-    let settings = settings_in(device, chosen.code, &rows, chosen.count);
-    match write_list(out, setup, settings) {
-        WriteAnswer::TooShort => turn_refused(session, Refusal::SliceTooShort),
-        WriteAnswer::Written(writes) => { turn_accepted(session, &taken, &passed, chosen, writes) }
-    }
+    answered
 }

@@ -37,17 +37,14 @@ returns-2 c =
     let b : outsideIds (a .id) ≡ true = sym (c .before .outside-ids .ensures) ∙ c .if2 .taken in
     answer-opened s (Add (a .id) (a .request)) (some BadId) (not-false _ (c .before .before .if1 .left)) (add-bad-id queueLimit (s .setup) (queued s) (a .id) (a .request) b)
 
-waits-requires : tie.Need-waits-requires
-waits-requires c κs = search needs
-
 returns-3 : tie.Need-returns-3
 unfolding answerFor
 returns-3 c =
-    let i = c .before .before in
+    let i = c .before in
     let a = i .before .before .before .args in
     let s = a .session in
     let b : outsideIds (a .id) ≡ false = sym (i .before .outside-ids .ensures) ∙ i .if2 .left in
-    let w : waits (a .id) (queued s) ≡ true = sym (c .before .waits .ensures) ∙ c .if3 .taken in
+    let w : waits (a .id) (queued s) ≡ true = sym (i .before .before .before .pre) ∙ c .if3 .taken in
     answer-opened s (Add (a .id) (a .request)) (some IdWaiting) (not-false _ (i .before .before .if1 .left)) (add-waiting queueLimit (s .setup) (queued s) (a .id) (a .request) b w)
 
 request-refusal-requires : tie.Need-request-refusal-requires
@@ -57,18 +54,17 @@ enum-known-checked : tie.Need-enum-known-checked
 enum-known-checked c = search needs
 
 -- past the first three tests
-late : (c : tie.After-request-refusal) → let a = c .before .before .before .before .before .before .before .args in
+late : (c : tie.After-request-refusal) → let a = c .before .before .before .before .before .before .args in
     (a .session .opened ≡ true) × (outsideIds (a .id) ≡ false) × (waits (a .id) (queued (a .session)) ≡ false)
 late c =
-    let w = c .before .before .before in
-    let i = w .before in
-    (not-false _ (i .before .before .if1 .left), sym (i .before .outside-ids .ensures) ∙ i .if2 .left, sym (w .waits .ensures) ∙ c .before .before .if3 .left)
+    let i = c .before .before .before in
+    (not-false _ (i .before .before .if1 .left), sym (i .before .outside-ids .ensures) ∙ i .if2 .left, sym (i .before .before .before .pre) ∙ c .before .before .if3 .left)
 
 returns-4 : tie.Need-returns-4
 unfolding answerFor
 returns-4 c =
     let p = c .before .before .before in
-    let a = p .before .before .before .before .before .before .before .args in
+    let a = p .before .before .before .before .before .before .args in
     let s = a .session in
     let f = late p in
     let e = answer-some (requestRefusal (s .setup) (a .request)) _ (sym (p .request-refusal .ensures) ∙ c .before .checked .given .1) in
@@ -81,7 +77,7 @@ plans-alone-requires : tie.Need-plans-alone-requires
 plans-alone-requires c κs = search needs
 
 -- past the checks of the request
-formed : (c : tie.After-plans-alone) → let a = c .before .before .before .before .before .before .before .before .before .before .args in
+formed : (c : tie.After-plans-alone) → let a = c .before .before .before .before .before .before .before .before .before .args in
     requestRefusal (a .session .setup) (a .request) ≡ none
 formed c =
     let p = c .before .before .before in
@@ -91,7 +87,7 @@ returns-5 : tie.Need-returns-5
 unfolding answerFor
 returns-5 c =
     let p = c .before in
-    let a = p .before .before .before .before .before .before .before .before .before .before .args in
+    let a = p .before .before .before .before .before .before .before .before .before .args in
     let s = a .session in
     let f = late (p .before .before .before) in
     let n : hasPlan (s .setup) (a .request ∷ []) ≡ false = sym (p .plans-alone .ensures) ∙ not-true _ (c .if4 .taken) in
@@ -105,7 +101,7 @@ unfolding answerFor queueLimit queued
 returns-6 c =
     let i = c .before .before in
     let p = i .before in
-    let b = p .before .before .before .before .before .before .before .before .before .before in
+    let b = p .before .before .before .before .before .before .before .before .before in
     let a = b .args in
     let s = a .session in
     let f = late (p .before .before .before) in
@@ -119,7 +115,7 @@ unfolding answerFor queueLimit queued
 returns-7 c =
     let i = c .before .before in
     let p = i .before in
-    let b = p .before .before .before .before .before .before .before .before .before .before in
+    let b = p .before .before .before .before .before .before .before .before .before in
     let a = b .args in
     let s = a .session in
     let f = late (p .before .before .before) in
@@ -134,7 +130,6 @@ add-answer-spec =
     returns
     outside-ids-requires
     returns-2
-    waits-requires
     returns-3
     request-refusal-requires
     enum-known-checked

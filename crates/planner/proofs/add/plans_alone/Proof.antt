@@ -1,20 +1,25 @@
--- `planner::add::plans_alone` is `hasPlan` of the request alone: by the law on the search over one row.
+-- `planner::add::plans_alone` is `hasPlan` of the request alone: one that takes one counter and has one has a plan; otherwise the search
+-- over the first row decides (`plan-alone`).
+use mathlib.Core.Path.{sym}
+use mathlib.Core.List.{[], _∷_}
 use borrow.Author.Needs.{needs}
+use Rattle.plans.proofs.PlanTestHolds.{plan-test}
 use Rattle.planner.proofs.Searching.{plan-alone}
 use Rattle.planner.proofs.add.plans_alone.Statement.{statement}
 use Rattle.planner.proofs.add.plans_alone.Tie as tie
 
-put-request-requires : tie.Need-put-request-requires
-put-request-requires c κs = search needs
-
-plan-rows-requires : tie.Need-plan-rows-requires
-plan-rows-requires c κs = search needs
-
 returns : tie.Need-returns
 returns c =
+    let a = c .before .before .args in
+    sym (plan-test .planned (a .setup) (a .request ∷ []) (c .before .counter-alone .ensures (c .if1 .taken)))
+
+returns-2 : tie.Need-returns-2
+returns-2 c =
     let p = c .before .before in
-    let a = p .before .before .args in
+    let a = p .before .before .before .before .args in
     plan-alone (a .setup) (a .request) _ _ (p .put-request .ensures .0) (p .put-request .ensures .1) (c .plan-rows .result) (c .plan-rows .ensures)
 
 pub plans-alone-spec : {M : Type 1} → statement M
-plans-alone-spec = tie.close (tie.spec put-request-requires plan-rows-requires returns)
+plans-alone-spec =
+    tie.close
+    (tie.spec (λ c κs. search needs) returns (λ c κs. search needs) (λ c κs. search needs) returns-2)

@@ -30,33 +30,28 @@ returns-2 c =
     let b : outsideIds (a .id) ≡ true = sym (c .before .outside-ids .ensures) ∙ c .if2 .taken in
     answer-opened s (Drop (a .id)) (some BadId) (not-false _ (c .before .before .if1 .left)) (drop-bad-id queueLimit (s .setup) (queued s) (a .id) b)
 
-waits-requires : tie.Need-waits-requires
-waits-requires c κs = search needs
-
 -- past the first two tests
-late : (c : tie.After-waits) → let a = c .before .before .before .before .args in (a .session .opened ≡ true) × (outsideIds (a .id) ≡ false)
-late c =
-    let i = c .before in
-    (not-false _ (i .before .before .if1 .left), sym (i .before .outside-ids .ensures) ∙ i .if2 .left)
+late : (c : tie.Else2) → let a = c .before .before .before .args in (a .session .opened ≡ true) × (outsideIds (a .id) ≡ false)
+late c = (not-false _ (c .before .before .if1 .left), sym (c .before .outside-ids .ensures) ∙ c .if2 .left)
 
 returns-3 : tie.Need-returns-3
 unfolding answerFor
 returns-3 c =
     let p = c .before in
-    let a = p .before .before .before .before .args in
+    let a = p .before .before .before .args in
     let s = a .session in
-    let w : waits (a .id) (queued s) ≡ false = sym (p .waits .ensures) ∙ not-true _ (c .if3 .taken) in
+    let w : waits (a .id) (queued s) ≡ false = sym (p .before .before .before .pre) ∙ not-true _ (c .if3 .taken) in
     answer-opened s (Drop (a .id)) (some IdNotWaiting) (late p .0) (drop-not-waiting queueLimit (s .setup) (queued s) (a .id) (late p .1) w)
 
 returns-4 : tie.Need-returns-4
 unfolding answerFor
 returns-4 c =
     let p = c .before in
-    let a = p .before .before .before .before .args in
+    let a = p .before .before .before .args in
     let s = a .session in
-    let w : waits (a .id) (queued s) ≡ true = sym (p .waits .ensures) ∙ not-false _ (c .if3 .left) in
+    let w : waits (a .id) (queued s) ≡ true = sym (p .before .before .before .pre) ∙ not-false _ (c .if3 .left) in
     answer-opened s (Drop (a .id)) none (late p .0) (drop-accepted queueLimit (s .setup) (queued s) (a .id) (late p .1) w)
 
 pub drop-answer-spec : {M : Type 1} → statement M
 drop-answer-spec =
-    tie.close (tie.spec returns outside-ids-requires returns-2 waits-requires returns-3 returns-4)
+    tie.close (tie.spec returns outside-ids-requires returns-2 returns-3 returns-4)

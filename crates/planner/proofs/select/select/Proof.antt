@@ -2,10 +2,14 @@
 -- of counters that those taken leave.
 use mathlib.Core.Path.{_≡_, ap, sym, _∙_}
 use mathlib.Core.Logic.{⊎-elim}
+use mathlib.Core.List.{List}
 use Prim.Native.Nat.{ℕ, _+_, _-_, _≤_, _<_}
 use borrow.Author.Needs.{needs}
 use native.Mathlib.Omega.{arith}
 use lib.ListN.{length, take, getD}
+use Rattle.requests.specs.declared.Request.{Request}
+use Rattle.plans.specs.Search.{firstPlan}
+use Rattle.plans.specs.Packed.{packed}
 use Rattle.plans.specs.Reach.{leftBy, leftOf}
 use Rattle.plans.proofs.ReachHolds.{reach}
 use Rattle.sessions.specs.Turns.{requestsOf, taken as takenBy}
@@ -46,7 +50,7 @@ plan-with-requires c κs =
     let s = c .before .before .before .before .before .before .before .before .before .args .t1 .setup in
     let so-far = l .loop .inv .4 in
     let u = c .before .before .before .before .before .before .usable-count .ensures in
-    ((u, rw u (so-far .taken-usable), l .loop .inv .1), λ fits. l .loop .inv .5 fits ∙ ap (leftOf s) (sym (so-far .rows-taken)))
+    ((u, rw u (so-far .taken-usable), l .loop .inv .1), ((so-far .plan-found ∙ ap (λ (rs : List Request). packed (firstPlan s rs)) (sym (so-far .rows-taken)), so-far .plan-some), λ fits. l .loop .inv .5 fits ∙ ap (leftOf s) (sym (so-far .rows-taken))))
 
 mul-passed : tie.Need-mul-passed Inv-loop μ-loop
 mul-passed c = omega arith
