@@ -7,6 +7,8 @@ pub mod Openings
 pub mod OpeningsTaken
 pub mod RuleNumbers
 pub mod Lookups
+pub mod Halvings
+pub mod HalvedLookups
 pub mod Roles
 pub mod FirstHolding
 pub mod AcceptanceTests
@@ -16,5 +18,6 @@ pub mod ExactRows
 pub mod Passes
 pub mod WellFormed
 pub mod CBoxPages
+pub mod Rounds
 pub mod Sizes
 pub mod Windows

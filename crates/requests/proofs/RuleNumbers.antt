@@ -84,7 +84,7 @@ no-rule (suc n) others = List·getD-eq-default maskRules (among []) (go (decLe (
 -- ---- events
 
 -- whether the rules have that of each event
-unfoldable allKnown : List ListedEvent → Bool
+unfoldable pub allKnown : List ListedEvent → Bool
 allKnown [] = true
 allKnown (e ∷ es) = both (hasRule maskRules (e .masks)) (allKnown es)
 
@@ -94,7 +94,7 @@ known-at [] h i x l = absurd (omega arith)
 known-at (e ∷ es) h zero x l = both-parts _ _ h .0
 known-at (e ∷ es) h (suc i) x l = known-at es (both-parts _ _ h .1) i x (omega arith)
 
-device-known : (d : Device) → allKnown (eventsOf d) ≡ true
+pub device-known : (d : Device) → allKnown (eventsOf d) ≡ true
 unfolding allKnown eventsOf hasRule maskRules sameRule sameNumbers both either cboxEvents sinkMasks ringMasks starvedMasks bypassMasks
 device-known G = refl
 device-known S = refl

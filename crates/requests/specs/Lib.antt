@@ -11,8 +11,10 @@ pub mod Openings
 pub mod RefusedRequests
 pub mod WellFormedRequests
 pub mod CBoxPages
+pub mod Rounds
 pub mod Examples
 -- The code's own: how it holds its values. No claim.
 pub mod Choice
 pub mod Masks
 pub mod Lookup
+pub mod Halving

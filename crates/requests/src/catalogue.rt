@@ -1,59 +1,16 @@
-// The event catalogues, in the order of document 01, with the manual's names. A row is the code, two digits, and the number of its mask rule, one digit.
+// What a catalogue lists of an event.
 use crate::Device;
 use crate::Listing;
-use crate::cbox_events::C_EVENTS;
+use crate::halving::halving_search;
 use crate::mask_rules::lists;
+use crate::rows::row_at;
+use crate::rows::row_count;
 ghost use mathlib.Core.Path.{_≡_};
-ghost use Prim.Native.Nat.{_<_};
-ghost use lib.ListN.{length, getD};
 ghost use Rattle.requests.specs.Lookup.{rowsOf, listingOf};
+ghost use Rattle.requests.specs.Halving.{halvingSearch, listedBy};
 
-// The architectural events of the Goldmont core.
-const G_EVENTS: [u16; 7] = [
-    0x3C_1, // UnHalted Core Cycles
-    0xC0_1, // Instruction Retired
-    0x3C_B, // UnHalted Reference Cycles
-    0x2E_C, // LLC Reference
-    0x2E_D, // LLC Misses
-    0xC4_1, // Branch Instruction Retired
-    0xC5_1, // Branch Misses Retired
-];
-
-// The events of the S-Box.
-const S_EVENTS: [u16; 6] = [
-    0x51_2, // RBOX_SNP_BYPASS
-    0x31_2, // REQ_TBL_OCCUPANCY
-    0x52_1, // S2B_HOM_BYPASS
-    0x2B_1, // TO_RING_B2S_MSGQ_CYCLES_FULL
-    0x2D_1, // TO_RING_B2S_MSGQ_CYCLES_NE
-    0x2F_1, // TO_RING_B2S_MSGQ_OCCUPANCY
-];
-
-// How many rows the device's catalogue has.
-fn row_count(device: Device) -> usize
-    ensures { λ r. ⌜ r ≡ length (rowsOf device) ⌝ }
-{
-    match device {
-        Device::G => G_EVENTS.len(),
-        Device::S => S_EVENTS.len(),
-        Device::C(_) => C_EVENTS.len(),
-    }
-}
-
-// A row of the device's catalogue.
-fn row_at(device: Device, at: usize) -> u16
-    requires { ⌜ at < length (rowsOf device) ⌝ }
-    ensures { λ r. ⌜ r ≡ getD (rowsOf device) at 0 ⌝ }
-{
-    match device {
-        Device::G => G_EVENTS[at],
-        Device::S => S_EVENTS[at],
-        Device::C(_) => C_EVENTS[at],
-    }
-}
-
-// What the device's catalogue lists of the code and the unit mask.
-pub fn look_up(device: Device, code: u8, mask: u8) -> Listing
+// The look-up row by row, where a code may stand in several rows, and in any order.
+fn row_by_row(device: Device, code: u8, mask: u8) -> Listing
     ensures { λ r. ⌜ r ≡ listingOf device code mask ⌝ }
 {
     let count = row_count(device);
@@ -75,5 +32,35 @@ pub fn look_up(device: Device, code: u8, mask: u8) -> Listing
     Listing {
         code: listed,
         pair: false,
+    }
+}
+
+// The look-up by halving, where codes rise from row to row: the row found says what is listed.
+fn by_halving(device: Device, code: u8, mask: u8) -> Listing
+    ensures { λ r. ⌜ r ≡ listedBy (halvingSearch (rowsOf device) code .row) mask ⌝ }
+{
+    let found = halving_search(device, code);
+    let row = found.row;
+    if row == 0 {
+        return Listing {
+            code: false,
+            pair: false,
+        };
+    }
+    let pair = lists(row, mask);
+    Listing {
+        code: true,
+        pair: pair,
+    }
+}
+
+// What the device's catalogue lists of the code and the unit mask.
+pub fn look_up(device: Device, code: u8, mask: u8) -> Listing
+    ensures { λ r. ⌜ r ≡ listingOf device code mask ⌝ }
+{
+    match device {
+        Device::G => row_by_row(device, code, mask),
+        Device::S => row_by_row(device, code, mask),
+        Device::C(_) => by_halving(device, code, mask),
     }
 }

@@ -4,8 +4,10 @@ pub mod catalogue;
 mod cbox_events;
 pub mod check;
 pub mod devices;
+mod halving;
 mod mask_rules;
 pub mod refusals;
+mod rows;
 pub mod set;
 
 // A set of counters: counter k is 2^k.

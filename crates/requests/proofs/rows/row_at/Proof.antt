@@ -1,4 +1,4 @@
--- `catalogue::row_at` meets its contract: the arrays of the code are the listed events row for row, which antt computes over each whole array.
+-- `rows::row_at` meets its contract: the arrays of the code are the listed events row for row, which antt computes over each whole array.
 -- Assumes nothing.
 use mathlib.Core.Path.{refl}
 use native.Mathlib.Omega.{arith}
@@ -7,8 +7,8 @@ use Rattle.requests.specs.Choice.{both}
 use Rattle.requests.specs.CBoxEvents.{sinkMasks, ringMasks, starvedMasks, bypassMasks, cboxEvents}
 use Rattle.requests.specs.Catalogue.{eventsOf}
 use Rattle.requests.specs.Lookup.{maskRules, sameNumbers, sameRule, placeOf, rowOf, rowsOf}
-use Rattle.requests.proofs.catalogue.row_at.Statement.{statement}
-use Rattle.requests.proofs.catalogue.row_at.Tie as tie
+use Rattle.requests.proofs.rows.row_at.Statement.{statement}
+use Rattle.requests.proofs.rows.row_at.Tie as tie
 
 array-read-result : tie.Need-array-read-result
 unfolding rowsOf eventsOf

@@ -1,11 +1,11 @@
--- `catalogue::row_count` meets its contract: the arrays are as long as the listed events, which antt computes.
+-- `rows::row_count` meets its contract: the arrays are as long as the listed events, which antt computes.
 -- Assumes nothing.
 use borrow.Author.Needs.{needs}
 use Rattle.requests.specs.CBoxEvents.{cboxEvents}
 use Rattle.requests.specs.Catalogue.{eventsOf}
 use Rattle.requests.specs.Lookup.{rowsOf}
-use Rattle.requests.proofs.catalogue.row_count.Statement.{statement}
-use Rattle.requests.proofs.catalogue.row_count.Tie as tie
+use Rattle.requests.proofs.rows.row_count.Statement.{statement}
+use Rattle.requests.proofs.rows.row_count.Tie as tie
 
 returns : tie.Need-returns
 unfolding rowsOf eventsOf
