@@ -139,9 +139,10 @@ cbox-rises b = refl
 pub cbox-rising : (b : ℕ) → Rising (0 ∷ rowsOf (C b))
 cbox-rising b = rising-rows (0 ∷ rowsOf (C b)) (cbox-rises b)
 
-pub cbox-length : (b : ℕ) → length (rowsOf (C b)) ≡ 30
+-- and there are fewer than 2^5 rows: computed
+pub cbox-short : (b : ℕ) → length (rowsOf (C b)) < 32
 unfolding rowsOf eventsOf cboxEvents
-cbox-length b = refl
+cbox-short b = omega arith
 
 -- what a row found by halving says
 pub halved-listing : (b c m : ℕ) → listingOf (C b) c m ≡ listedBy (halvingSearch (rowsOf (C b)) c .row) m
@@ -149,5 +150,5 @@ unfolding listingOf listedBy rises rowsOf
 halved-listing b c m =
     let split = both-parts _ _ (cbox-rises b) in
     let t = told (eventsOf (C b)) (device-known (C b)) (split .1) (split .0) c m in
-    let found = searched-row (rowsOf (C b)) (rising-rows (rowsOf (C b)) (split .1)) c (omega (arith, cbox-length b)) in
+    let found = searched-row (rowsOf (C b)) (rising-rows (rowsOf (C b)) (split .1)) c (omega (arith, cbox-short b)) in
     ap₂ (λ (x y : Bool). record { code = x; pair = y }) (t .0 ∙ sym (ap (ltb 0) found)) (t .1 ∙ sym (ap (λ (r : ℕ). rowAllows r m) found))

@@ -12,7 +12,7 @@ use Rattle.requests.specs.Rounds.{Rounds}
 use Rattle.requests.specs.declared.Device.the-variants.{C}
 use Rattle.requests.specs.declared.halving.Span.{Span}
 use Rattle.requests.proofs.Halvings.{halvings-more, places-more, halvings-done, places-done, halved-length, searched-row}
-use Rattle.requests.proofs.HalvedLookups.{cbox-rising, cbox-length, halved-listing}
+use Rattle.requests.proofs.HalvedLookups.{cbox-rising, cbox-short, halved-listing}
 
 -- ---- the number of places read
 
@@ -89,7 +89,7 @@ unfolding halvingSearch reads whole
 few rows c k l = fewer rows c k mostRounds (whole rows) (omega (arith, l))
 
 five : (b c : ℕ) → halvingSearch (rowsOf (C b)) c .rounds ≤ 5
-five b c = few (rowsOf (C b)) c 5 (omega (arith, cbox-length b))
+five b c = few (rowsOf (C b)) c 5 (omega (arith, cbox-short b))
 
 pub rounds : Rounds
 rounds =
