@@ -1,4 +1,5 @@
-//! The events that each device lists: those of G and S stand in document 01, those of C in section 2.3.5 of document 004.
+//! The events that each device lists, rising by code: those of G and S stand in document 01, those of C in section 2.3.5 of
+//! document 004.
 
 /// The unit masks that are listed for a code.
 #[derive(Clone, Copy, Debug)]
@@ -29,6 +30,11 @@ impl Masks {
     }
 }
 
+/// The row of a code, found by halving.
+pub fn row_of(events: &[Event], code: u8) -> Option<&Event> {
+    events.binary_search_by_key(&code, |event| event.code).ok().map(|at| &events[at])
+}
+
 const fn range(code: u8, first: u8, last: u8) -> Event {
     Event { code, masks: Masks::Range(first, last) }
 }
@@ -43,16 +49,16 @@ const fn plain(code: u8) -> Event {
 }
 
 /// The SDM's architectural events.
-pub const G: &[Event] = &[range(0x3C, 0, 1), plain(0xC0), only(0x2E, &[0x4F, 0x41]), plain(0xC4), plain(0xC5)];
+pub const G: &[Event] = &[only(0x2E, &[0x41, 0x4F]), range(0x3C, 0, 1), plain(0xC0), plain(0xC4), plain(0xC5)];
 
-pub const S: &[Event] = &[range(0x51, 1, 3), range(0x31, 1, 3), plain(0x52), plain(0x2B), plain(0x2D), plain(0x2F)];
+pub const S: &[Event] = &[plain(0x2B), plain(0x2D), plain(0x2F), range(0x31, 1, 3), range(0x51, 1, 3), plain(0x52)];
 
 /// The rings of ARB_WINS and ARB_LOSSES: AD, AK and BL in either direction and in both, IV, and all.
 const RINGS: &[u8] = &[0x01, 0x02, 0x03, 0x04, 0x08, 0x0C, 0x10, 0x20, 0x30, 0x40, 0x7F];
 /// The egress queues of STARVED_EGRESS, one by one and summed.
 const EGRESSES: &[u8] = &[0x01, 0x02, 0x03, 0x04, 0x07, 0x08, 0x10, 0x18, 0x20, 0x40, 0x60, 0x80];
 
-/// By code. The list of 0E (INGRESS_BYPASS_WINS_AD) is lost, so no mask of it is accepted.
+/// The list of 0E (INGRESS_BYPASS_WINS_AD) is lost, so no mask of it is accepted.
 pub const C: &[Event] = &[
     range(0x01, 1, 3),
     range(0x02, 1, 3),

@@ -97,9 +97,14 @@ impl Device {
         self.events.iter().flat_map(|event| event.masks.all().into_iter().map(move |mask| (event.code, mask))).collect()
     }
 
-    /// The number that refuses an event's code and mask: 8, or for a mask that is not listed 9 where it is 0 and otherwise 10.
+    /// The number that refuses an event's code and mask.
     pub fn event_refusal(&self, code: u8, mask: u8) -> Option<u64> {
-        match self.events.iter().find(|event| event.code == code) {
+        self.row_refusal(catalogue::row_of(self.events, code), mask)
+    }
+
+    /// The same by the code's row: 8, or for a mask that is not listed 9 where it is 0 and otherwise 10.
+    pub fn row_refusal(&self, row: Option<&Event>, mask: u8) -> Option<u64> {
+        match row {
             Some(event) if event.masks.has(mask) => None,
             Some(_) if !self.listed_by_pair => Some(if mask == 0 { 9 } else { 10 }),
             _ => Some(8),

@@ -21,12 +21,18 @@ pub fn requests_of(entries: &[Entry]) -> Vec<Request> {
     entries.iter().map(|entry| entry.request).collect()
 }
 
-/// The number of the checks 7, 8, 10, 9 and 11 that refuses a request. The C-Box's events are judged by the printed pages.
+/// The number that refuses an event's code and mask: by the printed pages on C, and elsewhere by the first row with the code.
+fn pair_refusal(device: &Device, code: u8, mask: u8) -> Option<u64> {
+    match device.letter {
+        b'C' => c_box::event_refusal(code, mask),
+        _ => device.row_refusal(device.events.iter().find(|event| event.code == code), mask),
+    }
+}
+
+/// The number of the checks 7, 8, 10, 9 and 11 that refuses a request.
 pub fn refusal_of(device: &Device, request: Request) -> Option<u64> {
     match request {
-        Request::Event { code, mask, allowed } if device.letter == b'C' => {
-            event_refusal(device, c_box::event_refusal(code, mask), allowed)
-        }
+        Request::Event { code, mask, allowed } => event_refusal(device, pair_refusal(device, code, mask), allowed),
         _ => requests::refusal_of(device, request),
     }
 }
