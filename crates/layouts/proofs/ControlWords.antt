@@ -104,7 +104,7 @@ pub plan-words : (s : Setup) {rs : List Request} {ps : List Place} → All (Desc
 unfolding ofAll usesOf first second
 plan-words s nil none = nil
 plan-words s (cons (event {c = c} {m = m} h a) fs) (and (plans.event b) es) = cons (listed-event c m h refl) (plan-words s fs es)
-plan-words s (cons (packet g a) fs) (and (plans.packet b) es) = cons (packet-event g refl) (plan-words s fs es)
+plan-words s (cons (packet g x y a) fs) (and (plans.packet b) es) = cons (packet-event g refl) (plan-words s fs es)
 plan-words s (cons (offcore g h t o a) fs) (and (plans.offcore {k = k} {i = i} b l) es) = cons (rsp-event i g l refl) (plan-words s fs es)
 plan-words s (cons (latency g h t a b) fs) (and (plans.latency c x) es) = cons (rsp-event 0 g (omega arith) refl) (cons (rsp-event 1 g (omega arith) refl) (plan-words s fs es))
 

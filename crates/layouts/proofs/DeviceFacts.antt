@@ -12,13 +12,13 @@ use lib.ListN.{length, getD, List·getD-eq-default}
 use Rattle.requests.specs.Choice.{both, either, every}
 use Rattle.requests.specs.declared.Device.{Device}
 use Rattle.requests.specs.declared.Device.the-variants.{G, S, C}
-use Rattle.requests.specs.Bits.{bit, inList, onlyBits}
+use Rattle.requests.specs.Bits.{bit, inList, onlyBits, rising, field}
 use Rattle.requests.specs.CBoxEvents.{sinkMasks, ringMasks, starvedMasks, bypassMasks, cboxEvents}
 use Rattle.requests.specs.Catalogue.{eventsOf}
 use Rattle.requests.specs.Devices.{capacity, counterCount, fixedCount}
 use Rattle.plans.specs.Lists.{All, nil, cons}
 use Rattle.plans.proofs.PlanLengthHolds.{plan-length}
-use Rattle.layouts.specs.Layout.{tabulate, field, globalBits, controlBits, enabled, offcoreCode, cboxGlobals, cboxGlobal, layoutOf, controlAt, counterAt, filtersAt, rsp0At, rsp1At, mmCfgAt, matchAt, maskAt}
+use Rattle.layouts.specs.Layout.{tabulate, globalBits, controlBits, enabled, offcoreCode, cboxGlobals, cboxGlobal, layoutOf, controlAt, counterAt, filtersAt, rsp0At, rsp1At, mmCfgAt, matchAt, maskAt}
 use Rattle.layouts.specs.WriteCount.{writeLimit}
 use Rattle.layouts.proofs.ListedEvents.{allBelow, belowMask, table}
 
@@ -96,7 +96,7 @@ unfolding cboxGlobal cboxGlobals
 cbox-past b l = List·getD-eq-default cboxGlobals 0x0D00 l
 
 pub facts : (d : Device) → DeviceFacts d
-unfolding capacity counterCount fixedCount layoutOf controlAt counterAt filtersAt rsp0At rsp1At mmCfgAt matchAt maskAt enabled controlBits globalBits field tabulate inList bit onlyBits every both either belowMask table allBelow eventsOf cboxEvents sinkMasks ringMasks starvedMasks bypassMasks filterCode offcoreCode filterRoom writeLimit
+unfolding capacity counterCount fixedCount layoutOf controlAt counterAt filtersAt rsp0At rsp1At mmCfgAt matchAt maskAt enabled controlBits globalBits field tabulate inList bit onlyBits every both either belowMask table allBelow eventsOf cboxEvents sinkMasks ringMasks starvedMasks bypassMasks filterCode offcoreCode filterRoom writeLimit rising
 facts G =
     record {
       enabled-some = omega arith;

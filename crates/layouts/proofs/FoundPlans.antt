@@ -20,7 +20,7 @@ use Rattle.requests.specs.declared.Request.the-variants.{Event, Packet, Offcore
 use Rattle.requests.specs.Bits.{latencyWord}
 use Rattle.requests.specs.Devices.{counterCount}
 use Rattle.requests.specs.Checks.{formed}
-use Rattle.requests.specs.WellFormedRequests.{Described, event, packet, latency}
+use Rattle.requests.specs.WellFormedRequests.{Described, event, latency}
 use Rattle.requests.proofs.Tests.{both-parts, either-cases}
 use Rattle.plans.specs.declared.Place.the-variants.{Counter, WithRsp, Pair}
 use Rattle.plans.specs.Lists.{All, nil, cons, empty, add}
@@ -33,7 +33,7 @@ use Rattle.layouts.specs.Read.{count, noCounter, filterWord, controlFits
 use Rattle.layouts.proofs.Counts.{count-zero, find, count-put}
 use Rattle.layouts.proofs.UsableSets.{on, Within}
 use Rattle.layouts.proofs.OffcoreWords.{second-described}
-use Rattle.layouts.proofs.AskedWords.{offcore-allowed, none-within}
+use Rattle.layouts.proofs.AskedWords.{offcore-allowed, packet-allowed, none-within}
 use Rattle.layouts.proofs.FormedRequests.{passes-described}
 use Rattle.layouts.proofs.PlanFilters.{rsp-some}
 use Rattle.layouts.proofs.LeftValues.{zero-fits}
@@ -61,13 +61,13 @@ module _ (s : Setup) (within : Within s) (a b : ℕ) (q : ℕ × ℕ) (k w : ℕ
             packet = nil;
           }
 
-  packet-item : s .device ≡ S → w ≡ packetWord (s .device) → Item s a b q k w
+  packet-item : Described s (Packet (q .0) (q .1) noCounter) → w ≡ packetWord (s .device) → Item s a b q k w
   unfolding usesOf wordsOf packetsOf first
-  packet-item g e =
+  packet-item h e =
       record {
         request = Packet (q .0) (q .1) (s .usable);
         place = Counter k;
-        described = packet g within;
+        described = packet-allowed (s .usable) within h;
         allowed = plans.packet (usable .1);
         one = ap (λ (x : ℕ). (k, x) ∷ []) (sym e);
         rsp0 = nil;
@@ -140,15 +140,22 @@ module _ (u : Setup) where
           (λ h. event-item (on G u) within a b q k (f k) us h)
           (word-cases (on G u) (f k) (w .fits k) n)
 
-  pub plain-S : Within (on S u) → (a b : ℕ) (q : ℕ × ℕ) (f : ℕ → ℕ) → Words (on S u) f → Built (on S u) a b q f
+  -- nobody counts packets, or their words are well-formed
+  abbrev Filtered : (ℕ → ℕ) → ℕ × ℕ → Type 0
+  Filtered f q = (count (counterCount S) f (packetWord S) ≡ 0) ⊎ Described (on S u) (Packet (q .0) (q .1) noCounter)
+
+  pub plain-S : Within (on S u) → (a b : ℕ) (q : ℕ × ℕ) (f : ℕ → ℕ) → Words (on S u) f → Filtered f q → Built (on S u) a b q f
   unfolding filterWord
-  plain-S within a b q f w =
+  plain-S within a b q f w h0 =
       build (on S u) a b q (counterCount S) f (words-past (on S u) f w) (λ k. elim (ℕ-discrete (f k) 0) [ yes e ↦ inl e | no n ↦ inr (words-usable (on S u) f w k n, item k n (words-usable (on S u) f w k n)) ])
     where
+      held : (k : ℕ) → Usable (on S u) k → f k ≡ packetWord S → Described (on S u) (Packet (q .0) (q .1) noCounter)
+      held k us e = ⊎-elim (λ z. absurd (count-zero (counterCount S) k (packetWord S) f z (us .0) e)) (λ t. t) h0
+
       item : (k : ℕ) → (f k ≡ 0 → ⊥) → Usable (on S u) k → Item (on S u) a b q k (f k)
       item k n us =
           ⊎-elim
-          (λ h. packet-item (on S u) within a b q k (f k) us refl (eqb-true (f k) (packetWord S) h))
+          (λ h. let same = eqb-true (f k) (packetWord S) h in packet-item (on S u) within a b q k (f k) us (held k us same) same)
           (λ h. event-item (on S u) within a b q k (f k) us h)
           (word-cases (on S u) (f k) (w .fits k) n)
 

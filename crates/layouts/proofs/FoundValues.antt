@@ -17,7 +17,7 @@ use Rattle.requests.specs.declared.CounterSet.{CounterSet}
 use Rattle.requests.specs.declared.Device.{Device}
 use Rattle.requests.specs.declared.Device.the-variants.{G, S, C}
 use Rattle.requests.specs.declared.Setup.{Setup}
-use Rattle.requests.specs.declared.Request.the-variants.{Offcore, Latency}
+use Rattle.requests.specs.declared.Request.the-variants.{Packet, Offcore, Latency}
 use Rattle.requests.specs.Bits.{inList, outstanding, latencyWord}
 use Rattle.requests.specs.Devices.{has, counterCount}
 use Rattle.requests.specs.Checks.{formed}
@@ -29,7 +29,7 @@ use Rattle.plans.proofs.Sets.{all-imp}
 use Rattle.layouts.specs.Layout.{layoutOf, controlAt, filtersAt, matchAt, maskAt, mmEnable, rspWord, packetWord}
 use Rattle.layouts.specs.Settings.{wordAt, setFrom, headOr, nonempty}
 use Rattle.layouts.specs.Writes.{rows, lastGlobal, writes, apply}
-use Rattle.layouts.specs.Read.{ours, noCounter, count, controlFits, rsp0Fits, rsp1Fits, latencyFits, filtersFit, accepts, filterWord}
+use Rattle.layouts.specs.Read.{ours, noCounter, count, controlFits, rsp0Fits, rsp1Fits, latencyFits, filtersFit, accepts, filterWord, packetsFit}
 use Rattle.layouts.specs.ExactReader.{FiltersShow, LeavesValues}
 use Rattle.layouts.specs.declared.RegisterValues.{RegisterValues}
 use Rattle.layouts.proofs.ListLaws.{all-member}
@@ -41,7 +41,7 @@ use Rattle.layouts.proofs.UsableSets.{on, Within, usable-counter}
 use Rattle.layouts.proofs.ControlWords.{word-some, plan-words}
 use Rattle.layouts.proofs.FormedRequests.{form-all, passes-described}
 use Rattle.layouts.proofs.PlanWords.{usesIn, used-word, count-uses, control-left, global-left}
-use Rattle.layouts.proofs.PlanFilters.{packets-fit, rsp-hits, packet-hits, rsp-some, packet-some}
+use Rattle.layouts.proofs.PlanFilters.{enabled-by, rsp-hits, packet-hits, rsp-some, packet-some}
 use Rattle.layouts.proofs.LeftValues.{rsp0-left, rsp1-left, mm-cfg-left, match-left, mask-left, kept, zero-fits}
 use Rattle.layouts.proofs.BuiltPlans.{Built}
 use Rattle.layouts.proofs.FoundPlans.{Words, plain-G, plain-S, plain-bare, paired}
@@ -184,7 +184,7 @@ module _ (u : Setup) (v : RegisterValues) where
       let packets = built-count s v 0 0 (x, y) built (packetWord S) packet-some ∙ packet-hits u (built .described) (built .allowed) in
       let held = packet-words asked x y (built .packet) in
       built-leaves s v 0 0 (x, y) built (
-        m ∙ ap (λ (n : ℕ). pick (eqb n 0) 0 (2 ^ mmEnable)) packets ∙ sym (packets-fit asked) ∙ sym (mm-cfg-left u (built .requests) (built .places) (before S v)),
+        m ∙ ap (λ (n : ℕ). pick (eqb n 0) 0 (2 ^ mmEnable)) packets ∙ sym (enabled-by asked) ∙ sym (mm-cfg-left u (built .requests) (built .places) (before S v)),
         sym (match-left u (built .requests) (built .places) (before S v) ∙ rw (before-match v) (sym (held .0))),
         sym (mask-left u (built .requests) (built .places) (before S v) ∙ rw (before-mask v) (sym (held .1))),
       ) e
@@ -243,10 +243,21 @@ module _ (u : Setup) (v : RegisterValues) where
       (pick-cases n0 (eqb w0 0) _ (parts .1))
 
   found-S : Within (on S u) → Words (on S u) (ours (on S u) v) → filtersFit (on S u) (ours (on S u) v) (v .filters) ≡ true → Counted u v S → LeavesValues (on S u) v
-  unfolding filtersFit
+  unfolding filtersFit packetsFit
   found-S within w t e =
-      leaves-S u v (plain-S u within 0 0 (v .filters .«match_word», v .filters .«mask_word») (ours (on S u) v) w)
-      (eqb-true (v .filters .«mm_cfg») (pick (eqb (count (counterCount S) (ours (on S u) v) (packetWord S)) 0) 0 (2 ^ mmEnable)) t) e
+      let s = on S u in
+      let n = count (counterCount S) (ours (on S u) v) (packetWord S) in
+      let x = v .filters .«match_word» in
+      let y = v .filters .«mask_word» in
+      let c = v .filters .«mm_cfg» in
+      let filtered : (n ≡ 0) ⊎ Described s (Packet x y noCounter) =
+      ⊎-elim (λ z. inl z) (λ h. inr (passes-described s (Packet x y noCounter) (both-parts _ _ h .1))) (pick-cases n (eqb c 0) _ t) in
+      let set : c ≡ pick (eqb n 0) 0 (2 ^ mmEnable) =
+      elim (ℕ-discrete n 0) [
+        | yes z ↦ rw (eq-eqb n 0 z) (eqb-true c 0 (pick-zero n (eqb c 0) _ t z))
+        | no o ↦ rw (ne-eqb n 0 o) (eqb-true c (2 ^ mmEnable) (both-parts _ _ (rw (ne-eqb n 0 o) at t) .0))
+      ] in
+      leaves-S u v (plain-S u within 0 0 (x, y) (ours (on S u) v) w filtered) set e
 
   found : (d : Device) → Within (on d u) → Words (on d u) (ours (on d u) v) → filtersFit (on d u) (ours (on d u) v) (v .filters) ≡ true → Counted u v d → LeavesValues (on d u) v
   unfolding filterWord

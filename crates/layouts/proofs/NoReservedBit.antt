@@ -11,10 +11,10 @@ use Rattle.requests.specs.declared.Device.{Device}
 use Rattle.requests.specs.declared.Device.the-variants.{G, S, C}
 use Rattle.requests.specs.declared.Setup.{Setup}
 use Rattle.requests.specs.declared.Request.{Request}
-use Rattle.requests.specs.declared.Request.the-variants.{Offcore}
-use Rattle.requests.specs.Bits.{bit, inList, onlyBits, outstanding, rsp0Bits, rsp1Bits}
+use Rattle.requests.specs.declared.Request.the-variants.{Packet, Offcore}
+use Rattle.requests.specs.Bits.{bit, inList, onlyBits, outstanding, rsp0Bits, rsp1Bits, matchBits, maskBits}
 use Rattle.requests.specs.Devices.{counterCount, capacity}
-use Rattle.requests.specs.WellFormedRequests.{Described, offcore, latency}
+use Rattle.requests.specs.WellFormedRequests.{Described, packet, offcore, latency}
 use Rattle.requests.proofs.WellFormed.{no-outstanding}
 use Rattle.plans.specs.declared.Place.{Place}
 use Rattle.plans.specs.Lists.{All, nil, cons, Each}
@@ -34,7 +34,7 @@ use Rattle.layouts.proofs.RegistersAfter.{writes-all}
 use Rattle.layouts.proofs.GlobalValues.{first-permitted, last-permitted}
 use Rattle.layouts.proofs.ControlWords.{word-clean, plan-words, word-at}
 use Rattle.layouts.proofs.OffcoreWords.{offcore-clean, first-clean}
-use Rattle.layouts.proofs.AskedWords.{FirstWord, offcore-word, latency-word, first-words, second-words}
+use Rattle.layouts.proofs.AskedWords.{FirstWord, offcore-word, latency-word, first-words, second-words, packet-words}
 use Rattle.layouts.proofs.FormedRequests.{describe-all}
 
 -- ---- the registers that have reserved bits
@@ -42,13 +42,14 @@ use Rattle.layouts.proofs.FormedRequests.{describe-all}
 -- the filter registers among them
 filterRegisters : Device → List Register
 filterRegisters G = (rsp0At, rsp0Bits) ∷ (rsp1At, rsp1Bits) ∷ []
-filterRegisters S = (mmCfgAt, mmEnable ∷ []) ∷ []
+filterRegisters S = (mmCfgAt, mmEnable ∷ []) ∷ (matchAt, matchBits) ∷ (maskAt, maskBits) ∷ []
 filterRegisters (C b) = []
 
 filter-among : (d : Device) → All (λ (r : Register). List·Memᴰ (r .0) (filtersAt d)) (filterRegisters d)
 unfolding filterRegisters filtersAt
 filter-among G = cons (List·Memᴰ·head refl) (cons (List·Memᴰ·tail (List·Memᴰ·head refl)) nil)
-filter-among S = cons (List·Memᴰ·head refl) nil
+filter-among S =
+    cons (List·Memᴰ·head refl) (cons (List·Memᴰ·tail (List·Memᴰ·head refl)) (cons (List·Memᴰ·tail (List·Memᴰ·tail (List·Memᴰ·head refl))) nil))
 filter-among (C b) = nil
 
 -- what holds of each of them
@@ -65,9 +66,11 @@ registers-all d P global filters controls r m = go d global filters controls m
         ⊎-elim (λ e. subst P (sym e) global)
         (λ m1. ⊎-elim (λ e. subst P (sym e) f0) (λ m2. ⊎-elim (λ e. subst P (sym e) f1) (λ m3. control-among G controls m3) (List·Memᴰ·cases-cons m2)) (List·Memᴰ·cases-cons m1))
         (List·Memᴰ·cases-cons m)
-    go S global (cons f0 nil) controls m =
+    go S global (cons f0 (cons f1 (cons f2 nil))) controls m =
         ⊎-elim (λ e. subst P (sym e) global)
-        (λ m1. ⊎-elim (λ e. subst P (sym e) f0) (λ m2. control-among S controls m2) (List·Memᴰ·cases-cons m1))
+        (λ m1. ⊎-elim (λ e. subst P (sym e) f0)
+        (λ m2. ⊎-elim (λ e. subst P (sym e) f1) (λ m3. ⊎-elim (λ e. subst P (sym e) f2) (λ m4. control-among S controls m4) (List·Memᴰ·cases-cons m3)) (List·Memᴰ·cases-cons m2))
+        (List·Memᴰ·cases-cons m1))
         (List·Memᴰ·cases-cons m)
     go (C b) global nil controls m = ⊎-elim (λ e. subst P (sym e) global) (λ m1. control-among (C b) controls m1) (List·Memᴰ·cases-cons m)
 
@@ -114,14 +117,21 @@ enable-clean : onlyBits (mmEnable ∷ []) (2 ^ mmEnable) ≡ true
 unfolding mmEnable onlyBits both every either bit inList
 enable-clean = refl
 
-packets-clean : (u : Setup) (b : Bool) (x y : ℕ) → All (Clean (on S u)) (packetWrites b x y)
+-- a packet's words have only bits of their fields
+packet-clean : (s : Setup) (x y : ℕ) → Described s (Packet x y noCounter) → (onlyBits matchBits x ≡ true) × (onlyBits maskBits y ≡ true)
+packet-clean s x y (packet g m k c) = (m, k)
+
+-- the writes of the match/mask register, with the words of the first packet request where there is one
+packets-clean : (u : Setup) (asked : List (ℕ × ℕ)) → All (λ (p : ℕ × ℕ). Described (on S u) (Packet (p .0) (p .1) noCounter)) asked
+    → All (Clean (on S u)) (packetWrites (nonempty asked) (headOr (0, 0) asked .0) (headOr (0, 0) asked .1))
 unfolding packetWrites filterRegisters filtersAt mmCfgAt matchAt maskAt
-packets-clean u true x y =
+packets-clean u (p ∷ ps) (cons h hs) =
+    let words = packet-clean (on S u) (p .0) (p .1) h in
     cons (zero-clean (on S u) mmCfgAt)
-    (cons (filter-clean (on S u) matchAt x (List·Memᴰ·tail (List·Memᴰ·head refl)) (cons (λ e. absurd (omega arith)) nil))
-    (cons (filter-clean (on S u) maskAt y (List·Memᴰ·tail (List·Memᴰ·tail (List·Memᴰ·head refl))) (cons (λ e. absurd (omega arith)) nil))
-    (cons (filter-clean (on S u) mmCfgAt (2 ^ mmEnable) (List·Memᴰ·head refl) (cons (λ e. enable-clean) nil)) nil)))
-packets-clean u false x y = cons (zero-clean (on S u) mmCfgAt) nil
+    (cons (filter-clean (on S u) matchAt (p .0) (List·Memᴰ·tail (List·Memᴰ·head refl)) (cons (λ e. absurd (omega arith)) (cons (λ e. words .0) (cons (λ e. absurd (omega arith)) nil))))
+    (cons (filter-clean (on S u) maskAt (p .1) (List·Memᴰ·tail (List·Memᴰ·tail (List·Memᴰ·head refl))) (cons (λ e. absurd (omega arith)) (cons (λ e. absurd (omega arith)) (cons (λ e. words .1) nil))))
+    (cons (filter-clean (on S u) mmCfgAt (2 ^ mmEnable) (List·Memᴰ·head refl) (cons (λ e. enable-clean) (cons (λ e. absurd (omega arith)) (cons (λ e. absurd (omega arith)) nil)))) nil)))
+packets-clean u [] nil = cons (zero-clean (on S u) mmCfgAt) nil
 
 filters-clean : (d : Device) (u : Setup) (rs : List Request) (ps : List Place) → All (Described (on d u)) rs → Each Allowed rs ps
     → All (Clean (on d u)) (filterWrites d (settingsOf d rs ps))
@@ -133,7 +143,7 @@ filters-clean G u rs ps f h =
     all-head 0 (ofAll (wordsOf 1) rs ps) (zero-only rsp1Bits) (all-imp (λ w a. second-word-clean (on G u) w a) (second-words (on G u) f h)) in
     cons (filter-clean (on G u) rsp0At _ (List·Memᴰ·head refl) (cons (λ e. first) (cons (λ e. absurd (omega arith)) nil)))
     (cons (filter-clean (on G u) rsp1At _ (List·Memᴰ·tail (List·Memᴰ·head refl)) (cons (λ e. absurd (omega arith)) (cons (λ e. second) nil))) nil)
-filters-clean S u rs ps f h = packets-clean u (nonempty (flatMap packetsOf rs)) (headOr (0, 0) (flatMap packetsOf rs) .0) (headOr (0, 0) (flatMap packetsOf rs) .1)
+filters-clean S u rs ps f h = packets-clean u (flatMap packetsOf rs) (packet-words (on S u) f)
 filters-clean (C b) u rs ps f h = nil
 
 -- ---- the list

@@ -1,6 +1,6 @@
 -- The reader's answer depends on nothing that it does not look at: `NotLookedAt`. Assumes nothing.
 use mathlib.Core.Path.{_≡_, refl, sym, ap, _∙_, fun-ext}
-use mathlib.Core.Logic.{_⊎_, inl, inr}
+use mathlib.Core.Logic.{_⊎_, inl, inr, ⊎-elim}
 use mathlib.Core.Bool.{Bool, true, false, not}
 use mathlib.Core.Option.{some}
 use mathlib.Core.List.{List}
@@ -21,7 +21,7 @@ use Rattle.requests.proofs.Tests.{both-parts}
 use Rattle.layouts.specs.Layout.{tabulate, mmEnable, packetWord}
 use Rattle.layouts.specs.Settings.{setFrom}
 use Rattle.layouts.specs.Writes.{lastGlobal}
-use Rattle.layouts.specs.Read.{ours, count, controlFits, filtersFit, accepts, filterOf, tell, cell, readingOf, readOf}
+use Rattle.layouts.specs.Read.{ours, count, controlFits, packetsFit, filtersFit, accepts, filterOf, tell, cell, readingOf, readOf}
 use Rattle.layouts.specs.NotLookedAt.{SameFilters, SameLookedAt, NotLookedAt}
 use Rattle.layouts.specs.declared.CounterState.the-variants.{NotOurs}
 use Rattle.layouts.specs.declared.FilterValues.{FilterValues}
@@ -33,20 +33,34 @@ use Rattle.layouts.proofs.Counts.{count-zero}
 use Rattle.layouts.proofs.UsableSets.{on, usable-within, usable-counter}
 use Rattle.layouts.proofs.ReaderAnswers.{read-accepted, read-not-left}
 
+-- where MM_CFG is 0, the test asks only for that
+packets-off : (s : Setup) (n : ℕ) (v : FilterValues) → v .«mm_cfg» ≡ 0 → packetsFit s n v ≡ eqb n 0
+unfolding packetsFit mmEnable both
+packets-off s n v e = rw e (go (eqb n 0))
+  where
+    go : (b : Bool) → pick b true false ≡ b
+    go true = refl
+    go false = refl
+
 filters-fit : (d : Device) (u : Setup) (f : ℕ → ℕ) (v w : FilterValues) → SameFilters d v w → filtersFit (on d u) f v ≡ filtersFit (on d u) f w
-unfolding filtersFit
+unfolding filtersFit packetsFit
 filters-fit G u f v w h = rw (h .0, h .1)
-filters-fit S u f v w h = rw (h .0)
+filters-fit S u f v w h = ⊎-elim off (λ e. rw (h .0, e .0, e .1)) (h .1)
+  where
+    off : v .«mm_cfg» ≡ 0 → packetsFit (on S u) (count (counterCount S) f (packetWord S)) v ≡ packetsFit (on S u) (count (counterCount S) f (packetWord S)) w
+    off z =
+        let n = count (counterCount S) f (packetWord S) in
+        packets-off (on S u) n v z ∙ sym (packets-off (on S u) n w (sym (h .0) ∙ z))
 filters-fit (C b) u f v w h = refl
 
 -- where MM_CFG is 0 and fits, no counter counts packets
 no-packets : (u : Setup) (f : ℕ → ℕ) (v : FilterValues) → filtersFit (on S u) f v ≡ true → v .«mm_cfg» ≡ 0 → count (counterCount S) f (packetWord S) ≡ 0
-unfolding filtersFit mmEnable
+unfolding filtersFit packetsFit mmEnable
 no-packets u f v h e =
     elim (ℕ-discrete (count (counterCount S) f (packetWord S)) 0) [
       | yes z ↦ z
       | no o ↦
-          let enabled : v .«mm_cfg» ≡ 2 ^ 63 = eqb-true _ _ (rw (ne-eqb (count (counterCount S) f (packetWord S)) 0 o) at h) in
+          let enabled : v .«mm_cfg» ≡ 2 ^ 63 = eqb-true _ _ (both-parts _ _ (rw (ne-eqb (count (counterCount S) f (packetWord S)) 0 o) at h) .0) in
           absurd (omega arith)
     ]
 

@@ -2,7 +2,7 @@
 --     rsp-hits, packet-hits   a counter on a filter register for each word asked of it
 --     LatencyPair, pairs      where RSP0 holds bit 38, all of its users are latency requests
 --     LeftFilters, filters-fit   the filter values of a plan, and that they fit its control words
-use mathlib.Core.Path.{_≡_, refl, sym, ap, _∙_}
+use mathlib.Core.Path.{_≡_, refl, sym, ap, subst, _∙_}
 use mathlib.Core.Bool.{Bool, true, false, true≢false}
 use mathlib.Core.List.{List, [], _∷_, _++_, flatMap}
 use Prim.Native.Nat.{ℕ, zero, suc, _+_, _%_, _^_, _≤_, _<_}
@@ -17,7 +17,7 @@ use Rattle.requests.specs.declared.Device.{Device}
 use Rattle.requests.specs.declared.Device.the-variants.{G, S, C}
 use Rattle.requests.specs.declared.Setup.{Setup}
 use Rattle.requests.specs.declared.Request.{Request}
-use Rattle.requests.specs.declared.Request.the-variants.{Offcore, Latency}
+use Rattle.requests.specs.declared.Request.the-variants.{Packet, Offcore, Latency}
 use Rattle.requests.specs.Bits.{bit, anyResponse, outstanding, latencyWord}
 use Rattle.requests.specs.Catalogue.{eventsOf, pairIn}
 use Rattle.requests.specs.WellFormedRequests.{Described, event, packet, offcore, latency}
@@ -30,7 +30,7 @@ use Rattle.plans.specs.Legal.{Allowed, Legal, wordsOf, packetsOf, ofAll}
 use Rattle.plans.specs.Legal as plans
 use Rattle.layouts.specs.Layout.{eventWord, enabled, codeOf, offcoreCode, rspMask, rspWord, packetWord, mmEnable}
 use Rattle.layouts.specs.Settings.{usesOf, wordAt, headOr, nonempty}
-use Rattle.layouts.specs.Read.{noCounter, rsp0Fits, rsp1Fits, latencyFits, filtersFit}
+use Rattle.layouts.specs.Read.{noCounter, rsp0Fits, rsp1Fits, latencyFits, packetsFit, filtersFit}
 use Rattle.layouts.specs.declared.FilterValues.{FilterValues}
 use Rattle.layouts.proofs.UsableSets.{on}
 use Rattle.layouts.proofs.ListLaws.{one-value}
@@ -38,7 +38,7 @@ use Rattle.layouts.proofs.Counts.{hits}
 use Rattle.layouts.proofs.DeviceFacts.{filterCode}
 use Rattle.layouts.proofs.ControlWords.{listed, word-parts}
 use Rattle.layouts.proofs.OffcoreWords.{types-below, first-outstanding}
-use Rattle.layouts.proofs.AskedWords.{FirstWord, offcore-word, latency-word, first-words, second-words, none-within}
+use Rattle.layouts.proofs.AskedWords.{FirstWord, offcore-word, latency-word, first-words, second-words, none-within, packet-words}
 use Rattle.layouts.proofs.FormedRequests.{described-passes}
 use Rattle.layouts.proofs.PlanWords.{count-uses}
 
@@ -103,7 +103,7 @@ module _ (u : Setup) where
   rsp-hits i l nil none = refl
   rsp-hits i l (cons (event {c = c} {m = m} h a) fs) (and (plans.event b) es) =
       rw (ne-eqb (eventWord G c m) (rspWord G i) (event-not-rsp c m i h)) (omega (arith, rsp-hits i l fs es))
-  rsp-hits i l (cons (packet g a) fs) (and (plans.packet b) es) = absurd (devices-differ g)
+  rsp-hits i l (cons (packet g x y a) fs) (and (plans.packet b) es) = absurd (devices-differ g)
   rsp-hits i l (cons (offcore {w = w} g h t o c) fs) (and {s = rs} {t = ps} (plans.offcore {i = j} b k) es) =
       rw (rsp-same i j l k) (go (eqb j i) (ofAll (wordsOf i) rs ps) (rsp-hits i l fs es))
     where
@@ -118,7 +118,7 @@ module _ (u : Setup) where
   packet-hits nil none = refl
   packet-hits (cons (event {c = c} {m = m} h a) fs) (and (plans.event b) es) =
       rw (ne-eqb (eventWord S c m) (packetWord S) (event-not-packet c m h)) (omega (arith, packet-hits fs es))
-  packet-hits (cons (packet g a) fs) (and (plans.packet b) es) = rw (eq-eqb (packetWord S) (packetWord S) refl) (omega (arith, packet-hits fs es))
+  packet-hits (cons (packet g x y a) fs) (and (plans.packet b) es) = rw (eq-eqb (packetWord S) (packetWord S) refl) (omega (arith, packet-hits fs es))
   packet-hits (cons (offcore g h t o c) fs) (and (plans.offcore b k) es) = absurd (devices-differ (sym g))
   packet-hits (cons (latency g h o c d) fs) (and (plans.latency x y) es) = absurd (devices-differ (sym g))
 
@@ -141,7 +141,7 @@ module _ (s : Setup) (w v : ℕ) (held : bit outstanding w ≡ true) where
   unfolding ofAll wordsOf
   pairs nil none xs ys = (le-refl 0, λ l. absurd (omega arith))
   pairs (cons (event h a) fs) (and (plans.event b) es) xs ys = pairs fs es xs ys
-  pairs (cons (packet g a) fs) (and (plans.packet b) es) xs ys = pairs fs es xs ys
+  pairs (cons (packet g m k a) fs) (and (plans.packet b) es) xs ys = pairs fs es xs ys
   pairs (cons (offcore {w = x} g h t o c) fs) (and (plans.offcore {i = zero} b k) es) (cons e xs) ys = absurd (true≢false (sym held ∙ ap (bit outstanding) (sym e) ∙ no-outstanding x h))
   pairs (cons (offcore g h t o c) fs) (and (plans.offcore {i = suc zero} b k) es) xs (cons e ys) = let below = pairs fs es xs ys in (omega (arith, below .0), below .1)
   pairs (cons (offcore g h t o c) fs) (and (plans.offcore {i = suc (suc i)} b k) es) xs ys = absurd (omega arith)
@@ -195,9 +195,20 @@ module _ (s : Setup) where
       rw (ne-eqb (suc (length xs)) 0 (λ z. omega arith)) (either-right _ _ (latency-fits (suc (length xs)) (length ys) w (headOr 0 ys) (q .1 (omega arith)) (q .0)))
 
 -- MM_CFG goes by the number of packet requests
-pub packets-fit : (ps : List (ℕ × ℕ)) → pick (nonempty ps) (2 ^ mmEnable) 0 ≡ pick (eqb (length ps) 0) 0 (2 ^ mmEnable)
-packets-fit [] = refl
-packets-fit (p ∷ ps) = rw (ne-eqb (suc (length ps)) 0 (λ e. omega arith))
+pub enabled-by : (ps : List (ℕ × ℕ)) → pick (nonempty ps) (2 ^ mmEnable) 0 ≡ pick (eqb (length ps) 0) 0 (2 ^ mmEnable)
+enabled-by [] = refl
+enabled-by (p ∷ ps) = rw (ne-eqb (suc (length ps)) 0 (λ e. omega arith))
+
+-- MATCH and MASK hold the words of the packet requests, if any
+packets-fit : (s : Setup) (asked : List (ℕ × ℕ)) (v : FilterValues) → v .«mm_cfg» ≡ pick (nonempty asked) (2 ^ mmEnable) 0
+    → All (λ (p : ℕ × ℕ). p ≡ (v .«match_word», v .«mask_word»)) asked
+    → All (λ (p : ℕ × ℕ). Described s (Packet (p .0) (p .1) noCounter)) asked → packetsFit s (length asked) v ≡ true
+unfolding packetsFit
+packets-fit s [] v e held h = eq-eqb _ _ e
+packets-fit s (p ∷ ps) v e (cons here held) (cons h hs) =
+    rw (ne-eqb (suc (length ps)) 0 (λ z. omega arith))
+    (true-both _ _ (eq-eqb _ _ e)
+    (described-passes s (Packet (v .«match_word») (v .«mask_word») noCounter) (subst (λ (r : ℕ × ℕ). Described s (Packet (r .0) (r .1) noCounter)) here h)))
 
 pub filters-fit : (d : Device) (u : Setup) (rs : List Request) (ps : List Place) (v : FilterValues)
     → All (Described (on d u)) rs → Legal (on d u) rs ps → LeftFilters d rs ps v → filtersFit (on d u) (wordAt (ofAll (usesOf d) rs ps)) v ≡ true
@@ -214,5 +225,5 @@ filters-fit G u rs ps v f legal left =
     (λ held. pairs s (headOr 0 xs) (headOr 0 ys) held f (legal .allowed) (one-value 0 xs (legal .one-word 0 (omega arith))) (one-value 0 ys (legal .one-word 1 (omega arith))))))
 filters-fit S u rs ps v f legal left =
     let on0 = count-uses (on S u) rs ps legal (packetWord S) packet-some ∙ packet-hits u f (legal .allowed) in
-    rw on0 (eq-eqb _ _ (left .0 ∙ packets-fit (flatMap packetsOf rs)))
+    rw on0 (packets-fit (on S u) (flatMap packetsOf rs) v (left .0) (left .1) (packet-words (on S u) f))
 filters-fit (C b) u rs ps v f legal left = refl

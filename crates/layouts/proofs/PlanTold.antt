@@ -92,7 +92,7 @@ module _ (u : Setup) (v : FilterValues) (k : ℕ) where
   tell-G nil lists.none xs ys = tell-none G v k
   tell-G (cons (event {c = c} {m = m} h a) fs) (and {s = rs} {t = ps} (plans.event {k = j} b) es) xs ys =
       tell-use G v k j (eventWord G c m) (counting c m none []) (ofAll (usesOf G) rs ps) (ofAll toldOf rs ps) (tell-event G v c m h) (tell-G fs es xs ys)
-  tell-G (cons (packet g a) fs) (and (plans.packet b) es) xs ys = absurd (devices-differ g)
+  tell-G (cons (packet g x y a) fs) (and (plans.packet b) es) xs ys = absurd (devices-differ g)
   tell-G (cons (offcore {w = w} g h t o c) fs) (and {s = rs} {t = ps} (plans.offcore {k = j} {i = zero} b l) es) (cons e xs) ys =
       tell-use G v k j (rspWord G 0) (counting offcoreCode (rspMask 0) (some 0) (w ∷ [])) (ofAll (usesOf G) rs ps) (ofAll toldOf rs ps)
       (tell-rsp0 v ∙ ap (λ (x : ℕ). counting offcoreCode (rspMask 0) (some 0) (x ∷ [])) (sym e)) (tell-G fs es xs ys)
@@ -114,7 +114,7 @@ module _ (u : Setup) (v : FilterValues) (k : ℕ) where
   tell-S nil lists.none xs = tell-none S v k
   tell-S (cons (event {c = c} {m = m} h a) fs) (and {s = rs} {t = ps} (plans.event {k = j} b) es) xs =
       tell-use S v k j (eventWord S c m) (counting c m none []) (ofAll (usesOf S) rs ps) (ofAll toldOf rs ps) (tell-event S v c m h) (tell-S fs es xs)
-  tell-S (cons (packet {x = x} {y = y} g a) fs) (and {s = rs} {t = ps} (plans.packet {k = j} b) es) (cons e xs) =
+  tell-S (cons (packet {x = x} {y = y} g m l a) fs) (and {s = rs} {t = ps} (plans.packet {k = j} b) es) (cons e xs) =
       tell-use S v k j (packetWord S) (counting 0 0 none (x ∷ y ∷ [])) (ofAll (usesOf S) rs ps) (ofAll toldOf rs ps)
       (tell-packet v ∙ ap (λ (p : ℕ × ℕ). counting 0 0 none (p .0 ∷ p .1 ∷ [])) (sym e)) (tell-S fs es xs)
   tell-S (cons (offcore g h t o c) fs) (and (plans.offcore b l) es) xs = absurd (devices-differ (sym g))
@@ -127,7 +127,7 @@ module _ (u : Setup) (v : FilterValues) (k : ℕ) where
   tell-bare d no-g no-s nil lists.none = tell-none d v k
   tell-bare d no-g no-s (cons (event {c = c} {m = m} h a) fs) (and {s = rs} {t = ps} (plans.event {k = j} x) es) =
       tell-use d v k j (eventWord d c m) (counting c m none []) (ofAll (usesOf d) rs ps) (ofAll toldOf rs ps) (tell-event d v c m h) (tell-bare d no-g no-s fs es)
-  tell-bare d no-g no-s (cons (packet g a) fs) (and (plans.packet x) es) = absurd (no-s g)
+  tell-bare d no-g no-s (cons (packet g m l a) fs) (and (plans.packet x) es) = absurd (no-s g)
   tell-bare d no-g no-s (cons (offcore g h t o c) fs) (and (plans.offcore x l) es) = absurd (no-g g)
   tell-bare d no-g no-s (cons (latency g h o c e) fs) (and (plans.latency x y) es) = absurd (no-g g)
 

@@ -8,14 +8,14 @@ use native.Mathlib.Nat.{le-refl, mod-eq-of-lt}
 use native.Mathlib.Omega.{arith}
 use lib.ListN.{length, getD, replicate, length-append}
 use lib.Pow.{pow-pos}
-use Rattle.requests.specs.Choice.{both, either, firstHolding}
+use Rattle.requests.specs.Choice.{both, either, firstHolding, every}
 use Rattle.requests.specs.declared.CounterSet.{CounterSet}
 use Rattle.requests.specs.declared.Device.{Device}
 use Rattle.requests.specs.declared.Device.the-variants.{G, S, C}
 use Rattle.requests.specs.declared.Setup.{Setup}
 use Rattle.requests.specs.declared.Request.{Request}
 use Rattle.requests.specs.declared.Request.the-variants.{Event, Packet}
-use Rattle.requests.specs.Bits.{bit, inList}
+use Rattle.requests.specs.Bits.{bit, inList, onlyBits, rising, field, matchBits, maskBits}
 use Rattle.requests.specs.Devices.{has, counterCount, capacity, allCounters, packetsOn, offcoreOn, pairsJudged}
 use Rattle.requests.specs.MaskRules.{allows}
 use Rattle.requests.specs.CBoxEvents.{sinkMasks, ringMasks, starvedMasks, bypassMasks, cboxEvents}
@@ -93,10 +93,10 @@ placesFrom zero k = []
 placesFrom (suc n) k = Counter k ∷ placesFrom n (suc k)
 
 -- they are all different
-rising : (n k : ℕ) → Pairwise _≢_ (counters (placesFrom n k))
+all-differ : (n k : ℕ) → Pairwise _≢_ (counters (placesFrom n k))
 unfolding placesFrom counters countersOf countedOf flatMap
-rising zero k = empty
-rising (suc n) k = add (above n (suc k) k (omega arith)) (rising n (suc k))
+all-differ zero k = empty
+all-differ (suc n) k = add (above n (suc k) k (omega arith)) (all-differ n (suc k))
   where
     above : (m j i : ℕ) → i < j → All (λ (x : ℕ). i ≢ x) (counters (placesFrom m j))
     above zero j i l = nil
@@ -118,7 +118,7 @@ places : Device → List Place
 places d = placesFrom (counterCount d) 0
 
 formed : (d : Device) → All (Formed (setup d)) (requests d)
-unfolding setup requests all both either firstHolding packetsOn offcoreOn pairsJudged allows inList eventsOf cboxEvents sinkMasks ringMasks starvedMasks bypassMasks codeIn pairIn maskNotListed kindNotOn notListed tooWide outOfRange incomplete conflicting requestRows requestRefusal allCounters counterCount
+unfolding setup requests all both either every bit onlyBits rising field matchBits maskBits firstHolding packetsOn offcoreOn pairsJudged allows inList eventsOf cboxEvents sinkMasks ringMasks starvedMasks bypassMasks codeIn pairIn maskNotListed kindNotOn notListed tooWide outOfRange incomplete conflicting requestRows requestRefusal allCounters counterCount
 formed G = cons refl (cons refl (cons refl (cons refl nil)))
 formed S = cons refl (cons refl (cons refl (cons refl nil)))
 formed (C b) = cons refl (cons refl (cons refl (cons refl (cons refl (cons refl nil)))))
@@ -145,7 +145,7 @@ legal : (d : Device) → Legal (setup d) (requests d) (places d)
 unfolding places
 legal d =
     record {
-      differ = rising (counterCount d) 0;
+      differ = all-differ (counterCount d) 0;
       usable-only = usable-from d (counterCount d) 0 (omega arith);
       allowed = allowed d;
       one-word = λ i l. one-word d i;

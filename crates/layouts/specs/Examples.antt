@@ -70,7 +70,7 @@ plans =
     -- usable 14 on S: a packet request takes counter 1, and 51/3 ("400351") counter 2
     ∷ record {
       setup = opened S 14 0;
-      requests = Packet 0x0123456789ABCDEF 0xFFFFFFFF00000000 all ∷ Event 0x51 0x03 all ∷ [];
+      requests = Packet 0x0123456789ABCDEF 0x0000007F00000000 all ∷ Event 0x51 0x03 all ∷ [];
       places = Counter 1 ∷ Counter 2 ∷ [];
       written =
           (0x0C40, 0x0000000000000001)
@@ -79,7 +79,7 @@ plans =
           ∷ (0x0C56, 0x0000000000000000)
           ∷ (0x0E48, 0x0000000000000000)
           ∷ (0x0E49, 0x0123456789ABCDEF)
-          ∷ (0x0E4A, 0xFFFFFFFF00000000)
+          ∷ (0x0E4A, 0x0000007F00000000)
           ∷ (0x0E48, 0x8000000000000000)
           ∷ (0x0C53, 0x0000000000000000)
           ∷ (0x0C55, 0x0000000000000000)
@@ -255,11 +255,11 @@ acceptances =
     }
     -- usable 14 on S: "An unusable counter is told as not ours", and its control value is not looked at
     ∷ record {
-      given = given 83 14 0 (onS (0xFFFF ∷ 0x400000 ∷ 0x400351 ∷ 0 ∷ []) 0x8000000000000000 0x0123456789ABCDEF 0xFFFFFFFF00000000 7);
-      tells = notOurs ∷ counting 0x00 0x00 none (0x0123456789ABCDEF ∷ 0xFFFFFFFF00000000 ∷ []) ∷ counting 0x51 0x03 none [] ∷ off ∷ [];
+      given = given 83 14 0 (onS (0xFFFF ∷ 0x400000 ∷ 0x400351 ∷ 0 ∷ []) 0x8000000000000000 0x0123456789ABCDEF 0x0000007F00000000 7);
+      tells = notOurs ∷ counting 0x00 0x00 none (0x0123456789ABCDEF ∷ 0x0000007F00000000 ∷ []) ∷ counting 0x51 0x03 none [] ∷ off ∷ [];
     }
     -- all off; "nor are MATCH and MASK where MM_CFG is 0"
-    ∷ record { given = given 83 15 0 (onS (0 ∷ 0 ∷ 0 ∷ 0 ∷ []) 0 5 6 0); tells = off ∷ off ∷ off ∷ off ∷ [] }
+    ∷ record { given = given 83 15 0 (onS (0 ∷ 0 ∷ 0 ∷ 0 ∷ []) 0 0xFFFFFFFFFFFFFFFF 0xFFFFFFFFFFFFFFFF 0); tells = off ∷ off ∷ off ∷ off ∷ [] }
     -- order 2: the number that the reader is given stands in bits 34:32
     ∷ record { given = given 71 15 5 (onG (0 ∷ 0 ∷ 0 ∷ 0 ∷ []) 0 0 0x500000000); tells = off ∷ off ∷ off ∷ off ∷ [] }
     -- order 3: six control values and no filter registers
@@ -323,6 +323,8 @@ refusals =
     ∷ refusedAs 15 (givenBox 0 63 (onC (0x400000 ∷ 0 ∷ 0 ∷ 0 ∷ 0 ∷ 0 ∷ []) 1))
     ∷ refusedAs 15 (givenBox 0 63 (onC (0x40050B ∷ 0 ∷ 0 ∷ 0 ∷ 0 ∷ 0 ∷ []) 1))
     ∷ refusedAs 15 (givenBox 0 63 (onC (0 ∷ 0 ∷ 0 ∷ 0 ∷ 0 ∷ 0 ∷ []) 0x40))
+    -- order 5: a bit outside the fields of the mask register
+    ∷ refusedAs 15 (given 83 15 0 (onS (0x400000 ∷ 0 ∷ 0 ∷ 0 ∷ []) 0x8000000000000000 0 0x8000000000 1))
     ∷ []
 
 pub record Examples : Type 0 where

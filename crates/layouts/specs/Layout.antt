@@ -8,7 +8,7 @@ use lib.ListN.{getD}
 use Rattle.requests.specs.Choice.{pick}
 use Rattle.requests.specs.declared.Device.{Device}
 use Rattle.requests.specs.declared.Device.the-variants.{G, S, C}
-use Rattle.requests.specs.Bits.{rsp0Bits, rsp1Bits}
+use Rattle.requests.specs.Bits.{rsp0Bits, rsp1Bits, field, matchBits, maskBits}
 use Rattle.requests.specs.Devices.{counterCount}
 use Rattle.layouts.specs.declared.Layout.{Layout}
 
@@ -79,10 +79,6 @@ filtersAt (C b) = []
 
 -- ---- fields
 
--- the bits from high down to low, as the manuals print a field
-unfoldable pub field : ℕ → ℕ → List ℕ
-field high low = tabulate (suc high - low) (λ k. low + k)
-
 -- what a control register has. G: event 7:0, unit mask 15:8, USR, OS, E, PC, INT 20:16, EN, INV, CMASK 31:22.
 -- S: ev_sel 7:0, umask 15:8, reset_occ_cnt 17, edge_detect 18, pmi_en 20, enable 22, invert 23, threshold 31:24.
 -- C (table 2-13): ev_sel 7:0, umask 15:8, edge_detect 18, pmi_en 20, en 22, invert 23, threshold 31:24
@@ -143,9 +139,14 @@ packetWord d = eventWord d 0 0
 abbrev pub Register : Type 0
 Register = ℕ × List ℕ
 
--- each register with reserved bits. (MATCH and MASK pass on what they are given, and counts are zeroed.)
+-- each register with reserved bits. (Counts are zeroed.)
 unfoldable pub registersOf : Device → List Register
 registersOf G =
     (layoutOf G .global, globalBits G) ∷ (rsp0At, rsp0Bits) ∷ (rsp1At, rsp1Bits) ∷ tabulate (counterCount G) (λ k. (controlAt G k, controlBits G))
-registersOf S = (layoutOf S .global, globalBits S) ∷ (mmCfgAt, mmEnable ∷ []) ∷ tabulate (counterCount S) (λ k. (controlAt S k, controlBits S))
+registersOf S =
+    (layoutOf S .global, globalBits S)
+    ∷ (mmCfgAt, mmEnable ∷ [])
+    ∷ (matchAt, matchBits)
+    ∷ (maskAt, maskBits)
+    ∷ tabulate (counterCount S) (λ k. (controlAt S k, controlBits S))
 registersOf (C b) = (layoutOf (C b) .global, globalBits (C b)) ∷ tabulate (counterCount (C b)) (λ k. (controlAt (C b) k, controlBits (C b)))

@@ -27,6 +27,10 @@ permittedOf S =
     (0x0C40, 0x000000000000000F)
     -- 004, 2.5.3.4: bit 63
     ∷ (0x0E48, 0x8000000000000000)
+    -- 004, table 2-33, whose rows are lost: no bit is known to lie outside a field
+    ∷ (0x0E49, 0xFFFFFFFFFFFFFFFF)
+    -- 004, table 2-35: addr 38:1, hnid 0
+    ∷ (0x0E4A, 0x0000007FFFFFFFFF)
     -- 004, table 2-30: 31:0 without the ignored bits 16, 19 and 21
     ∷ (0x0C50, 0x00000000FFD6FFFF)
     ∷ (0x0C52, 0x00000000FFD6FFFF)

@@ -9,7 +9,7 @@ use Rattle.requests.specs.declared.Device.{Device}
 use Rattle.requests.specs.declared.Device.the-variants.{G, S, C}
 use Rattle.requests.specs.declared.Opening.{Opening}
 use Rattle.requests.specs.declared.Setup.{Setup}
-use Rattle.requests.specs.declared.Request.the-variants.{Event, Offcore, Latency}
+use Rattle.requests.specs.declared.Request.the-variants.{Event, Packet, Offcore, Latency}
 use Rattle.requests.specs.declared.Refusal.{Refusal}
 use Rattle.requests.specs.declared.Refusal.the-variants.{BadOpening, NotLeftByPlan}
 use Rattle.requests.specs.declared.Answer.the-variants.{Accepted, Refused}
@@ -71,7 +71,13 @@ latencyFits s n0 n1 w0 w1 =
 unfoldable pub rsp0Fits : Setup → ℕ → ℕ → ℕ → ℕ → Bool
 rsp0Fits s n0 n1 w0 w1 = pick (eqb n0 0) (eqb w0 0) (either (formed s (Offcore w0 noCounter)) (latencyFits s n0 n1 w0 w1))
 
--- the filter values beside the control values f; MM_CFG is 2^63 where a counter counts packets, and otherwise 0
+-- MM_CFG, MATCH and MASK with n counters of packets: MM_CFG is 2^63 where there are some, and otherwise 0. Order 5: no bit outside the fields
+-- of match and mask "where MM_CFG is 2^63"
+unfoldable pub packetsFit : Setup → ℕ → FilterValues → Bool
+packetsFit s n v =
+    pick (eqb n 0) (eqb (v .«mm_cfg») 0) (both (eqb (v .«mm_cfg») (2 ^ mmEnable)) (formed s (Packet (v .«match_word») (v .«mask_word») noCounter)))
+
+-- the filter values beside the control values f
 unfoldable pub filtersFit : Setup → (ℕ → ℕ) → FilterValues → Bool
 filtersFit s f v =
     let n = counterCount (s .device) in
@@ -79,7 +85,7 @@ filtersFit s f v =
       | G ↦ let n0 = count n f (rspWord G 0) in
           let n1 = count n f (rspWord G 1) in
           both (rsp1Fits s n1 (v .rsp1)) (rsp0Fits s n0 n1 (v .rsp0) (v .rsp1))
-      | S ↦ eqb (v .«mm_cfg») (pick (eqb (count n f (packetWord S)) 0) 0 (2 ^ mmEnable))
+      | S ↦ packetsFit s (count n f (packetWord S)) v
       | C b ↦ true
     ]
 

@@ -2,7 +2,7 @@
 use mathlib.Core.Path.{_≡_, sym, ap, _∙_, refl}
 use mathlib.Core.Bool.{true, false, not}
 use mathlib.Core.List.{List}
-use Prim.Native.Nat.{ℕ, _^_}
+use Prim.Native.Nat.{ℕ}
 use native.Mathlib.Omega.{arith}
 use lib.Dec.{eqb}
 use lib.ListN.{getD}
@@ -12,10 +12,10 @@ use Rattle.requests.specs.declared.Device.the-variants.{G, S, C}
 use Rattle.requests.specs.declared.Setup.{Setup}
 use Rattle.requests.specs.Choice.{both, every, pick}
 use Rattle.requests.specs.Devices.{counterCount}
-use Rattle.layouts.specs.Layout.{mmEnable, rspWord, packetWord}
+use Rattle.layouts.specs.Layout.{rspWord, packetWord}
 use Rattle.layouts.specs.Settings.{setFrom}
 use Rattle.layouts.specs.Writes.{lastGlobal}
-use Rattle.layouts.specs.Read.{ours, count, controlFits, rsp1Fits, rsp0Fits, filtersFit, accepts}
+use Rattle.layouts.specs.Read.{ours, count, controlFits, rsp1Fits, rsp0Fits, packetsFit, filtersFit, accepts}
 use Rattle.layouts.specs.declared.FilterValues.{FilterValues}
 use Rattle.layouts.specs.declared.RegisterValues.{RegisterValues}
 use Rattle.layouts.proofs.UsableSets.{on}
@@ -31,7 +31,7 @@ module _ (f : ℕ → ℕ) (v : FilterValues) where
   filters-G (C b) u n0 n1 e e0 e1 = let z : _≡_ {A = ℕ} 0 1 = cc in absurd (omega arith)
 
   pub filters-S : (d : Device) (u : Setup) (n : ℕ) → d ≡ S → n ≡ count (counterCount d) f (packetWord S)
-      → eqb (v .«mm_cfg») (pick (eqb n 0) 0 (2 ^ mmEnable)) ≡ filtersFit (on d u) f v
+      → packetsFit (on d u) n v ≡ filtersFit (on d u) f v
   unfolding filtersFit
   filters-S S u n e en = rw en
   filters-S G u n e en = let z : _≡_ {A = ℕ} 0 1 = cc in absurd (omega arith)

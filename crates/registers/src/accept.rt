@@ -22,15 +22,15 @@ use requests::devices::counter_count;
 use requests::set::has;
 ghost use mathlib.Core.Path.{_≡_};
 ghost use mathlib.Core.Bool.{not};
-ghost use Prim.Native.Nat.{_≤_, _^_};
+ghost use Prim.Native.Nat.{_≤_};
 ghost use lib.Dec.{eqb};
 ghost use lib.ListN.{getD};
 ghost use Rattle.requests.specs.Choice.{every, pick};
 ghost use Rattle.requests.specs.Devices.{capacity};
 ghost use Rattle.requests.specs.Checks.{formed};
-ghost use Rattle.layouts.specs.Layout.{tabulate, mmEnable};
+ghost use Rattle.layouts.specs.Layout.{tabulate};
 ghost use Rattle.layouts.specs.Settings.{setFrom};
-ghost use Rattle.layouts.specs.Read.{ours, count, filterWord, controlFits, rsp1Fits, latencyFits, rsp0Fits, filtersFit, accepts};
+ghost use Rattle.layouts.specs.Read.{ours, count, filterWord, controlFits, rsp1Fits, latencyFits, rsp0Fits, packetsFit, filtersFit, accepts};
 
 // Whether none of the refusals 7 to 11 applies.
 fn formed(setup: Setup, request: Request) -> bool
@@ -160,11 +160,24 @@ fn count_of(limit: u64, words: [u64; CAPACITY], word: u64) -> u64
     found
 }
 
-// What MM_CFG holds beside the counters of packets.
-fn mm_cfg_of(counters: u64) -> u64
-    ensures { λ r. ⌜ r ≡ pick (eqb counters 0) 0 (2 ^ mmEnable) ⌝ }
+// Whether MM_CFG, MATCH and MASK may hold their values beside the counters of packets.
+fn packets_fit(setup: Setup, counters: u64, filters: FilterValues) -> bool
+    ensures { λ r. ⌜ r ≡ packetsFit setup counters filters ⌝ }
 {
-    if counters == 0 { 0 } else { MM_CFG_ENABLE }
+    if counters == 0 {
+        return filters.mm_cfg == 0;
+    }
+    if filters.mm_cfg == MM_CFG_ENABLE {
+        return formed(
+            setup,
+            Request::Packet {
+                match_word: filters.match_word,
+                mask_word: filters.mask_word,
+                allowed: CounterSet(0),
+            },
+        );
+    }
+    false
 }
 
 // Whether the filter registers may hold their values beside the control words.
@@ -184,7 +197,7 @@ fn filters_fit(setup: Setup, words: [u64; CAPACITY], filters: FilterValues) -> b
         }
         Device::S => {
             let counters = count_of(limit, words, packet_word(Device::S));
-            filters.mm_cfg == mm_cfg_of(counters)
+            packets_fit(setup, counters, filters)
         }
         Device::C(_) => true,
     }

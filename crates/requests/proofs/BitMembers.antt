@@ -15,8 +15,8 @@ use lib.Seq.{drop-cons}
 use lib.Pow.{pow-pos, pow-mono}
 use borrow.Author.Tests.{eqb-true, eq-eqb, ne-eqb, ltb-true, ltb-false, not-false}
 use Rattle.requests.specs.Choice.{both, either, every}
-use Rattle.requests.specs.Bits.{bit, inList, anyBit, onlyBits, typeBits, rsp0Bits}
-use Rattle.requests.specs.Masks.{bitsOf, typeMask, permittedMask}
+use Rattle.requests.specs.Bits.{bit, inList, anyBit, onlyBits, typeBits, rsp0Bits, matchBits, maskBits}
+use Rattle.requests.specs.Masks.{bitsOf, typeMask, permittedMask, matchMask, maskMask}
 use Rattle.requests.specs.RefusedRequests.{HasBit, HasNone, HasReserved}
 use Rattle.requests.proofs.Tests.{both-ways, either-cases, either-left, either-right, either-parts, both-parts, every-fails}
 use Rattle.requests.proofs.Words.{bit-past, low-false}
@@ -131,9 +131,15 @@ module _ (ks : List ℕ) (w : ℕ) where
       off h (yes l) = reserved ks k w l (eq-false-of-not-eq-true (λ i. out (in-member ks k i))) h
       off h (no g) = bit-past k w (ltb-true w (2 ^ 64) (both-parts _ _ h .0)) (omega arith)
 
--- reserved bits of an offcore word, and of a type
+-- reserved bits of an offcore word, of a type, and of the packet filters
 pub permitted-reserved : (w : ℕ) → onlyBits rsp0Bits w ≡ false → HasReserved rsp0Bits w
 permitted-reserved w h = only-reserved rsp0Bits w (mask-below _ rsp0Bits permittedMask) h
 
 pub types-reserved : (t : ℕ) → onlyBits typeBits t ≡ false → HasReserved typeBits t
 types-reserved t h = only-reserved typeBits t (mask-below _ typeBits typeMask) h
+
+pub match-reserved : (x : ℕ) → onlyBits matchBits x ≡ false → HasReserved matchBits x
+match-reserved x h = only-reserved matchBits x (mask-below _ matchBits matchMask) h
+
+pub mask-reserved : (y : ℕ) → onlyBits maskBits y ≡ false → HasReserved maskBits y
+mask-reserved y h = only-reserved maskBits y (mask-below _ maskBits maskMask) h

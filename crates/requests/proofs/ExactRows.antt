@@ -9,19 +9,19 @@ use native.Mathlib.Omega.{arith}
 use lib.Dec.{eqb}
 use borrow.Author.Tests.{not-true, eqb-true, eqb-false, ne-eqb, ltb-true, lt-ltb}
 use Rattle.requests.specs.Choice.{both, either, pick}
-use Rattle.requests.specs.Bits.{anyBit, typeBits, anyResponse, answerBits, outstanding, rsp0Bits}
+use Rattle.requests.specs.Bits.{anyBit, typeBits, anyResponse, answerBits, outstanding, rsp0Bits, matchBits, maskBits}
 use Rattle.requests.specs.Devices.{packetsOn, offcoreOn, pairsJudged}
 use Rattle.requests.specs.MaskRules.{MaskRule}
 use Rattle.requests.specs.Catalogue.{eventsOf, codeIn, pairIn, maskNotListed}
 use Rattle.requests.specs.Checks.{kindNotOn, notListed, tooWide, outOfRange, incomplete, conflicting}
-use Rattle.requests.specs.RefusedRequests.{Lists, InCatalogue, TypesIn, offcore-word, latency-types, AllowedSet, of-event, of-packet, of-offcore, first-of-latency, second-of-latency, PairsOn, CodesOn, KindNotOn, no-packet, no-offcore, no-latency, NotListed, pair, code, Incomplete, mask-0, no-type, no-response, OutOfRange, mask-other, word-bit, type-bit, wide-set, Conflicting, bit-38, bit-16, RefusedRequests}
+use Rattle.requests.specs.RefusedRequests.{Lists, InCatalogue, TypesIn, offcore-word, latency-types, AllowedSet, of-event, of-packet, of-offcore, first-of-latency, second-of-latency, PairsOn, CodesOn, KindNotOn, no-packet, no-offcore, no-latency, NotListed, pair, code, Incomplete, mask-0, no-type, no-response, OutOfRange, mask-other, word-bit, type-bit, wide-set, Conflicting, bit-38, bit-16, RefusedRequests, match-bit, mask-bit}
 use Rattle.requests.specs.declared.CounterSet.{CounterSet}
 use Rattle.requests.specs.declared.Device.{Device}
 use Rattle.requests.specs.declared.Device.the-variants.{G, S, C}
 use Rattle.requests.specs.declared.Request.{Request}
 use Rattle.requests.specs.declared.Request.the-variants.{Event, Packet, Offcore, Latency}
 use Rattle.requests.proofs.Tests.{both-ways, both-parts, true-both, either-cases, either-left, either-right, either-false}
-use Rattle.requests.proofs.BitMembers.{any-has, any-of-has, none-has, none-of-has, none-has-more, none-apart, none-joined, permitted-reserved, types-reserved, reserved-only}
+use Rattle.requests.proofs.BitMembers.{any-has, any-of-has, none-has, none-of-has, none-has-more, none-apart, none-joined, permitted-reserved, types-reserved, reserved-only, match-reserved, mask-reserved}
 use Rattle.requests.proofs.CatalogueRows.{code-row, row-code, pair-row, row-pair, one-row-on, judged, pairs-judged, codes-judged, zero-on-S, above-on-S}
 
 -- ---- 7
@@ -158,7 +158,7 @@ wide-applies d r a of h = wide-set of (ltb-true _ _ h)
 wide-holds : (d : Device) (r : Request) (a : CounterSet) → AllowedSet r a → tooWide d a ≡ true → outOfRange d r ≡ true
 unfolding outOfRange
 wide-holds d r a of-event h = either-right _ _ h
-wide-holds d r a of-packet h = h
+wide-holds d r a of-packet h = either-right _ _ (either-right _ _ h)
 wide-holds d r a of-offcore h = either-right _ _ h
 wide-holds d r a first-of-latency h = either-right _ _ (either-left _ _ h)
 wide-holds d r a second-of-latency h = either-right _ _ (either-right _ _ h)
@@ -172,7 +172,10 @@ range-applies d (Event c m a) h = ⊎-elim other (wide-applies d _ a of-event) (
         let p = both-parts (not (eqb m 0)) (maskNotListed d c m) t in
         let row = mask-row d c m (p .1) in
         mask-other (row .0) (row .1 .1) (row .1 .2) (eqb-false m 0 (not-true _ (p .0)))
-range-applies d (Packet x y a) h = wide-applies d _ a of-packet h
+range-applies d (Packet x y a) h =
+    ⊎-elim (λ t. match-bit (match-reserved x (not-true _ t)))
+    (λ t. ⊎-elim (λ u. mask-bit (mask-reserved y (not-true _ u))) (wide-applies d _ a of-packet) (either-cases _ _ t))
+    (either-cases _ _ h)
 range-applies d (Offcore w a) h =
     ⊎-elim (λ t. word-bit (permitted-reserved w (not-true _ t))) (wide-applies d _ a of-offcore) (either-cases _ _ h)
 range-applies d (Latency t a b) h =
@@ -186,6 +189,8 @@ range-holds d r (mask-other {c = c} {m = m} {masks = masks} on row out some) =
     either-left _ _ (true-both _ _ (ap not (ne-eqb m 0 some)) (row-mask d on c m masks row out))
 range-holds d r (word-bit {w = w} h) = either-left _ _ (ap not (reserved-only rsp0Bits w h))
 range-holds d r (type-bit {t = t} h) = either-left _ _ (ap not (reserved-only typeBits t h))
+range-holds d r (match-bit {x = x} h) = either-left _ _ (ap not (reserved-only matchBits x h))
+range-holds d r (mask-bit {y = y} h) = either-right _ _ (either-left _ _ (ap not (reserved-only maskBits y h)))
 range-holds d r (wide-set {a = a} of h) = wide-holds d r a of (lt-ltb _ _ h)
 
 -- ---- 11

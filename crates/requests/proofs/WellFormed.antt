@@ -10,11 +10,11 @@ use native.Mathlib.Nat.{lt-of-not-le}
 use native.Mathlib.Omega.{arith}
 use lib.Dec.{lit<}
 use Rattle.requests.specs.Choice.{either}
-use Rattle.requests.specs.Bits.{bit, inList, anyBit, onlyBits, typeBits, anyResponse, answerBits, outstanding, rsp0Bits, rsp1Bits}
+use Rattle.requests.specs.Bits.{bit, inList, anyBit, onlyBits, typeBits, anyResponse, answerBits, outstanding, rsp0Bits, rsp1Bits, matchBits, maskBits}
 use Rattle.requests.specs.Devices.{allCounters}
 use Rattle.requests.specs.MaskRules.{MaskRule}
 use Rattle.requests.specs.Catalogue.{eventsOf, pairIn}
-use Rattle.requests.specs.RefusedRequests.{Lists, InCatalogue, PairListed, PairsOn, on-G, CodesOn, on-S, offcore-word, latency-types, AllowedSet, of-event, of-packet, of-offcore, first-of-latency, second-of-latency, KindNotOn, no-packet, no-offcore, no-latency, NotListed, pair, code, Incomplete, mask-0, no-type, no-response, OutOfRange, mask-other, word-bit, type-bit, wide-set, Conflicting, bit-38, bit-16}
+use Rattle.requests.specs.RefusedRequests.{Lists, InCatalogue, PairListed, PairsOn, on-G, CodesOn, on-S, offcore-word, latency-types, AllowedSet, of-event, of-packet, of-offcore, first-of-latency, second-of-latency, KindNotOn, no-packet, no-offcore, no-latency, NotListed, pair, code, Incomplete, mask-0, no-type, no-response, OutOfRange, mask-other, word-bit, type-bit, wide-set, Conflicting, bit-38, bit-16, match-bit, mask-bit}
 use Rattle.requests.specs.WellFormedRequests.{OneResponse, Described, event, packet, offcore, latency, WellFormedRequests}
 use Rattle.requests.specs.declared.CounterSet.{CounterSet}
 use Rattle.requests.specs.declared.Device.{Device}
@@ -24,7 +24,7 @@ use Rattle.requests.specs.declared.Request.{Request}
 use Rattle.requests.specs.declared.Request.the-variants.{Event, Packet, Offcore, Latency}
 use Rattle.requests.proofs.Tests.{both-ways}
 use Rattle.requests.proofs.BitLists.{only-without, reserved}
-use Rattle.requests.proofs.BitMembers.{any-has, any-of-has, none-has, none-of-has, none-has-more, permitted-reserved, types-reserved, reserved-only}
+use Rattle.requests.proofs.BitMembers.{any-has, any-of-has, none-has, none-of-has, none-has-more, permitted-reserved, types-reserved, reserved-only, match-reserved, mask-reserved}
 use Rattle.requests.proofs.CatalogueRows.{pair-row, row-pair, one-row-on, judged}
 use Rattle.requests.proofs.ExactRows.{is-s, is-g}
 use Rattle.requests.proofs.Passes.{Passes, passes, formed-by}
@@ -78,18 +78,21 @@ event-passes d c m a h fits =
 
 -- **packet**
 
-packet-in-range : (d : Device) (x y : ℕ) (a : CounterSet) → a .0 ≤ allCounters d → ¬ OutOfRange d (Packet x y a)
-packet-in-range d x y a fits (wide-set of-packet wide) = omega (arith, fits, wide)
+packet-in-range : (d : Device) (x y : ℕ) (a : CounterSet) → onlyBits matchBits x ≡ true → onlyBits maskBits y ≡ true → a .0 ≤ allCounters d
+    → ¬ OutOfRange d (Packet x y a)
+packet-in-range d x y a matching masking fits (match-bit h) = both-ways matching (reserved-only matchBits x h)
+packet-in-range d x y a matching masking fits (mask-bit h) = both-ways masking (reserved-only maskBits y h)
+packet-in-range d x y a matching masking fits (wide-set of-packet wide) = omega (arith, fits, wide)
 
 packet-complete : (d : Device) (x y : ℕ) (a : CounterSet) → ¬ Incomplete d (Packet x y a)
 packet-complete d x y a (no-type types none) = elim types [ ]
 
-packet-passes : (d : Device) (x y : ℕ) (a : CounterSet) → d ≡ S → a .0 ≤ allCounters d → Passes d (Packet x y a)
-packet-passes d x y a on-s fits =
+packet-passes : (d : Device) (x y : ℕ) (a : CounterSet) → d ≡ S → onlyBits matchBits x ≡ true → onlyBits maskBits y ≡ true → a .0 ≤ allCounters d → Passes d (Packet x y a)
+packet-passes d x y a on-s matching masking fits =
     record {
       kind = λ h. elim h [ no-packet n ↦ n on-s ];
       listed = λ h. elim h [ ];
-      in-range = packet-in-range d x y a fits;
+      in-range = packet-in-range d x y a matching masking fits;
       complete = packet-complete d x y a;
       consistent = λ h. elim h [ ];
     }
@@ -171,7 +174,10 @@ module _ (d : Device) (t : ℕ) (a b : CounterSet) where
 -- both directions
 described : (s : Setup) (r : Request) → Passes (s .device) r → Described s r
 described s (Event c m a) p = event (pair-listed _ c m a p) (counters _ _ a p of-event)
-described s (Packet x y a) p = packet (is-s _ (λ n. p .kind (no-packet n))) (counters _ _ a p of-packet)
+described s (Packet x y a) p =
+    packet (is-s _ (λ n. p .kind (no-packet n))) (eq-true-of-not-eq-false (λ e. p .in-range (match-bit (match-reserved x e))))
+    (eq-true-of-not-eq-false (λ e. p .in-range (mask-bit (mask-reserved y e))))
+    (counters _ _ a p of-packet)
 described s (Offcore w a) p = offcore-described s w a p
 described s (Latency t a b) p =
     latency (is-g _ (λ n. p .kind (no-latency n))) (eq-true-of-not-eq-false (λ e. p .in-range (type-bit (types-reserved t e))))
@@ -181,7 +187,7 @@ described s (Latency t a b) p =
 
 described-passes : (s : Setup) (r : Request) → Described s r → Passes (s .device) r
 described-passes s (Event c m a) (event listed fits) = event-passes _ c m a listed fits
-described-passes s (Packet x y a) (packet on-s fits) = packet-passes _ x y a on-s fits
+described-passes s (Packet x y a) (packet on-s matching masking fits) = packet-passes _ x y a on-s matching masking fits
 described-passes s (Offcore w a) (offcore on-g only types one fits) = offcore-passes _ w a only on-g types one fits
 described-passes s (Latency t a b) (latency on-g only types first second) = latency-passes _ t a b on-g only types first second
 

@@ -5,7 +5,7 @@ use mathlib.Core.Option.{Option, none}
 use mathlib.Core.Path.{_≡_}
 use lib.Dec.{ltb, eqb}
 use Rattle.requests.specs.Choice.{both, either, pick, isSome, Row, firstHolding}
-use Rattle.requests.specs.Bits.{onlyBits, anyBit, typeBits, anyResponse, answerBits, outstanding, rsp0Bits}
+use Rattle.requests.specs.Bits.{onlyBits, anyBit, typeBits, anyResponse, answerBits, outstanding, rsp0Bits, matchBits, maskBits}
 use Rattle.requests.specs.Devices.{allCounters, packetsOn, offcoreOn, pairsJudged}
 use Rattle.requests.specs.Catalogue.{eventsOf, codeIn, pairIn, maskNotListed}
 use Rattle.requests.specs.declared.CounterSet.{CounterSet}
@@ -34,10 +34,11 @@ notListed d (Latency t a b) = false
 unfoldable pub tooWide : Device → CounterSet → Bool
 tooWide d a = ltb (allCounters d) (a .0)
 
--- 10: a mask, not 0, that is not listed for its code; reserved word or type bit; allowed set above all counters
+-- 10: a mask, not 0, that is not listed for its code; reserved word or type bit; bit outside the fields of match or mask; allowed set above all
+-- counters
 unfoldable pub outOfRange : Device → Request → Bool
 outOfRange d (Event c m a) = either (both (not (eqb m 0)) (maskNotListed d c m)) (tooWide d a)
-outOfRange d (Packet x y a) = tooWide d a
+outOfRange d (Packet x y a) = either (not (onlyBits matchBits x)) (either (not (onlyBits maskBits y)) (tooWide d a))
 outOfRange d (Offcore w a) = either (not (onlyBits rsp0Bits w)) (tooWide d a)
 outOfRange d (Latency t a b) = either (not (onlyBits typeBits t)) (either (tooWide d a) (tooWide d b))
 

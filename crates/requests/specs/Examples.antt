@@ -101,6 +101,13 @@ examples =
     ∷ example S (Packet 0 0 all) none
     ∷ example S (Offcore 0x10001 all) (some 7)
     ∷ example S (Latency 0x0001 all all) (some 7)
+    -- order 5: bits outside the fields of the mask register; of the match register none is known
+    ∷ example S (Packet 0 0x0000007FFFFFFFFF all) none
+    ∷ example S (Packet 0 0x0000008000000000 all) (some 10)
+    ∷ example S (Packet 0 0x8000000000000000 all) (some 10)
+    ∷ example S (Packet 0xFFFFFFFFFFFFFFFF 0x1 all) none
+    -- "7 first"
+    ∷ example G (Packet 0 0x8000000000000000 (record { 0 = 16 })) (some 7)
     -- "allowed set above 15"
     ∷ example S (Packet 0 0 (record { 0 = 16 })) (some 10)
     ∷ example G (Latency 0x0001 all (record { 0 = 16 })) (some 10)

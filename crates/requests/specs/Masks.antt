@@ -3,7 +3,7 @@ use mathlib.Core.Path.{_≡_, refl}
 use mathlib.Core.List.{List, [], _∷_, _++_}
 use Prim.Native.Nat.{ℕ, zero, suc, _+_}
 use Rattle.requests.specs.Choice.{pick}
-use Rattle.requests.specs.Bits.{bit, typeBits, anyResponse, answerBits, outstanding, rsp0Bits, rsp1Bits}
+use Rattle.requests.specs.Bits.{bit, typeBits, anyResponse, answerBits, outstanding, rsp0Bits, rsp1Bits, rising, field, matchBits, maskBits}
 
 -- the bits below n that the word has, rising
 unfoldable pub bitsBelow : ℕ → ℕ → List ℕ
@@ -42,3 +42,12 @@ responseMask = refl
 pub permittedMask : bitsOf (answers + 0x0000_0040_0001_FFBF) ≡ rsp0Bits
 unfolding bitsOf bitsBelow bit rsp0Bits rsp1Bits typeBits anyResponse answerBits outstanding
 permittedMask = refl
+
+-- the fields of the packet filters
+pub matchMask : bitsOf 0xFFFF_FFFF_FFFF_FFFF ≡ matchBits
+unfolding bitsOf bitsBelow bit rising field matchBits
+matchMask = refl
+
+pub maskMask : bitsOf 0x0000_007F_FFFF_FFFF ≡ maskBits
+unfolding bitsOf bitsBelow bit rising field maskBits
+maskMask = refl

@@ -4,7 +4,7 @@ use mathlib.Core.Logic.{_↔_}
 use mathlib.Core.List.{List, _∷_, List·Memᴰ}
 use mathlib.Core.Bool.{true, false}
 use Prim.Native.Nat.{ℕ, _≤_, _<_}
-use Rattle.requests.specs.Bits.{bit, typeBits, anyResponse, answerBits, outstanding, rsp0Bits}
+use Rattle.requests.specs.Bits.{bit, typeBits, anyResponse, answerBits, outstanding, rsp0Bits, matchBits, maskBits}
 use Rattle.requests.specs.Devices.{allCounters}
 use Rattle.requests.specs.MaskRules.{MaskRule, alone, range, among, listed}
 use Rattle.requests.specs.Catalogue.{eventsOf}
@@ -105,6 +105,9 @@ pub data OutOfRange : Device → Request → Type 0 where
   word-bit : {d : Device} {w : ℕ} {a : CounterSet} → HasReserved rsp0Bits w → OutOfRange d (Offcore w a)
   -- "reserved .. type bit"
   type-bit : {d : Device} {t : ℕ} {a b : CounterSet} → HasReserved typeBits t → OutOfRange d (Latency t a b)
+  -- order 5: "Bits outside the fields .. are refused in match and in mask"
+  match-bit : {d : Device} {x y : ℕ} {a : CounterSet} → HasReserved matchBits x → OutOfRange d (Packet x y a)
+  mask-bit : {d : Device} {x y : ℕ} {a : CounterSet} → HasReserved maskBits y → OutOfRange d (Packet x y a)
   -- "allowed set above 15", on C above 63: `Openings.bounds` gives the number
   wide-set : {d : Device} {r : Request} {a : CounterSet} → AllowedSet r a → allCounters d < a .0 → OutOfRange d r
 

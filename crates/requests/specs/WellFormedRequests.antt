@@ -3,7 +3,7 @@ use mathlib.Core.Path.{_≡_}
 use mathlib.Core.Logic.{_⊎_}
 use mathlib.Core.Bool.{true, false}
 use Prim.Native.Nat.{ℕ, _≤_}
-use Rattle.requests.specs.Bits.{bit, onlyBits, anyBit, typeBits, anyResponse, answerBits, rsp1Bits}
+use Rattle.requests.specs.Bits.{bit, onlyBits, anyBit, typeBits, anyResponse, answerBits, rsp1Bits, matchBits, maskBits}
 use Rattle.requests.specs.Devices.{allCounters}
 use Rattle.requests.specs.Catalogue.{eventsOf, pairIn}
 use Rattle.requests.specs.Checks.{Formed}
@@ -27,8 +27,9 @@ OneResponse w =
 pub data Described (s : Setup) : Request → Type 0 where
   -- "the pair must be one of" the listed ones
   event : {c m : ℕ} {a : CounterSet} → pairIn (eventsOf (s .device)) c m ≡ true → CountersOf s a → Described s (Event c m a)
-  -- "S only"
-  packet : {x y : ℕ} {a : CounterSet} → s .device ≡ S → CountersOf s a → Described s (Packet x y a)
+  -- "S only": no bit outside the fields of match and of mask
+  packet : {x y : ℕ} {a : CounterSet} → s .device ≡ S → onlyBits matchBits x ≡ true → onlyBits maskBits y ≡ true → CountersOf s a
+      → Described s (Packet x y a)
   -- "G only": no reserved bit nor bit 38, "a request type and either bit 16 or one or more snoop answers, not both"
   offcore : {w : ℕ} {a : CounterSet} → s .device ≡ G → onlyBits rsp1Bits w ≡ true → anyBit typeBits w ≡ true → OneResponse w → CountersOf s a
       → Described s (Offcore w a)

@@ -1,4 +1,5 @@
-// Bits of words, tested by masks: the bits of an offcore word by their roles, each with the document that names them.
+// Bits of words, tested by masks: the bits of an offcore word by their roles, and those of the packet filters, each with the document that
+// names them.
 ghost use mathlib.Core.Path.{_≡_};
 ghost use Rattle.requests.specs.Bits.{anyBit, latencyWord, onlyBits};
 ghost use Rattle.requests.specs.Masks.{bitsOf};
@@ -21,6 +22,12 @@ pub const RESPONSES_OR_OUTSTANDING: u64 = ANY_RESPONSE | ANSWERS | OUTSTANDING;
 
 // All permitted bits.
 pub const PERMITTED: u64 = TYPES | RESPONSES_OR_OUTSTANDING;
+
+// The fields of S_MSR_MATCH: 004, Table 2-33, whose rows our extract has lost.
+pub const MATCH: u64 = 0xFFFF_FFFF_FFFF_FFFF;
+
+// The fields of S_MSR_MASK (004, Table 2-35): hnid 0, addr 38:1.
+pub const MASK: u64 = 0x0000_007F_FFFF_FFFF;
 
 // Whether the word has a bit of the mask.
 pub fn any_bit(mask: u64, word: u64) -> bool

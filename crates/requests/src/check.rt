@@ -8,6 +8,8 @@ use crate::Request;
 use crate::Setup;
 use crate::bits::ANSWERS;
 use crate::bits::ANY_RESPONSE;
+use crate::bits::MASK;
+use crate::bits::MATCH;
 use crate::bits::OUTSTANDING;
 use crate::bits::PERMITTED;
 use crate::bits::RESPONSES_OR_OUTSTANDING;
@@ -118,6 +120,18 @@ fn event_out_of_range(
     too_wide(device, allowed)
 }
 
+// A bit outside the fields of match or mask, or an allowed set above all counters.
+fn packet_out_of_range(device: Device, matching: u64, masking: u64, allowed: CounterSet) -> bool
+    ensures { λ r. ⌜ r ≡ outOfRange device (Request.Packet matching masking allowed) ⌝ }
+{
+    if only_bits(MATCH, matching) {
+        if only_bits(MASK, masking) {
+            return too_wide(device, allowed);
+        }
+    }
+    true
+}
+
 // A reserved bit, or an allowed set above all counters.
 fn offcore_out_of_range(device: Device, word: u64, allowed: CounterSet) -> bool
     ensures { λ r. ⌜ r ≡ outOfRange device (Request.Offcore word allowed) ⌝ }
@@ -152,7 +166,11 @@ fn out_of_range(device: Device, request: Request, listing: Listing) -> bool
             mask,
             allowed,
         } => event_out_of_range(device, code, mask, allowed, listing),
-        Request::Packet { allowed, .. } => too_wide(device, allowed),
+        Request::Packet {
+            match_word,
+            mask_word,
+            allowed,
+        } => packet_out_of_range(device, match_word, mask_word, allowed),
         Request::Offcore { word, allowed } => offcore_out_of_range(device, word, allowed),
         Request::Latency {
             types,

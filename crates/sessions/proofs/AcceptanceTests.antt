@@ -1,7 +1,7 @@
 -- The runs, by computation: every definition that they reach is unfolded.
 use mathlib.Core.Path.{refl}
 use mathlib.Core.List.{flatMap}
-use Rattle.requests.specs.Bits.{bit, inList, anyBit, onlyBits, typeBits, anyResponse, answerBits, outstanding, rsp1Bits, rsp0Bits, latencyWord}
+use Rattle.requests.specs.Bits.{bit, inList, anyBit, onlyBits, typeBits, anyResponse, answerBits, outstanding, rsp1Bits, rsp0Bits, rising, field, matchBits, maskBits, latencyWord}
 use Rattle.requests.specs.CBoxEvents.{sinkMasks, ringMasks, starvedMasks, bypassMasks, cboxEvents}
 use Rattle.requests.specs.Catalogue.{eventsOf, codeIn, pairIn, maskNotListed}
 use Rattle.requests.specs.Checks.{kindNotOn, notListed, tooWide, outOfRange, incomplete, conflicting, requestRows}
@@ -25,5 +25,5 @@ use Rattle.sessions.specs.Table.{openRows, outsideIds, addRows, dropRows
 use Rattle.sessions.specs.Turns.{requestsOf, fits, taken, passed, turned, placesOf, assign, writesOf}
 
 pub runs-hold : Runs
-unfolding flatMap bit inList anyBit onlyBits typeBits anyResponse answerBits outstanding rsp1Bits rsp0Bits latencyWord sinkMasks ringMasks starvedMasks bypassMasks cboxEvents eventsOf codeIn pairIn maskNotListed kindNotOn notListed tooWide outOfRange incomplete conflicting requestRows both either every firstHolding has capacity counterCount allCounters fixedCount allFixed letterOf boxCount devices named deviceOf packetsOn offcoreOn pairsJudged usableSet opens setupOn setupOf allows numberOf answerFor answerNumber wordsOf packetsOf ofAll counters countedOf countersOf first second takeCounter takeWord takePacket placeOf admit width firstFrom putFirst thenRest tryNumber planIn firstPlan hasPlan tabulate cboxGlobals cboxGlobal layoutOf rsp0At rsp1At mmCfgAt matchAt maskAt mmEnable enabled eventWord offcoreCode rspMask rspWord packetWord usesOf wordAt setFrom settingsOf rows zeros unusable fixedAt fixedEnables firstGlobal lastGlobal offcoreWrites packetWrites filterWrites writesFor writes waits takenAfter passedAfter turnIf turnsBy turnsOf removed onQueue change step numbersOf outcomeOf upTo runs queueLimit vacant queued padded sessionOf newSession plainOf refusedBy answered openOf addOf dropOf unassigned turnAnswer turnOf planOf answerTo nextSession sessionAfter openRows outsideIds addRows dropRows turnRows beforeOpen onceOpen table refusal requestsOf fits taken passed turned placesOf assign writesOf
+unfolding flatMap bit inList anyBit onlyBits typeBits anyResponse answerBits outstanding rsp1Bits rsp0Bits rising field matchBits maskBits latencyWord sinkMasks ringMasks starvedMasks bypassMasks cboxEvents eventsOf codeIn pairIn maskNotListed kindNotOn notListed tooWide outOfRange incomplete conflicting requestRows both either every firstHolding has capacity counterCount allCounters fixedCount allFixed letterOf boxCount devices named deviceOf packetsOn offcoreOn pairsJudged usableSet opens setupOn setupOf allows numberOf answerFor answerNumber wordsOf packetsOf ofAll counters countedOf countersOf first second takeCounter takeWord takePacket placeOf admit width firstFrom putFirst thenRest tryNumber planIn firstPlan hasPlan tabulate cboxGlobals cboxGlobal layoutOf rsp0At rsp1At mmCfgAt matchAt maskAt mmEnable enabled eventWord offcoreCode rspMask rspWord packetWord usesOf wordAt setFrom settingsOf rows zeros unusable fixedAt fixedEnables firstGlobal lastGlobal offcoreWrites packetWrites filterWrites writesFor writes waits takenAfter passedAfter turnIf turnsBy turnsOf removed onQueue change step numbersOf outcomeOf upTo runs queueLimit vacant queued padded sessionOf newSession plainOf refusedBy answered openOf addOf dropOf unassigned turnAnswer turnOf planOf answerTo nextSession sessionAfter openRows outsideIds addRows dropRows turnRows beforeOpen onceOpen table refusal requestsOf fits taken passed turned placesOf assign writesOf
 runs-hold = refl

@@ -36,9 +36,9 @@ returns-2 c =
 
 returns-3 : tie.Need-returns-3
 returns-3 c =
-    let a = c .before .before .before .before .before .before .before .args in
-    let n = rw (c .before .before .before .packet-word .ensures, c .before .before .before .before .before .before .counter-count .ensures) at (c .before .before .count-of3 .ensures) in
-    rw (c .before .mm-cfg-of .ensures) (filters-S (λ k. getD (a .words) k 0) (a .filters) (a .setup .device) (a .setup) _ (c .before .before .before .before .enum-told2 .given .1) n)
+    let a = c .before .before .before .before .before .before .args in
+    let n = rw (c .before .before .packet-word .ensures, c .before .before .before .before .before .counter-count .ensures) at (c .before .count-of3 .ensures) in
+    c .packets-fit .ensures ∙ filters-S (λ k. getD (a .words) k 0) (a .filters) (a .setup .device) (a .setup) _ (c .before .before .before .enum-told2 .given .1) n
 
 returns-4 : tie.Need-returns-4
 returns-4 c =

@@ -1,7 +1,6 @@
 -- `check::out_of_range` meets its contract: by the function of each kind.
 -- Assumes nothing.
 use Rattle.requests.specs.Lookup.{listingFor}
-use Rattle.requests.specs.Checks.{outOfRange}
 use borrow.Author.Needs.{needs}
 use Rattle.requests.proofs.check.out_of_range.Statement.{statement}
 use Rattle.requests.proofs.check.out_of_range.Tie as tie
@@ -14,8 +13,7 @@ returns : tie.Need-returns
 returns c = rw (c .before .before .request .given .1) (c .event-out-of-range .ensures)
 
 returns-2 : tie.Need-returns-2
-unfolding outOfRange
-returns-2 c = rw (c .before .before .request2 .given .1) (c .too-wide .ensures)
+returns-2 c = rw (c .before .before .request2 .given .1) (c .packet-out-of-range .ensures)
 
 returns-3 : tie.Need-returns-3
 returns-3 c = rw (c .before .before .request3 .given .1) (c .offcore-out-of-range .ensures)
