@@ -94,13 +94,14 @@ fn likely_request(numbers: &mut Numbers) -> Request {
         (0x28, 0xFF),
     ];
     let words = [0x10001, 0x10002, 0x10004, 0x1_2000_0001, 0x10040, 1, 0x2_0001_0001, 0x8001_0001, 0x40001, 0x50001, 0x60001];
+    let masks = [0, 1, 0, 1, 1 << 38, 1 << 39, 1 << 63];
     match numbers.below(10) {
         0 => random_request(numbers),
         1..=4 => {
             let (code, mask) = numbers.pick(&codes);
             Request::Event { code, mask, allowed: set(numbers) }
         }
-        5 | 6 => Request::Packet { match_word: numbers.below(2), mask_word: numbers.below(2), allowed: set(numbers) },
+        5 | 6 => Request::Packet { match_word: numbers.below(2), mask_word: numbers.pick(&masks), allowed: set(numbers) },
         7 | 8 => Request::Offcore { word: numbers.pick(&words), allowed: set(numbers) },
         _ => Request::Latency { types: numbers.pick(&[1, 2, 0x40, 0]), first: set(numbers), second: set(numbers) },
     }

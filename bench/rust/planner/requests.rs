@@ -33,6 +33,11 @@ const ANSWERS: u64 = 1 << 18 | 1 << 33 | 1 << 34 | 1 << 36 | 1 << 37;
 pub const OUTSTANDING: u64 = 1 << 38;
 const PERMITTED: u64 = TYPES | ANY_RESPONSE | ANSWERS | OUTSTANDING;
 
+/// The bits of S_MSR_MATCH: all of them, since document 004 as we hold it lacks the table that would name its fields.
+pub const MATCH_BITS: u64 = u64::MAX;
+/// The fields of S_MSR_MASK (document 004, Table 2-35): the address, 38:1, and the home node, 0.
+pub const MASK_BITS: u64 = 0x7F_FFFF_FFFF;
+
 /// The words of a latency request: RSP0's and RSP1's.
 pub fn latency_words(types: u16) -> [u64; 2] {
     [types as u64 + OUTSTANDING, types as u64 + ANY_RESPONSE]
@@ -57,6 +62,12 @@ pub fn event_refusal(device: &Device, of_pair: Option<u64>, allowed: u64) -> Opt
     }
 }
 
+/// Order 5: bits outside the fields of the registers are refused with 10, as a counter too many in the set is.
+fn packet_refusal(device: &Device, match_word: u64, mask_word: u64, allowed: u64) -> Option<u64> {
+    let outside = match_word & !MATCH_BITS | mask_word & !MASK_BITS;
+    first_of(outside != 0 || allowed > device.all(), false, false)
+}
+
 fn offcore_refusal(device: &Device, word: u64, allowed: u64) -> Option<u64> {
     let (any, answered, outstanding) = (word & ANY_RESPONSE != 0, word & ANSWERS != 0, word & OUTSTANDING != 0);
     first_of(
@@ -75,7 +86,9 @@ fn latency_refusal(device: &Device, types: u16, first: u64, second: u64) -> Opti
 pub fn refusal_of(device: &Device, request: Request) -> Option<u64> {
     match (request, device.filters) {
         (Request::Event { code, mask, allowed }, _) => event_refusal(device, device.event_refusal(code, mask), allowed),
-        (Request::Packet { allowed, .. }, Filters::PacketMatch) => first_of(allowed > device.all(), false, false),
+        (Request::Packet { match_word, mask_word, allowed }, Filters::PacketMatch) => {
+            packet_refusal(device, match_word, mask_word, allowed)
+        }
         (Request::Offcore { word, allowed }, Filters::OffcoreResponse) => offcore_refusal(device, word, allowed),
         (Request::Latency { types, first, second }, Filters::OffcoreResponse) => latency_refusal(device, types, first, second),
         _ => Some(7),

@@ -3,6 +3,7 @@
 use crate::numbers::Numbers;
 use crate::planner::catalogue::Event;
 use crate::planner::devices::{Device, Filters};
+use crate::planner::requests::MASK_BITS;
 
 /// What the calls are drawn for: the device, its usable set, fixed enables and box, how many ids there are, and how many of
 /// a hundred fields get an odd value. In a tight bench requests get in each other's way: nested sets, few words, and those
@@ -78,6 +79,11 @@ const ODD_WORDS: [u64; 19] = [
     0xC0001,
 ];
 
+/// The 32 lower bits of the mask's field, and the higher ones.
+const MASKS: [u64; 2] = [0xFFFF_FFFF, 0x7F_0000_0000];
+/// Masks with a bit outside the field, and at its ends some without.
+const ODD_MASKS: [u64; 9] = [1, 1 << 38, MASK_BITS, 1 << 39, 1 << 40, 1 << 62, 1 << 63, u64::MAX << 32, u64::MAX];
+
 impl Bench {
     fn odd(&mut self) -> bool {
         let odd = self.odd;
@@ -139,9 +145,9 @@ impl Bench {
 
     pub fn packet(&mut self, id: u64) -> String {
         let (asked, mask) = match (self.odd(), self.tight) {
-            (true, _) => (self.numbers.below(1 << 53) << 11, u64::MAX),
-            (_, true) => (0x0123_4567_89AB_CDEF + self.numbers.pick(&[0, 0, 1]), u64::MAX),
-            _ => (0x0123_4567_89AB_CDEF + self.numbers.below(2), 0xFFFF_FFFF << (32 * self.numbers.below(2))),
+            (true, _) => (self.numbers.below(1 << 53) << 11, self.numbers.pick(&ODD_MASKS)),
+            (_, true) => (0x0123_4567_89AB_CDEF + self.numbers.pick(&[0, 0, 1]), MASK_BITS),
+            _ => (0x0123_4567_89AB_CDEF + self.numbers.below(2), self.numbers.pick(&MASKS)),
         };
         format!("packet\t{id}\t{asked:016X}\t{mask:016X}\t{}", self.set())
     }

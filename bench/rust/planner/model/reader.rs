@@ -67,12 +67,14 @@ fn latency_held(setup: Setup, r: &Registers, on: [u64; 2]) -> bool {
 fn filters_held(setup: Setup, r: &Registers, states: &[State]) -> bool {
     let (on, packets) = users_of(states);
     let offcore = |word| refusal_of(setup.device, Request::Offcore { word, allowed: 0 }).is_none();
+    let packet = Request::Packet { match_word: r.match_word, mask_word: r.mask_word, allowed: 0 };
     match setup.device.filters {
         Filters::OffcoreResponse => {
             (if on[1] == 0 { r.rsp[1] == 0 } else { offcore(r.rsp[1]) })
                 && (if on[0] == 0 { r.rsp[0] == 0 } else { offcore(r.rsp[0]) || latency_held(setup, r, on) })
         }
-        Filters::PacketMatch => r.mm_cfg == if packets == 0 { 0 } else { 1 << 63 },
+        Filters::PacketMatch if packets == 0 => r.mm_cfg == 0,
+        Filters::PacketMatch => r.mm_cfg == 1 << 63 && refusal_of(setup.device, packet).is_none(),
         Filters::Absent => true,
     }
 }
