@@ -69,11 +69,11 @@ pub fn print(cases: &[Case], folder: &str) {
     if instructions.is_empty() {
         println!("valgrind is not there: times alone");
     }
-    println!("{:34}{:>28}{:>28}", "", "nanoseconds", if instructions.is_empty() { "" } else { "instructions" });
+    println!("{:40}{:>28}{:>28}", "", "nanoseconds", if instructions.is_empty() { "" } else { "instructions" });
     let heads = format!("{:>10}{:>10}{:>8}", "ours", "Rust", "ratio");
-    println!("{:34}{heads}{}", "", if instructions.is_empty() { "" } else { &heads });
+    println!("{:40}{heads}{}", "", if instructions.is_empty() { "" } else { &heads });
     for (i, case) in cases.iter().enumerate() {
         let count = instructions.get(i).map_or(String::new(), |&pair| columns(pair));
-        println!("{:34}{}{count}", case.name, columns(case.times()));
+        println!("{:40}{}{count}", case.name, columns(case.times()));
     }
 }

@@ -162,7 +162,7 @@ fn rust_turns(letter: u64, usable: u64, rows: &[u64], turns: usize) -> usize {
     writes
 }
 
-/// A queue of so many requests: all free, all on one counter, or mixed. On C they are events alone.
+/// A queue of so many requests: all free, all on one counter, or mixed. On C they are events alone, some of them on counter 0.
 fn queue(kind: &str, length: usize) -> Vec<u64> {
     let event = |code, allowed| Request::Event { code, mask: 0, allowed };
     let mixed = [
@@ -178,7 +178,10 @@ fn queue(kind: &str, length: usize) -> Vec<u64> {
         "free" => event(0xC0, 15),
         "pinned" => event(0xC0, 1),
         "free on C" => event(0x19, 63),
+        "pinned on C" => event(0x19, 1),
         "half pinned on C" => half[i % half.len()],
+        "5 free, 1 pinned on C" => event(0x19, if i < 5 { 63 } else { 1 }),
+        "4 free, 2 pinned on C" => event(0x19, if i < 4 { 63 } else { 1 }),
         _ => mixed[i % mixed.len()],
     };
     (0..length).flat_map(|i| to_row(request(i))).collect()
@@ -199,7 +202,9 @@ fn case(letter: u64, usable: u64, kind: &str, length: usize) -> Case<'static> {
 
 pub fn cases() -> Vec<Case<'static>> {
     let on_g = ["free", "pinned", "mixed"].map(|kind| (71, 15, kind));
-    let on_c = ["free on C", "half pinned on C"].map(|kind| (67, 63, kind));
+    let on_c = ["free on C", "pinned on C", "half pinned on C"].map(|kind| (67, 63, kind));
     let kinds = on_g.into_iter().chain(on_c);
-    kinds.flat_map(|(letter, usable, kind)| [1, 4, 16].map(|length| case(letter, usable, kind, length))).collect()
+    let queues = kinds.flat_map(|(letter, usable, kind)| [1, 4, 16].map(|length| case(letter, usable, kind, length)));
+    let crowded = ["5 free, 1 pinned on C", "4 free, 2 pinned on C"].map(|kind| case(67, 63, kind, 6));
+    queues.chain(crowded).collect()
 }
