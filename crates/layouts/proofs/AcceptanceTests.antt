@@ -12,9 +12,10 @@ use Rattle.requests.specs.MaskRules.{allows}
 use Rattle.requests.specs.Refusals.{numberOf, answerNumber}
 use Rattle.plans.specs.Legal.{wordsOf, packetsOf, ofAll, counters}
 use Rattle.plans.specs.Places.{countedOf, countersOf, first, second}
-use Rattle.layouts.specs.Examples.{plans, writesOf, readingFor, acceptances, tellsOf, refusals, AcceptedAs, Examples, Plan, RefusedAs}
+use Rattle.layouts.specs.Examples.{plans, writesOf, Examples, Plan}
 use Rattle.layouts.specs.Layout.{tabulate, cboxGlobals, cboxGlobal, layoutOf, rsp0At, rsp1At, mmCfgAt, matchAt, maskAt, mmEnable, enabled, eventWord, codeOf, maskOf, offcoreCode, rspMask, rspWord, packetWord}
 use Rattle.layouts.specs.Read.{ours, count, filterWord, controlFits, rsp1Fits, latencyFits, rsp0Fits, packetsFit, filtersFit, accepts, filterOf, tell, readingOf, refusedReading, readOf}
+use Rattle.layouts.specs.ReadingExamples.{readingFor, acceptances, tellsOf, refusals, AcceptedAs, ReadingExamples, RefusedAs}
 use Rattle.layouts.specs.Settings.{usesOf, wordAt, setFrom, settingsOf}
 use Rattle.layouts.specs.Told.{told, toldBy}
 use Rattle.layouts.specs.Writes.{rows, zeros, unusable, fixedAt, fixedEnables, firstGlobal, lastGlobal, offcoreWrites, packetWrites, filterWrites, writesFor, writes}
@@ -24,12 +25,15 @@ unfolding flatMap bit inList anyResponse outstanding latencyWord either has capa
 written = refl
 
 told-as : map (λ (e : AcceptedAs). toldBy (readingFor (e .given))) acceptances ≡ map tellsOf acceptances
-unfolding bit inList anyBit onlyBits typeBits anyResponse answerBits outstanding rsp1Bits rsp0Bits rising field matchBits maskBits latencyWord sinkMasks ringMasks starvedMasks bypassMasks cboxEvents eventsOf codeIn pairIn maskNotListed kindNotOn notListed tooWide outOfRange incomplete conflicting requestRows requestRefusal formed both either every firstHolding has capacity counterCount allCounters fixedCount allFixed letterOf boxCount devices named deviceOf packetsOn offcoreOn pairsJudged usableSet opens setupOn setupOf allows readingFor acceptances tellsOf tabulate mmEnable enabled eventWord codeOf maskOf offcoreCode rspMask rspWord packetWord ours count filterWord controlFits rsp1Fits latencyFits rsp0Fits packetsFit filtersFit accepts filterOf tell readingOf refusedReading readOf setFrom told toldBy unusable fixedAt fixedEnables firstGlobal lastGlobal
+unfolding bit inList anyBit onlyBits typeBits anyResponse answerBits outstanding rsp1Bits rsp0Bits rising field matchBits maskBits latencyWord sinkMasks ringMasks starvedMasks bypassMasks cboxEvents eventsOf codeIn pairIn maskNotListed kindNotOn notListed tooWide outOfRange incomplete conflicting requestRows requestRefusal formed both either every firstHolding has capacity counterCount allCounters fixedCount allFixed letterOf boxCount devices named deviceOf packetsOn offcoreOn pairsJudged usableSet opens setupOn setupOf allows tabulate mmEnable enabled eventWord codeOf maskOf offcoreCode rspMask rspWord packetWord ours count filterWord controlFits rsp1Fits latencyFits rsp0Fits packetsFit filtersFit accepts filterOf tell readingOf refusedReading readOf readingFor acceptances tellsOf setFrom told toldBy unusable fixedAt fixedEnables firstGlobal lastGlobal
 told-as = refl
 
 numbered : map (λ (e : RefusedAs). answerNumber (readingFor (e .given) .answer)) refusals ≡ map (λ (e : RefusedAs). some (e .number)) refusals
-unfolding bit inList anyBit onlyBits typeBits anyResponse answerBits outstanding rsp1Bits rsp0Bits rising field matchBits maskBits latencyWord sinkMasks ringMasks starvedMasks bypassMasks cboxEvents eventsOf codeIn pairIn maskNotListed kindNotOn notListed tooWide outOfRange incomplete conflicting requestRows requestRefusal formed both either every firstHolding has capacity counterCount allCounters fixedCount allFixed letterOf boxCount devices named deviceOf packetsOn offcoreOn pairsJudged usableSet opens setupOn setupOf allows numberOf answerNumber readingFor refusals tabulate mmEnable enabled eventWord codeOf maskOf offcoreCode rspMask rspWord packetWord ours count filterWord controlFits rsp1Fits latencyFits rsp0Fits packetsFit filtersFit accepts filterOf tell readingOf refusedReading readOf setFrom unusable fixedAt fixedEnables firstGlobal lastGlobal
+unfolding bit inList anyBit onlyBits typeBits anyResponse answerBits outstanding rsp1Bits rsp0Bits rising field matchBits maskBits latencyWord sinkMasks ringMasks starvedMasks bypassMasks cboxEvents eventsOf codeIn pairIn maskNotListed kindNotOn notListed tooWide outOfRange incomplete conflicting requestRows requestRefusal formed both either every firstHolding has capacity counterCount allCounters fixedCount allFixed letterOf boxCount devices named deviceOf packetsOn offcoreOn pairsJudged usableSet opens setupOn setupOf allows numberOf answerNumber tabulate mmEnable enabled eventWord codeOf maskOf offcoreCode rspMask rspWord packetWord ours count filterWord controlFits rsp1Fits latencyFits rsp0Fits packetsFit filtersFit accepts filterOf tell readingOf refusedReading readOf readingFor refusals setFrom unusable fixedAt fixedEnables firstGlobal lastGlobal
 numbered = refl
 
 pub examples-hold : Examples
-examples-hold = record { written = written; told-as = told-as; numbered = numbered }
+examples-hold = record { written = written }
+
+pub reading-examples-hold : ReadingExamples
+reading-examples-hold = record { told-as = told-as; numbered = numbered }

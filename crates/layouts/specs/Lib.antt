@@ -19,5 +19,6 @@ pub mod ExactReader
 pub mod NotLookedAt
 pub mod ToldPlaces
 pub mod Examples
+pub mod ReadingExamples
 -- The code's own: how it holds its values. No claim.
 pub mod Slices
