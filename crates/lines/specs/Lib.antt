@@ -6,6 +6,7 @@ pub mod Transcript
 pub mod Cutting
 pub mod Progress
 pub mod Tries
+pub mod OrderTries
 -- The code's own: how it holds its values. No claim.
 pub mod Pieces
 pub mod Blocks

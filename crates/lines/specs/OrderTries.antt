@@ -1,0 +1,124 @@
+-- Tries of the orders: whole inputs and outputs, as in `Tries`, in one statement ranging over a table.
+use mathlib.Core.Path.{_≡_}
+use mathlib.Core.List.{List, [], _∷_, map}
+use Rattle.lines.specs.Tries.{Try, outcome, expected}
+
+-- the table
+abbrev pub orderTries : List Try
+orderTries =
+    -- Order 2. "0 to 7, for those three bits (0 on S; anything else is refused with 3)", in a fourth field; every write to 038F carries it.
+    record {
+      input =
+          "open G 15" ∷
+          "open G 15 08" ∷
+          "open G 15 8" ∷
+          "open G 15 256" ∷
+          "open G 271 0" ∷
+          "open G 0 9" ∷
+          "open S 15 1" ∷
+          "open G 14 5" ∷
+          "event 1 C0 00 15" ∷
+          "turn" ∷ [];
+      output =
+          "no 1" ∷
+          "no 1" ∷
+          "no 3" ∷
+          "no 3" ∷
+          "no 3" ∷
+          "no 3" ∷
+          "no 3" ∷
+          "ok" ∷
+          "ok" ∷
+          "take 1 1 -" ∷
+          "set 038F 0000000500000001" ∷
+          "set 0187 0000000000000000" ∷
+          "set 0188 0000000000000000" ∷
+          "set 0189 0000000000000000" ∷
+          "set 01A6 0000000000000000" ∷
+          "set 01A7 0000000000000000" ∷
+          "set 00C2 0000000000000000" ∷
+          "set 0187 00000000004300C0" ∷
+          "set 038F 0000000500000003" ∷
+          "ok" ∷ [];
+      waiting = 1 ∷ [];
+    } ∷
+    -- Order 3. Box 7: two counters of six, at the addresses of that box.
+    record {
+      input = "open C 63 0 7" ∷ "event 1 19 00 63" ∷ "event 2 0B 18 1" ∷ "turn" ∷ [];
+      output =
+          "ok" ∷
+          "ok" ∷
+          "ok" ∷
+          "take 1 1 -" ∷
+          "take 2 0 -" ∷
+          "set 0DE0 0000000000000000" ∷
+          "set 0DF0 0000000000000000" ∷
+          "set 0DF2 0000000000000000" ∷
+          "set 0DF4 0000000000000000" ∷
+          "set 0DF6 0000000000000000" ∷
+          "set 0DF8 0000000000000000" ∷
+          "set 0DFA 0000000000000000" ∷
+          "set 0DF1 0000000000000000" ∷
+          "set 0DF3 0000000000000000" ∷
+          "set 0DF0 000000000040180B" ∷
+          "set 0DF2 0000000000400019" ∷
+          "set 0DE0 0000000000000003" ∷
+          "ok" ∷ [];
+      waiting = 1 ∷ 2 ∷ [];
+    } ∷
+    -- Order 3. Box 1, counters 4 and 5 usable: the enable bits of the other four stay.
+    record {
+      input = "open C 48 0 1" ∷ "event 1 1F 00 63" ∷ "turn" ∷ [];
+      output =
+          "ok" ∷
+          "ok" ∷
+          "take 1 4 -" ∷
+          "set 0D80 000000000000000F" ∷
+          "set 0D98 0000000000000000" ∷
+          "set 0D9A 0000000000000000" ∷
+          "set 0D99 0000000000000000" ∷
+          "set 0D98 000000000040001F" ∷
+          "set 0D80 000000000000001F" ∷
+          "ok" ∷ [];
+      waiting = 1 ∷ [];
+    } ∷
+    -- Order 3. What is refused on C: lines of a field too few or too many, openings, masks, codes, sets and kinds.
+    record {
+      input =
+          "open C 63 0" ∷
+          "open S 15 0 0" ∷
+          "open C 63 0 8" ∷
+          "open C 64 0 0" ∷
+          "open C 63 1 0" ∷
+          "open C 0 0 0" ∷
+          "open C 63 0 0" ∷
+          "event 1 19 00 63" ∷
+          "event 2 19 01 63" ∷
+          "event 2 0B 00 63" ∷
+          "event 2 0B 05 63" ∷
+          "event 2 0B 00 64" ∷
+          "event 3 0D 00 63" ∷
+          "event 3 23 00 0" ∷
+          "packet 3 0000000000000000 0000000000000000 63" ∷ [];
+      output =
+          "no 1" ∷
+          "no 1" ∷
+          "no 3" ∷
+          "no 3" ∷
+          "no 3" ∷
+          "no 3" ∷
+          "ok" ∷
+          "ok" ∷
+          "no 10" ∷
+          "no 9" ∷
+          "no 10" ∷
+          "no 10" ∷
+          "no 8" ∷
+          "no 12" ∷
+          "no 7" ∷ [];
+      waiting = 1 ∷ [];
+    } ∷ []
+
+-- each input gives the output and leaves the ids waiting
+abbrev pub OrderTries : Type 0
+OrderTries = map outcome orderTries ≡ map expected orderTries
