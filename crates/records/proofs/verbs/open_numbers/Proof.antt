@@ -5,19 +5,8 @@ use Rattle.records.specs.Verbs.{openFormats}
 use Rattle.records.proofs.verbs.open_numbers.Statement.{statement}
 use Rattle.records.proofs.verbs.open_numbers.Tie as tie
 
-returns : tie.Need-returns
-unfolding openFormats
-returns c = rw (c .before .before .enum-told .given .1) (c .numbers-of .ensures)
-
-returns-2 : tie.Need-returns-2
-unfolding openFormats
-returns-2 c = rw (c .before .before .enum-told2 .given .1) (c .numbers-of2 .ensures)
-
-returns-3 : tie.Need-returns-3
-unfolding openFormats
-returns-3 c = rw (c .before .before .enum-told3 .given .1) (c .numbers-of3 .ensures)
-
 pub open-numbers-spec : {M : Type 1} → statement M
+unfolding openFormats
 open-numbers-spec =
     tie.close
     (tie.spec
@@ -30,6 +19,6 @@ open-numbers-spec =
     (λ c. search needs)
     (λ c. search needs)
     (λ c κs. search needs)
-    returns
-    returns-2
-    returns-3)
+    (λ c. rw (c .before .before .enum-told .given .1) (c .numbers-of .ensures))
+    (λ c. rw (c .before .before .enum-told2 .given .1) (c .numbers-of2 .ensures))
+    (λ c. rw (c .before .before .enum-told3 .given .1) (c .numbers-of3 .ensures)))

@@ -5,17 +5,14 @@ use Rattle.plans.specs.Places.{first}
 use Rattle.registers.proofs.plan_settings.first_of.Statement.{statement}
 use Rattle.registers.proofs.plan_settings.first_of.Tie as tie
 
-returns : tie.Need-returns
-unfolding first
-returns c = ap first (sym (c .before .place .given .1))
-
-returns-2 : tie.Need-returns-2
-unfolding first
-returns-2 c = ap first (sym (c .before .place2 .given .1))
-
-returns-3 : tie.Need-returns-3
-unfolding first
-returns-3 c = ap first (sym (c .before .place3 .given .1))
-
 pub first-of-spec : {M : Type 1} → statement M
-first-of-spec = tie.close (tie.spec (λ c. search needs) (λ c. search needs) (λ c. search needs) returns returns-2 returns-3)
+unfolding first
+first-of-spec =
+    tie.close
+    (tie.spec
+    (λ c. search needs)
+    (λ c. search needs)
+    (λ c. search needs)
+    (λ c. ap first (sym (c .before .place .given .1)))
+    (λ c. ap first (sym (c .before .place2 .given .1)))
+    (λ c. ap first (sym (c .before .place3 .given .1))))

@@ -5,17 +5,14 @@ use Rattle.plans.specs.Places.{second}
 use Rattle.registers.proofs.plan_settings.second_of.Statement.{statement}
 use Rattle.registers.proofs.plan_settings.second_of.Tie as tie
 
-returns : tie.Need-returns
-unfolding second
-returns c = ap second (sym (c .enum-told .given .1))
-
-returns-2 : tie.Need-returns-2
-unfolding second
-returns-2 c = ap second (sym (c .before .place .given .1))
-
-returns-3 : tie.Need-returns-3
-unfolding second
-returns-3 c = ap second (sym (c .before .place2 .given .1))
-
 pub second-of-spec : {M : Type 1} → statement M
-second-of-spec = tie.close (tie.spec (λ c. search needs) (λ c. search needs) (λ c. search needs) returns returns-2 returns-3)
+unfolding second
+second-of-spec =
+    tie.close
+    (tie.spec
+    (λ c. search needs)
+    (λ c. search needs)
+    (λ c. search needs)
+    (λ c. ap second (sym (c .enum-told .given .1)))
+    (λ c. ap second (sym (c .before .place .given .1)))
+    (λ c. ap second (sym (c .before .place2 .given .1))))

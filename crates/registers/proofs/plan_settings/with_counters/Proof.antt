@@ -5,19 +5,8 @@ use Rattle.registers.specs.Adding.{withCounters}
 use Rattle.registers.proofs.plan_settings.with_counters.Statement.{statement}
 use Rattle.registers.proofs.plan_settings.with_counters.Tie as tie
 
-returns : tie.Need-returns
-unfolding withCounters countersOf countedOf
-returns c = rw (c .before .before .place .given .1) (c .with-counter .ensures)
-
-returns-2 : tie.Need-returns-2
-unfolding withCounters countersOf countedOf
-returns-2 c = rw (c .before .before .place2 .given .1) (c .with-counter2 .ensures)
-
-returns-3 : tie.Need-returns-3
-unfolding withCounters countersOf countedOf
-returns-3 c = rw (c .before .before .before .place3 .given .1) (rw (c .before .with-counter3 .ensures) at (c .with-counter4 .ensures))
-
 pub with-counters-spec : {M : Type 1} → statement M
+unfolding withCounters countersOf countedOf
 with-counters-spec =
     tie.close
     (tie.spec
@@ -28,6 +17,6 @@ with-counters-spec =
     (λ c. search needs)
     (λ c κs. search needs)
     (λ c κs. search needs)
-    returns
-    returns-2
-    returns-3)
+    (λ c. rw (c .before .before .place .given .1) (c .with-counter .ensures))
+    (λ c. rw (c .before .before .place2 .given .1) (c .with-counter2 .ensures))
+    (λ c. rw (c .before .before .before .place3 .given .1) (rw (c .before .with-counter3 .ensures) at (c .with-counter4 .ensures))))

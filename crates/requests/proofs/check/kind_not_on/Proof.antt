@@ -7,23 +7,8 @@ use borrow.Author.Needs.{needs}
 use Rattle.requests.proofs.check.kind_not_on.Statement.{statement}
 use Rattle.requests.proofs.check.kind_not_on.Tie as tie
 
-returns : tie.Need-returns
-unfolding kindNotOn
-returns c = rw (c .enum-told .given .1)
-
-returns-2 : tie.Need-returns-2
-unfolding kindNotOn
-returns-2 c = rw (c .before .enum-told2 .given .1) (ap not (c .packets-on .ensures))
-
-returns-3 : tie.Need-returns-3
-unfolding kindNotOn
-returns-3 c = rw (c .before .enum-told3 .given .1) (ap not (c .offcore-on .ensures))
-
-returns-4 : tie.Need-returns-4
-unfolding kindNotOn
-returns-4 c = rw (c .before .enum-told4 .given .1) (ap not (c .offcore-on2 .ensures))
-
 pub kind-not-on-spec : {M : Type 1} → statement M
+unfolding kindNotOn
 kind-not-on-spec =
     tie.close
     (tie.spec
@@ -34,7 +19,7 @@ kind-not-on-spec =
     (λ c κs. search needs)
     (λ c. search needs)
     (λ c κs. search needs)
-    returns
-    returns-2
-    returns-3
-    returns-4)
+    (λ c. rw (c .enum-told .given .1))
+    (λ c. rw (c .before .enum-told2 .given .1) (ap not (c .packets-on .ensures)))
+    (λ c. rw (c .before .enum-told3 .given .1) (ap not (c .offcore-on .ensures)))
+    (λ c. rw (c .before .enum-told4 .given .1) (ap not (c .offcore-on2 .ensures))))

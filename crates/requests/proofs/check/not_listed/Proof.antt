@@ -22,19 +22,8 @@ returns-2 c =
     rw event
     (code-not-listed _ _ _ _ (rw event at (c .before .before .before .before .before .pre)) _ (sym (c .before .before .pairs-judged .ensures) ∙ c .before .if1 .left))
 
-returns-3 : tie.Need-returns-3
-unfolding notListed
-returns-3 c = rw (c .enum-told2 .given .1)
-
-returns-4 : tie.Need-returns-4
-unfolding notListed
-returns-4 c = rw (c .enum-told3 .given .1)
-
-returns-5 : tie.Need-returns-5
-unfolding notListed
-returns-5 c = rw (c .enum-told4 .given .1)
-
 pub not-listed-spec : {M : Type 1} → statement M
+unfolding notListed
 not-listed-spec =
     tie.close
     (tie.spec
@@ -45,6 +34,6 @@ not-listed-spec =
     (λ c. search needs)
     (λ c. search needs)
     returns-2
-    returns-3
-    returns-4
-    returns-5)
+    (λ c. rw (c .enum-told2 .given .1))
+    (λ c. rw (c .enum-told3 .given .1))
+    (λ c. rw (c .enum-told4 .given .1)))

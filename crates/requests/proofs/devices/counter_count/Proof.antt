@@ -5,17 +5,14 @@ use Rattle.requests.specs.Devices.{counterCount}
 use Rattle.requests.proofs.devices.counter_count.Statement.{statement}
 use Rattle.requests.proofs.devices.counter_count.Tie as tie
 
-returns : tie.Need-returns
-unfolding counterCount
-returns c = rw (c .enum-told .given .1)
-
-returns-2 : tie.Need-returns-2
-unfolding counterCount
-returns-2 c = rw (c .enum-told2 .given .1)
-
-returns-3 : tie.Need-returns-3
-unfolding counterCount
-returns-3 c = rw (c .enum-told3 .given .1)
-
 pub counter-count-spec : {M : Type 1} → statement M
-counter-count-spec = tie.close (tie.spec (λ c. search needs) (λ c. search needs) (λ c. search needs) returns returns-2 returns-3)
+unfolding counterCount
+counter-count-spec =
+    tie.close
+    (tie.spec
+    (λ c. search needs)
+    (λ c. search needs)
+    (λ c. search needs)
+    (λ c. rw (c .enum-told .given .1))
+    (λ c. rw (c .enum-told2 .given .1))
+    (λ c. rw (c .enum-told3 .given .1)))
