@@ -5,6 +5,9 @@ use crate::verbs::record_of;
 ghost use mathlib.Core.Path.{_≡_};
 ghost use Rattle.records.specs.Parse.{tooLong, parseText, isClosed, textLength, parseLine};
 
+// The most bytes of a line, without its newline.
+pub const LONGEST: usize = 80;
+
 // A record is none where the line is too long; at fault is then field n.
 fn too_long(parsed: Parsed, n: usize) -> Parsed
     ensures { λ r. ⌜ r ≡ tooLong parsed n ⌝ }
@@ -15,7 +18,7 @@ fn too_long(parsed: Parsed, n: usize) -> Parsed
     }
 }
 
-// What a text is, closed by a newline or not, whole or the first 80 bytes of a longer one.
+// What a text is, closed by a newline or not, whole or the first bytes of a longer one.
 pub fn parse_text(text: &[u8], closed: bool, long: bool) -> Parsed
     ensures { λ r. ⌜ r ≡ parseText (now (text .entry)) closed long ⌝ }
 {
@@ -55,8 +58,8 @@ pub fn parse_line(line: &[u8]) -> Parsed
 {
     let closed = is_closed(line);
     let n = text_length(line, closed);
-    if 80 < n {
-        return parse_text(&line[..80], closed, true);
+    if LONGEST < n {
+        return parse_text(&line[..LONGEST], closed, true);
     }
     parse_text(&line[..n], closed, false)
 }

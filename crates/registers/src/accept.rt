@@ -253,7 +253,7 @@ pub fn looked_at(setup: Setup, values: RegisterValues) -> [u64; CAPACITY]
     let usable = setup.usable;
     let mut words = [0; CAPACITY];
     let mut counter: u64 = 0;
-    while counter < 8 {
+    while counter < CAPACITY as u64 {
         words[counter as usize] = ours_or_zero(
             has(usable, counter),
             values.control[counter as usize],

@@ -80,7 +80,7 @@ fn with_counters(device: Device, place: Place, used: CounterSet) -> CounterSet
 fn with_word(words: [u64; CAPACITY], counter: u64, word: u64) -> [u64; CAPACITY]
     ensures { λ r. ⌜ r ≡ set words counter word ⌝ }
 {
-    if 8 <= counter {
+    if CAPACITY as u64 <= counter {
         return words;
     }
     let mut next = words;
@@ -182,7 +182,7 @@ pub fn settings_with(device: Device, request: Request, place: Place, settings: S
 fn bounded(count: usize) -> usize
     ensures { λ r. ⌜ r ≡ min count capacity ⌝ }
 {
-    if count < 8 { count } else { 8 }
+    if count < CAPACITY { count } else { CAPACITY }
 }
 
 // The register values of no request.

@@ -89,7 +89,7 @@ fn reading_of(setup: Setup, values: RegisterValues) -> Reading
     };
     let mut counters = [nothing; CAPACITY];
     let mut counter: u64 = 0;
-    while counter < 8 {
+    while counter < CAPACITY as u64 {
         counters[counter as usize] = tell_counter(
             has(usable, counter),
             device,

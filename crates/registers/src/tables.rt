@@ -83,7 +83,7 @@ pub const MM_CFG_ENABLE: u64 = 0x8000_0000_0000_0000; // S, 2.5.3.4, S_MSR_MM_CF
 fn cbox_global(cbox: u64) -> u64
     ensures { λ r. ⌜ r ≡ cboxGlobal cbox ⌝ }
 {
-    if 8 <= cbox {
+    if C_GLOBAL_CTL.len() as u64 <= cbox {
         return C_GLOBAL_CTL[0];
     }
     C_GLOBAL_CTL[cbox as usize]
