@@ -17,6 +17,7 @@ pub mod CatalogueRows
 pub mod ExactRows
 pub mod Passes
 pub mod WellFormed
+pub mod PrintedEvents
 pub mod CBoxPages
 pub mod Rounds
 pub mod Sizes

@@ -8,9 +8,10 @@ use lib.Dec.{leb, ltb}
 use borrow.Author.Tests.{lt-ltb, le-leb, ltb-true, leb-true}
 use Rattle.requests.specs.Refusals.{numberOf, answerNumber}
 use Rattle.requests.specs.Devices.{allCounters, allFixed, letterOf, boxCount, boxOf, deviceOf, usableSet, opens, setupOn, setupOf, openingOf, openedAs, openedAnswer}
-use Rattle.requests.specs.Openings.{mostFixed, mostBox, Opens, openingNumber, Openings}
+use Rattle.requests.specs.Openings.{letterCode, mostFixed, mostBox, Opens, openingNumber, Openings}
 use Rattle.requests.specs.declared.CounterSet.{CounterSet}
 use Rattle.requests.specs.declared.Device.{Device}
+use Rattle.requests.specs.declared.Device.the-variants.{G, S, C}
 use Rattle.requests.specs.declared.Opening.{Opening}
 use Rattle.requests.specs.declared.Setup.{Setup}
 use Rattle.requests.proofs.DeviceNumbers.{numbers}
@@ -99,5 +100,11 @@ given : (s : Setup) → (openingOf s .device ≡ letterOf (s .device)) × (openi
 unfolding openingOf
 given s = (refl, refl, refl, refl)
 
+letters : (d : Device) → letterOf d ≡ letterCode d
+unfolding letterOf
+letters G = refl
+letters S = refl
+letters (C b) = refl
+
 pub openings : Openings
-openings = record { taken = taken; only = only; refused = refused; accepted = accepted; three = three; given = given; bounds = λ d. numbers d .usable-most }
+openings = record { taken = taken; only = only; refused = refused; accepted = accepted; three = three; given = given; letters = letters; bounds = λ d. numbers d .usable-most }

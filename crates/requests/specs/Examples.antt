@@ -118,6 +118,10 @@ examples =
     -- "elsewhere mask 0 alone is accepted"
     ∷ example (C 7) (Event 0x19 0x00 six) none
     ∷ example (C 7) (Event 0x19 0x01 six) (some 10)
+    -- "Known entries": TRANS_IRQ 19 above, TRANS_IPQ, TRANS_MAF, TRANS_RSPF
+    ∷ example (C 0) (Event 0x1B 0x00 six) none
+    ∷ example (C 0) (Event 0x1F 0x00 six) none
+    ∷ example (C 0) (Event 0x23 0x00 six) none
     -- a printed x may be either bit
     ∷ example (C 0) (Event 0x14 0x05 six) none
     ∷ example (C 0) (Event 0x14 0x08 six) (some 10)

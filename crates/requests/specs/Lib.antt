@@ -10,6 +10,7 @@ pub mod Checks
 pub mod Openings
 pub mod RefusedRequests
 pub mod WellFormedRequests
+pub mod PrintedEvents
 pub mod CBoxPages
 pub mod Rounds
 pub mod Examples

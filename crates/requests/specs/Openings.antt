@@ -10,6 +10,12 @@ use Rattle.requests.specs.declared.Device.the-variants.{G, S, C}
 use Rattle.requests.specs.declared.Opening.{Opening}
 use Rattle.requests.specs.declared.Setup.{Setup}
 
+-- the codes of the letters G, S and C
+abbrev pub letterCode : Device → ℕ
+letterCode G = 71
+letterCode S = 83
+letterCode (C b) = 67
+
 -- the largest usable set: "3 and 10 use that bound"
 abbrev pub mostUsable : Device → ℕ
 mostUsable G = 15
@@ -51,5 +57,7 @@ pub record Openings : Type 0 where
   pub three : (o : Opening) → ((s : Setup) → ¬ Opens o s) → openingNumber o ≡ some 3
   -- what open is given for a setup, also for one that it refuses: the numbers of a line reach the call as they stand there
   pub given : (s : Setup) → (openingOf s .device ≡ letterOf (s .device)) × (openingOf s .usable ≡ s .usable) × (openingOf s .fixed ≡ s .fixed) × (openingOf s .cbox ≡ boxOf (s .device))
+  -- the letters of the `open` line, over the calls their codes
+  pub letters : (d : Device) → letterOf d ≡ letterCode d
   -- the bound of a usable set, and of an allowed one
   pub bounds : (d : Device) → allCounters d ≡ mostUsable d

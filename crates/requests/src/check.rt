@@ -100,7 +100,7 @@ fn too_wide(device: Device, allowed: CounterSet) -> bool
     all.0 < allowed.0
 }
 
-// A mask above the listed range, or an allowed set above all counters.
+// A mask, not 0, that is not listed for its code, or an allowed set above all counters.
 fn event_out_of_range(
     device: Device,
     code: u8,

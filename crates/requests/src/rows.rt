@@ -1,4 +1,4 @@
-// The event catalogues, in the order of document 01, with the manual's names. A row is the code, two digits, and the number of its mask rule, one digit.
+// The event catalogues with the manual's names: those of G and S in the order of document 01. A row is the code, two digits, and the number of its mask rule, one digit.
 use crate::Device;
 use crate::cbox_events::C_EVENTS;
 ghost use mathlib.Core.Path.{_≡_};
