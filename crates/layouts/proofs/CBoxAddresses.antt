@@ -30,6 +30,14 @@ all-reversed = refl
 reversed : (b : ℕ) → b < 8 → layoutOf (C b) .global ≡ 0x0D00 + 0x20 * (4 * (b % 2) + 2 * (b / 2 % 2) + b / 4)
 reversed b l = eqb-true _ _ (every-at 8 (λ x. eqb (layoutOf (C x) .global) (0x0D00 + 0x20 * (4 * (x % 2) + 2 * (x / 2 % 2) + x / 4))) all-reversed b l)
 
+controls : (b k : ℕ) → controlAt (C b) k ≡ layoutOf (C b) .global + 0x10 + 2 * k
+unfolding layoutOf controlAt
+controls b k = refl
+
+counts : (b k : ℕ) → counterAt (C b) k ≡ layoutOf (C b) .global + 0x11 + 2 * k
+unfolding layoutOf counterAt
+counts b k = refl
+
 -- whether no number of the first list is in the second
 unfoldable disjoint : List ℕ → List ℕ → Bool
 disjoint [] ys = true
@@ -52,4 +60,4 @@ apart b c l m other =
     not-both (cboxRegisters b) (cboxRegisters c) (rw (ne-eqb b c other) at here)
 
 pub cbox-addresses : CBoxAddresses
-cbox-addresses = record { first = first; last = last; reversed = reversed; apart = apart }
+cbox-addresses = record { first = first; last = last; reversed = reversed; controls = controls; counts = counts; apart = apart }

@@ -17,5 +17,8 @@ pub record CBoxAddresses : Type 0 where
   pub last : cboxRegisters 7 ≡ 0x0DE0 ∷ 0x0DF0 ∷ 0x0DF2 ∷ 0x0DF4 ∷ 0x0DF6 ∷ 0x0DF8 ∷ 0x0DFA ∷ 0x0DF1 ∷ 0x0DF3 ∷ 0x0DF5 ∷ 0x0DF7 ∷ 0x0DF9 ∷ 0x0DFB ∷ []
   -- a box stands behind box 0 by 20 times the three bits of its number in reverse
   pub reversed : (b : ℕ) → b < 8 → layoutOf (C b) .global ≡ 0x0D00 + 0x20 * (4 * (b % 2) + 2 * (b / 2 % 2) + b / 4)
+  -- and in every box each counter has a pair of registers, its control before its count: with the offsets, the whole table
+  pub controls : (b k : ℕ) → controlAt (C b) k ≡ layoutOf (C b) .global + 0x10 + 2 * k
+  pub counts : (b k : ℕ) → counterAt (C b) k ≡ layoutOf (C b) .global + 0x11 + 2 * k
   -- no two boxes have a register in common
   pub apart : (b c : ℕ) → b < 8 → c < 8 → ¬ (b ≡ c) → (a : ℕ) → List·Memᴰ a (cboxRegisters b) → ¬ List·Memᴰ a (cboxRegisters c)

@@ -28,7 +28,7 @@ pub enum WriteAnswer {
     TooShort,
 }
 
-// The values of the filter registers of both devices. What the other device has is not looked at.
+// The values of the filter registers of G and S, and none of C. Those that the device has not are not looked at.
 pub struct FilterValues {
     pub rsp0: u64,
     pub rsp1: u64,

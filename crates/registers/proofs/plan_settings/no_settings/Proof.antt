@@ -1,4 +1,4 @@
--- `no_settings` is `settingsOf` of no request, on either device (`settings-none`).
+-- `no_settings` is `settingsOf` of no request, on any device (`settings-none`).
 use Rattle.registers.proofs.PlanSteps.{settings-none}
 use Rattle.registers.proofs.plan_settings.no_settings.Statement.{statement}
 use Rattle.registers.proofs.plan_settings.no_settings.Tie as tie
