@@ -35,7 +35,7 @@ use Rattle.sessions.proofs.TakenPlan.{taken-first}
 pub not-test : {b : Bool} {P : Type 0} → (b ≡ true) ↔ P → (not b ≡ true) ↔ (¬ P)
 not-test {b} e = (λ h p. false≢true (sym (not-true b h) ∙ e .1 p), λ n. ap not (eq-false-of-not-eq-true (λ h. n (e .0 h))))
 
--- 3: device unknown, or usable set 0 or above 15
+-- 3: what open refuses
 pub setup-test : (o : Opening) → (not (isSome (setupOf o)) ≡ true) ↔ (setupOf o ≡ none)
 setup-test o = (to (setupOf o), λ h. ap (λ (x : Option Setup). not (isSome x)) h)
   where

@@ -37,7 +37,7 @@ pub data Applies (limit : ℕ) : Plain → Call → ℕ → Type 0 where
   drop-before : {id : ℕ} → Applies limit notOpen (Drop id) 2
   turn-before : {room : ℕ} → Applies limit notOpen (Turn room) 2
   second-open : {s : Setup} {q : List Entry} {o : Opening} → Applies limit (opened s q) (Open o) 2
-  -- 3: device unknown, usable set 0 or above 15, or a fixed enable that the device does not have: `Openings` in its own words
+  -- 3: device unknown, usable set 0 or above all counters, fixed enables or a box that the device has not: `Openings` in its own words
   no-setup : {o : Opening} → setupOf o ≡ none → Applies limit notOpen (Open o) 3
   -- 4: id 0 or above 65535
   add-id : {s : Setup} {q : List Entry} {id : ℕ} {r : Request} → ¬ IsId id → Applies limit (opened s q) (Add id r) 4

@@ -20,7 +20,7 @@ use Rattle.sessions.specs.Calls.{Call, Open, Add, Drop, Turn, Plain, not
 
 -- ---- the rows of each call past 2, in the order in which they are checked
 
--- 3: device unknown, usable set 0 or above 15, or a fixed enable that the device does not have
+-- 3: device unknown, usable set 0 or above all counters, fixed enables or a box that the device has not
 unfoldable pub openRows : Opening → List (Row Refusal)
 openRows o = (not (isSome (setupOf o)), BadOpening) ∷ []
 
