@@ -38,6 +38,7 @@ examples =
     -- numbers that no device opens with: the grammar does not judge them
     ∷ closed "open S 0 99999" (Line (Open (record { device = S; usable = set 0; fixed = 99999 })))
     ∷ closed "open C 64 1 8" (Line (Open (record { device = C 8; usable = set 64; fixed = 1 })))
+    ∷ closed "open C 63 0 10" (Line (Open (record { device = C 10; usable = set 63; fixed = 0 })))
     ∷ closed "event 1 C0 00 1" (Line (Add 1 (Event 0xC0 0x00 (set 1))))
     ∷ closed "packet 2 00000000000000A5 8000000000000000 8" (Line (Add 2 (Packet 0xA5 0x8000000000000000 (set 8))))
     ∷ closed "offcore 3 0000000000010001 15" (Line (Add 3 (Offcore 0x10001 (set 15))))
