@@ -10,7 +10,7 @@ use native.Mathlib.Omega.{arith}
 use borrow.Author.Tests.{eq-eqb, ne-eqb}
 use lib.Dec.{eqb}
 use lib.ListN.{length, take, drop, getD, set, replicate, length-take, length-append, length-set}
-use lib.Seq.{take-all, getD-drop, drop-drop, drop-set-lt, take-suc-set}
+use lib.Seq.{take-all, getD-drop, drop-drop, drop-set-lt, take-suc-set, take-at}
 use mathlib.Core.Option.{some}
 use Rattle.requests.specs.declared.Answer.the-variants.{Accepted}
 use Rattle.requests.specs.declared.Entry.{Entry}
@@ -96,6 +96,11 @@ padded-none = refl
 pub padded-push : (q : List Entry) (k : ℕ) (e : Entry) → k ≡ length q → k < 16 → set (padded q) k e ≡ padded (q ++ (e ∷ []))
 unfolding padded queueLimit
 padded-push q k e p h = array-push 16 vacant q k e p h
+
+-- the list stands in front
+pub padded-front : (q : List Entry) (n : ℕ) → length q ≡ n → take n (padded q) ≡ q
+unfolding padded
+padded-front q n h = take-at q _ n h
 
 -- a session whose array holds the queue, and nothing past it
 pub session-filled : (s : Session) (t : Setup) (q : List Entry) → s .opened ≡ true → s .setup ≡ t → s .len ≡ length q → length (s .queue) ≡ 16

@@ -1,11 +1,14 @@
 -- What a turn makes of the queue: where the entries stand that it takes and that it passes over, and the plan of those taken.
 use mathlib.Core.Path.{_≡_}
+use mathlib.Core.Bool.{true}
 use mathlib.Core.List.{List, [], _∷_, _++_, map}
 use Prim.Native.Nat.{ℕ, _+_, _-_, _≤_, _<_}
 use lib.ListN.{length, take, getD, replicate}
 use Rattle.requests.specs.declared.Setup.{Setup}
 use Rattle.requests.specs.declared.Request.{Request}
 use Rattle.requests.specs.declared.Entry.{Entry}
+use Rattle.requests.specs.declared.Refusal.{Refusal}
+use Rattle.requests.specs.declared.Answer.the-variants.{Accepted, Refused}
 use Rattle.plans.specs.Search.{firstPlan}
 use Rattle.plans.specs.Parts.{usableCount}
 use Rattle.plans.specs.Rows.{rowsFrom}
@@ -13,8 +16,9 @@ use Rattle.plans.specs.Packed.{packed, placesFrom}
 use Rattle.sessions.specs.declared.Assigned.{Assigned}
 use Rattle.sessions.specs.declared.Session.{Session}
 use Rattle.sessions.specs.Turns.{requestsOf, taken, passed, assign}
-use Rattle.sessions.specs.Sessions.{vacant, sessionOf}
+use Rattle.sessions.specs.Sessions.{vacant, sessionOf, turnAnswer, turnOf}
 use Rattle.planner.specs.declared.Chosen.{Chosen}
+use Rattle.planner.specs.declared.Outcome.{Outcome}
 
 -- a list in an array of n places: d stands in those past its end
 abbrev pub inArray : {A : Type 0} → ℕ → A → List A → List A
@@ -63,3 +67,14 @@ planned code es = assign es (placesFrom code 0 (requestsOf es))
 -- the plan of this choice
 abbrev pub planChosen : Session → List ℕ → Chosen → List Assigned
 planChosen s ts c = planned (c .code) (entriesAt (s .queue) (c .count) ts)
+
+-- a turn that is refused, and chooses nothing
+unfoldable pub refusedWith : Refusal → Outcome
+refusedWith x = record { answer = Refused x; chosen = record { code = 0; count = 0; rest = 0 }; writes = 0 }
+
+-- what a turn with a slice of this length does: it is accepted with the session and the plan of its choice, or refused
+pub record Settled (s : Session) (room : ℕ) (ts ps : List ℕ) (o : Outcome) : Type 0 where
+  pub within : o .answer ≡ Accepted → WithinLimits (o .chosen) ts ps
+  pub opened : o .answer ≡ Accepted → s .opened ≡ true
+  pub accepted : o .answer ≡ Accepted → turnAnswer Accepted (sessionChosen s ts ps (o .chosen)) (planChosen s ts (o .chosen)) (o .writes) ≡ turnOf s room
+  pub refused : (x : Refusal) → o .answer ≡ Refused x → (o ≡ refusedWith x) × (turnAnswer (Refused x) s [] 0 ≡ turnOf s room)

@@ -1,9 +1,12 @@
 // The calls of a session.
+use requests::Answer;
+
 pub mod add;
 pub mod drop;
 mod ids;
 pub mod open;
 mod queue;
+mod requeue;
 mod select;
 pub mod turn;
 
@@ -12,4 +15,17 @@ struct Chosen {
     pub code: u64,
     pub count: usize,
     pub rest: usize,
+}
+
+// A plan with one request more: its number, 0 where there is none, and the sets of counters that are left then.
+struct Extended {
+    pub code: u64,
+    pub left: u64,
+}
+
+// What a turn does: its answer, what it chooses, and how many writes its list has.
+struct Outcome {
+    pub answer: Answer,
+    pub chosen: Chosen,
+    pub writes: usize,
 }

@@ -1,5 +1,6 @@
 // What a turn takes and passes over.
 use crate::Chosen;
+use crate::Extended;
 use crate::queue::bounded;
 use plans::extend::counter_beside;
 use plans::extend::with_counter;
@@ -20,8 +21,9 @@ ghost use mathlib.Core.Bool.{true};
 ghost use mathlib.Core.Path.{_≡_};
 ghost use Prim.Native.Nat.{_<_, _≤_};
 ghost use lib.ListN.{length};
+ghost use Rattle.requests.specs.Devices.{counterCount};
 ghost use Rattle.plans.specs.Parts.{usableCount};
-ghost use Rattle.plans.specs.Reach.{leftOf};
+ghost use Rattle.plans.specs.Reach.{leftBy, leftOf};
 ghost use Rattle.plans.specs.Search.{firstPlan};
 ghost use Rattle.plans.specs.Rows.{rowsFrom};
 ghost use Rattle.plans.specs.Packed.{packed};
@@ -50,39 +52,45 @@ fn none_left(usable: CounterSet, left: u64) -> bool
     false
 }
 
-// The plan of the requests taken with one more behind them, packed; 0 where there is none. No plan has more requests than counters are
-// usable, so that nothing is searched once as many are taken. Nor is it for an event that has a counter beside the plan of those taken,
-// and where the requests leave no set of counters.
+// The plan of the requests taken with one more behind them. No plan has more requests than counters are usable, so that nothing is looked
+// for once as many are taken, nor where the requests leave no set of counters. An event that has a counter beside the plan of those taken
+// extends it; only for the others is a plan searched.
 fn plan_with(
     setup: Setup,
     usable: usize,
+    counters: u64,
     left: u64,
     code: u64,
     rows: &mut [u64; ROW_NUMBERS],
     count: usize,
     request: Request,
-) -> u64
-    requires { ⌜ (usable ≡ usableCount setup) × (count ≤ usable) × (length (now rows) ≡ 32) ⌝ }
+) -> Extended
+    requires { ⌜ (usable ≡ usableCount setup) × (count ≤ usable) × (length (now rows) ≡ 32) × (counters ≡ counterCount (setup .device)) ⌝ }
     requires { ⌜ (code ≡ packed (firstPlan setup (rowsFrom (now rows) 0 count))) × (code ≡ 0 → ⊥) ⌝ }
     requires { ⌜ (setup .usable .0 < 64 → left ≡ leftOf setup (rowsFrom (now rows) 0 count)) ⌝ }
-    ensures { λ r. ⌜ Searched setup (now (rows .entry)) count request (now (rows .exit)) r ⌝ }
+    ensures { λ r. ⌜ Searched setup (now (rows .entry)) count request (now (rows .exit)) (r .code) ⌝ }
+    ensures { λ r. ⌜ ((r .code ≡ 0 → ⊥) → r .left ≡ leftBy (counterCount (setup .device)) request left) ⌝ }
 {
     if usable <= count {
-        return 0;
+        return Extended { code: 0, left };
+    }
+    let own = setup.usable;
+    let left_then = left_by(counters, request, left);
+    if none_left(own, left_then) {
+        return Extended { code: 0, left };
     }
     let counter = counter_beside(setup, code, rows, count, request);
-    if counter < 64 {
-        put_request(rows, count, request);
-        return with_counter(code, count, counter);
-    }
-    let counters = setup.usable;
-    let device = setup.device;
-    let left_then = left_by(counter_count(device), request, left);
-    if none_left(counters, left_then) {
-        return 0;
-    }
     put_request(rows, count, request);
-    plan_rows(setup, rows, count + 1)
+    if counter < 64 {
+        return Extended {
+            code: with_counter(code, count, counter),
+            left: left_then,
+        };
+    }
+    Extended {
+        code: plan_rows(setup, rows, count + 1),
+        left: left_then,
+    }
 }
 
 // Goes through the queue from the front: an entry is taken where it and those taken have a plan, and is passed over otherwise. The rows
@@ -108,13 +116,13 @@ pub fn select(
     for at in 0..n {
         let entry = session.queue[at];
         let request = entry.request;
-        let found = plan_with(setup, usable, left, code, rows, count, request);
-        if found == 0 {
+        let found = plan_with(setup, usable, counters, left, code, rows, count, request);
+        if found.code == 0 {
             passed[rest] = at;
             rest += 1;
         } else {
-            code = found;
-            left = left_by(counters, request, left);
+            code = found.code;
+            left = found.left;
             taken[count] = at;
             count += 1;
         }

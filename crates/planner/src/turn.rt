@@ -1,5 +1,6 @@
 // turn: the next plan, and its write list.
 use crate::Chosen;
+use crate::Outcome;
 use crate::queue::vacant;
 use crate::select::select;
 use layouts::WriteAnswer;
@@ -9,6 +10,7 @@ use plans::rows::ROW_NUMBERS;
 use registers::plan_settings::settings_in;
 use registers::writer::write_list;
 use requests::Answer;
+use requests::Entry;
 use requests::Refusal;
 use requests::devices::CAPACITY;
 use sessions::Assigned;
@@ -16,10 +18,11 @@ use sessions::QUEUE_LIMIT;
 use sessions::Session;
 use sessions::TurnAnswered;
 ghost use mathlib.Core.Path.{_≡_};
-ghost use mathlib.Core.List.{[]};
+ghost use Prim.Native.Nat.{_<_};
 ghost use lib.ListN.{length};
-ghost use Rattle.sessions.specs.Sessions.{unassigned, turnAnswer, turnOf, turnSlice};
-ghost use Rattle.planner.specs.Selections.{WithinLimits, sessionChosen, planChosen};
+ghost use Rattle.plans.specs.Packed.{placeAt};
+ghost use Rattle.sessions.specs.Sessions.{unassigned, turnOf, turnSlice};
+ghost use Rattle.planner.specs.Selections.{Settled, refusedWith};
 
 // What stands in a place of the plan that is not used.
 fn unassigned() -> Assigned
@@ -31,111 +34,108 @@ fn unassigned() -> Assigned
     }
 }
 
-// The answer of a turn that is refused: the session stays as it is.
-fn turn_refused(session: Session, refusal: Refusal) -> TurnAnswered
-    ensures { λ r. ⌜ r ≡ turnAnswer (Answer.Refused refusal) session [] 0 ⌝ }
+// A turn that is refused: nothing is chosen.
+fn refused(refusal: Refusal) -> Outcome
+    ensures { λ r. ⌜ r ≡ refusedWith refusal ⌝ }
 {
-    TurnAnswered {
+    let nothing = Chosen {
+        code: 0,
+        count: 0,
+        rest: 0,
+    };
+    Outcome {
         answer: Answer::Refused(refusal),
-        session: session,
-        plan: [unassigned(); CAPACITY],
-        taken: 0,
+        chosen: nothing,
         writes: 0,
     }
 }
 
-// The session after a turn: the entries passed over, then those taken.
-fn requeued(
+// What a turn does: it chooses from the front of the queue, and writes the write list of what is chosen into the slice.
+fn outcome_of(
     session: Session,
-    taken: &[usize; CAPACITY],
-    passed: &[usize; QUEUE_LIMIT],
-    chosen: Chosen,
-) -> Session
-    requires { ⌜ WithinLimits chosen (now taken) (now passed) ⌝ }
-    ensures { λ r. ⌜ r ≡ sessionChosen session (now (taken .entry)) (now (passed .entry)) chosen ⌝ }
+    taken: &mut [usize; CAPACITY],
+    passed: &mut [usize; QUEUE_LIMIT],
+    out: &mut [u64],
+) -> Outcome
+    requires { ⌜ (length (now taken) ≡ 8) × (length (now passed) ≡ 16) ⌝ }
+    ensures { λ r. ⌜ Settled session (length (now (out .entry))) (now (taken .exit)) (now (passed .exit)) r ⌝ }
+    ensures { λ _. ⌜ now (out .exit) ≡ turnSlice session (now (out .entry)) ⌝ }
 {
-    let front = chosen.rest;
-    let back = chosen.count;
-    let mut queue = [vacant(); QUEUE_LIMIT];
-    let mut i = 0;
-    while i < front {
-        let at = passed[i];
-        queue[i] = session.queue[at];
-        i += 1;
-    }
-    let mut j = 0;
-    while j < back {
-        let at = taken[j];
-        queue[front + j] = session.queue[at];
-        j += 1;
+    let opened = session.opened;
+    if !opened {
+        return refused(Refusal::CallOrder);
     }
     let setup = session.setup;
-    let len = front + back;
-    Session {
-        opened: true,
-        setup: setup,
-        queue: queue,
-        len: len,
+    let mut rows: [u64; ROW_NUMBERS] = [0; ROW_NUMBERS];
+    let chosen = select(session, &mut rows, taken, passed);
+    let device = setup.device;
+    let settings = settings_in(device, chosen.code, &rows, chosen.count);
+    match write_list(out, setup, settings) {
+        WriteAnswer::TooShort => refused(Refusal::SliceTooShort),
+        WriteAnswer::Written(writes) => Outcome {
+            answer: Answer::Accepted,
+            chosen: chosen,
+            writes: writes,
+        },
     }
 }
 
-// The answer of a turn that is accepted, with the plan: the id of each entry taken, with its place.
-fn turn_accepted(
-    session: Session,
-    taken: &[usize; CAPACITY],
-    passed: &[usize; QUEUE_LIMIT],
-    chosen: Chosen,
-    writes: usize,
-) -> TurnAnswered
-    requires { ⌜ WithinLimits chosen (now taken) (now passed) ⌝ }
-    ensures { λ r. ⌜ r ≡ turnAnswer Answer.Accepted (sessionChosen session (now (taken .entry)) (now (passed .entry)) chosen) (planChosen session (now (taken .entry)) chosen) writes ⌝ }
+// What the plan says of an entry: its id, with its place as the i-th in the packed plan.
+fn assigned_to(code: u64, i: usize, entry: Entry) -> Assigned
+    requires { ⌜ i < 8 ⌝ }
+    ensures { λ r. ⌜ r ≡ record { id = entry .id; place = placeAt code i (entry .request) } ⌝ }
 {
-    let count = chosen.count;
-    let mut plan = [unassigned(); CAPACITY];
-    let mut i = 0;
-    while i < count {
-        let at = taken[i];
-        let entry = session.queue[at];
-        let request = entry.request;
-        plan[i] = Assigned {
-            id: entry.id,
-            place: place_at(chosen.code, i, request),
-        };
-        i += 1;
-    }
-    TurnAnswered {
-        answer: Answer::Accepted,
-        session: requeued(session, taken, passed, chosen),
-        plan: plan,
-        taken: count,
-        writes: writes,
+    let request = entry.request;
+    Assigned {
+        id: entry.id,
+        place: place_at(code, i, request),
     }
 }
 
 // Takes the requests that have a plan together, from the front of the queue, and writes their write list into the slice.
-// All answers meet in one local, so that the session is not kept aside for a refusal.
+// The queue is made anew here, beside the session: a call that is handed the session makes a copy of it.
 pub fn turn(session: Session, out: &mut [u64]) -> TurnAnswered
     ensures { λ r. ⌜ r ≡ turnOf session (length (now (out .entry))) ⌝ }
     ensures { λ _. ⌜ now (out .exit) ≡ turnSlice session (now (out .entry)) ⌝ }
 {
-    let opened = session.opened;
-    let mut answered = turn_refused(session, Refusal::CallOrder);
-    if opened {
-        let setup = session.setup;
-        let mut rows: [u64; ROW_NUMBERS] = [0; ROW_NUMBERS];
-        let mut taken: [usize; CAPACITY] = [0; CAPACITY];
-        let mut passed: [usize; QUEUE_LIMIT] = [0; QUEUE_LIMIT];
-        let chosen = select(session, &mut rows, &mut taken, &mut passed);
-        let device = setup.device;
-        let settings = settings_in(device, chosen.code, &rows, chosen.count);
-        match write_list(out, setup, settings) {
-            WriteAnswer::TooShort => {
-                answered = turn_refused(session, Refusal::SliceTooShort);
+    let mut taken: [usize; CAPACITY] = [0; CAPACITY];
+    let mut passed: [usize; QUEUE_LIMIT] = [0; QUEUE_LIMIT];
+    let outcome = outcome_of(session, &mut taken, &mut passed, out);
+    let answer = outcome.answer;
+    let chosen = outcome.chosen;
+    let front = chosen.rest;
+    let mut queue = [vacant(); QUEUE_LIMIT];
+    let mut len = session.len;
+    let mut plan = [unassigned(); CAPACITY];
+    match answer {
+        Answer::Refused(_) => queue = session.queue,
+        Answer::Accepted => {
+            for i in 0..front {
+                let at = passed[i];
+                queue[i] = session.queue[at];
             }
-            WriteAnswer::Written(writes) => {
-                answered = turn_accepted(session, &taken, &passed, chosen, writes);
+            for j in 0..chosen.count {
+                let at = taken[j];
+                queue[front + j] = session.queue[at];
+                let entry = session.queue[at];
+                plan[j] = assigned_to(chosen.code, j, entry);
             }
+            len = front + chosen.count;
         }
     }
-    answered
+    let opened = session.opened;
+    let setup = session.setup;
+    let next = Session {
+        opened,
+        setup,
+        queue,
+        len,
+    };
+    TurnAnswered {
+        answer,
+        session: next,
+        plan,
+        taken: chosen.count,
+        writes: outcome.writes,
+    }
 }

@@ -1,13 +1,13 @@
 -- `planner::select::plan_with` searches with one request more: by the laws on a row put behind others. Nothing is searched where as many
 -- requests are taken as counters are usable, or the requests leave no set of counters, by the laws that no further request fits, and
 -- for an event that has a counter beside the plan, by the law that it extends the plan.
-use mathlib.Core.Path.{_≡_}
+use mathlib.Core.Path.{_≡_, refl, _∙_}
 use mathlib.Core.List.{[], _∷_, _++_}
 use borrow.Author.Needs.{needs}
 use native.Mathlib.Omega.{arith}
-use Prim.Native.Nat.{_<_}
-use Rattle.requests.specs.Devices.{capacity}
-use Rattle.plans.specs.Reach.{leftOf}
+use Prim.Native.Nat.{ℕ, _<_}
+use Rattle.requests.specs.Devices.{capacity, counterCount}
+use Rattle.plans.specs.Reach.{leftBy, leftOf}
 use Rattle.plans.specs.Rows.{rowsFrom}
 use Rattle.plans.proofs.ReachHolds.{reach}
 use Rattle.plans.proofs.PlanLengthHolds.{plan-length}
@@ -15,11 +15,15 @@ use Rattle.planner.proofs.Searching.{searched-none, searched-extended, 
 use Rattle.planner.proofs.select.plan_with.Statement.{statement}
 use Rattle.planner.proofs.select.plan_with.Tie as tie
 
+-- the second promise says nothing where there is no plan
+nothing : {A : Type 0} → (_≡_ {A = ℕ} 0 0 → ⊥) → A
+nothing exists = absurd (exists refl)
+
 returns : tie.Need-returns
 returns c =
     let b = c .before in
     let a = b .args in
-    searched-none (a .setup) (a .rows .now) (a .count) (a .request) (omega (arith, b .pre .0 .0)) (b .pre .0 .2)
+    (searched-none (a .setup) (a .rows .now) (a .count) (a .request) (omega (arith, b .pre .0 .0)) (b .pre .0 .2), nothing)
 
 -- fewer requests are taken than a plan has room for
 few : (c : tie.Else1) → c .before .args .count < 8
@@ -30,70 +34,71 @@ few c =
     let d = plan-length .device-at-most (b .args .setup .device) in
     omega (arith, b .pre .0 .0)
 
-counter-beside-requires : tie.Need-counter-beside-requires
-counter-beside-requires c κs = omega (arith, few (c .before))
+left-by-requires : tie.Need-left-by-requires
+left-by-requires c κs = rw (c .before .before .pre .0 .3) (reach .few _)
 
-put-request-requires : tie.Need-put-request-requires
-put-request-requires c κs = let i = c .before .before .before .before in (few i, i .before .pre .0 .2)
-
-with-counter-requires : tie.Need-with-counter-requires
-with-counter-requires c κs =
-    let i = c .before .before .before .before .before in
-    let b = i .before in
-    let a = b .args in
-    (omega (arith, few i), beside-few (c .before .before .before .counter-beside .ensures (c .before .before .if2 .taken)), code-few (a .setup) (a .rows .now) (a .count) (a .code) (b .pre .1 .0 .0) (omega (arith, few i)))
+-- the sets that are left with the request
+left-then : (c : tie.After-left-by) → let a = c .before .before .before .args in c .left-by .result ≡ leftBy (counterCount (a .setup .device)) (a .request) (a .left)
+left-then c = c .left-by .ensures ∙ rw (c .before .before .before .pre .0 .3)
 
 returns-2 : tie.Need-returns-2
 returns-2 c =
-    let p = c .before in
-    let b = p .before .before .before .before .before .before in
+    let n = c .before in
+    let b = c .before .before .before .before .before in
     let a = b .args in
-    searched-extended (a .setup) (a .rows .now) (a .count) (a .request) _ (p .put-request .ensures .0) (p .put-request .ensures .1) (b .pre .0 .2)
-    (a .code) (b .pre .1 .0 .0) (b .pre .1 .0 .1) _ (p .before .before .before .counter-beside .ensures (p .before .before .if2 .taken)) _ (c .with-counter .ensures)
+    let s = a .setup in
+    let l = n .none-left .ensures (c .if2 .taken) in
+    let left : a .left ≡ leftOf s (rowsFrom (a .rows .now) 0 (a .count)) = b .pre .1 .1 (l .1) in
+    let gone : leftOf s (rowsFrom (a .rows .now) 0 (a .count) ++ (a .request ∷ [])) ≡ 0 = rw (reach .grows, ← left, ← left-then (n .before)) (l .0) in
+    (searched-unreached s (a .rows .now) (a .count) (a .request) (l .1) gone (b .pre .0 .2), nothing)
 
-left-by-requires : tie.Need-left-by-requires
-left-by-requires c κs = rw (c .counter-count .ensures) (reach .few _)
+counter-beside-requires : tie.Need-counter-beside-requires
+counter-beside-requires c κs = omega (arith, few (c .before .before .before .before .before))
+
+put-request-requires : tie.Need-put-request-requires
+put-request-requires c κs = let i = c .before .before .before .before .before .before .before in (few i, i .before .pre .0 .2)
+
+with-counter-requires : tie.Need-with-counter-requires
+with-counter-requires c κs =
+    let i = c .before .before .before .before .before .before .before .before .before in
+    let b = i .before in
+    let a = b .args in
+    (omega (arith, few i), beside-few (c .before .before .before .counter-beside .ensures (c .if3 .taken)), code-few (a .setup) (a .rows .now) (a .count) (a .code) (b .pre .1 .0 .0) (omega (arith, few i)))
 
 returns-3 : tie.Need-returns-3
 returns-3 c =
-    let n = c .before in
-    let w = n .before in
-    let b = w .before .before .before .before .before .before .before in
-    let a = b .args in
-    let s = a .setup in
-    let l = n .none-left .ensures (c .if3 .taken) in
-    let left : a .left ≡ leftOf s (rowsFrom (a .rows .now) 0 (a .count)) = b .pre .1 .1 (l .1) in
-    let gone : leftOf s (rowsFrom (a .rows .now) 0 (a .count) ++ (a .request ∷ [])) ≡ 0 =
-    rw (reach .grows, ← left, ← w .before .counter-count .ensures, ← w .left-by .ensures) (l .0) in
-    searched-unreached s (a .rows .now) (a .count) (a .request) (l .1) gone (b .pre .0 .2)
-
-put-request-requires-2 : tie.Need-put-request-requires-2
-put-request-requires-2 c κs = let i = c .before .before .before .before .before .before .before .before .before in (few i, i .before .pre .0 .2)
+    let p = c .before .before in
+    let b = c .before .before .before .before .before .before .before .before .before .before .before in
+    let a = b .args in (
+      searched-extended (a .setup) (a .rows .now) (a .count) (a .request) _ (p .put-request .ensures .0) (p .put-request .ensures .1) (b .pre .0 .2)
+          (a .code) (b .pre .1 .0 .0) (b .pre .1 .0 .1) _ (p .before .before .counter-beside .ensures (c .before .if3 .taken)) _ (c .with-counter .ensures),
+      λ exists. left-then (c .before .before .before .before .before .before .before .before),
+    )
 
 plan-rows-requires : tie.Need-plan-rows-requires
-plan-rows-requires c κs = omega (arith, few (c .before .before .before .before .before .before .before .before .before .before .before))
+plan-rows-requires c κs = omega (arith, few (c .before .before .before .before .before .before .before .before .before .before))
 
 returns-4 : tie.Need-returns-4
 returns-4 c =
-    let p = c .before .before in
-    let b = p .before .before .before .before .before .before .before .before .before .before .before in
-    let a = b .args in
-    searched-rows (a .setup) (a .rows .now) (a .count) (a .request) _ (p .put-request2 .ensures .0) (p .put-request2 .ensures .1) (b .pre .0 .2) _ (c .plan-rows .ensures)
+    let p = c .before .before .before in
+    let b = c .before .before .before .before .before .before .before .before .before .before .before .before in
+    let a = b .args in (
+      searched-rows (a .setup) (a .rows .now) (a .count) (a .request) _ (p .put-request .ensures .0) (p .put-request .ensures .1) (b .pre .0 .2) _ (c .plan-rows .ensures),
+      λ exists. left-then (c .before .before .before .before .before .before .before .before .before),
+    )
 
 pub plan-with-spec : {M : Type 1} → statement M
 plan-with-spec =
     tie.close
     (tie.spec
     returns
+    left-by-requires
+    (λ c κs. search needs)
+    returns-2
     counter-beside-requires
     put-request-requires
     with-counter-requires
-    returns-2
-    (λ c κs. search needs)
-    left-by-requires
-    (λ c κs. search needs)
     returns-3
-    put-request-requires-2
     (λ c. search needs)
     plan-rows-requires
     returns-4)

@@ -10,8 +10,7 @@ use lib.ListN.{length, take, getD}
 use Rattle.requests.specs.declared.Request.{Request}
 use Rattle.plans.specs.Search.{firstPlan}
 use Rattle.plans.specs.Packed.{packed}
-use Rattle.plans.specs.Reach.{leftBy, leftOf}
-use Rattle.plans.proofs.ReachHolds.{reach}
+use Rattle.plans.specs.Reach.{leftOf}
 use Rattle.sessions.specs.Turns.{requestsOf, taken as takenBy}
 use Rattle.sessions.specs.Sessions.{vacant, queued}
 use Rattle.planner.specs.Selections.{Selected}
@@ -50,7 +49,7 @@ plan-with-requires c κs =
     let s = c .before .before .before .before .before .before .before .before .before .args .t1 .setup in
     let so-far = l .loop .inv .4 in
     let u = c .before .before .before .before .before .before .usable-count .ensures in
-    ((u, rw u (so-far .taken-usable), l .loop .inv .1), ((so-far .plan-found ∙ ap (λ (rs : List Request). packed (firstPlan s rs)) (sym (so-far .rows-taken)), so-far .plan-some), λ fits. l .loop .inv .5 fits ∙ ap (leftOf s) (sym (so-far .rows-taken))))
+    ((u, rw u (so-far .taken-usable), l .loop .inv .1, c .before .before .before .before .before .counter-count .ensures), ((so-far .plan-found ∙ ap (λ (rs : List Request). packed (firstPlan s rs)) (sym (so-far .rows-taken)), so-far .plan-some), λ fits. l .loop .inv .5 fits ∙ ap (leftOf s) (sym (so-far .rows-taken))))
 
 mul-passed : tie.Need-mul-passed Inv-loop μ-loop
 mul-passed c = omega arith
@@ -61,15 +60,12 @@ element-write-passed c = omega arith
 add-rest : tie.Need-add-rest Inv-loop μ-loop
 add-rest c = omega arith
 
-left-by-requires : tie.Need-left-by-requires Inv-loop μ-loop
-left-by-requires c κs = let few = reach .few (c .before .before .before .before .before .before .before .before .before .before .before .args .t1 .setup .device) in omega (arith, c .before .before .before .before .before .before .before .counter-count .ensures)
-
 -- there is room for one more
-room : (c : tie.After-left-by Inv-loop μ-loop) → c .before .before .before .before .before .before .loop .count < 8
+room : (c : tie.Else1 Inv-loop μ-loop) → c .before .before .before .before .before .before .loop .count < 8
 unfolding vacant
 room c =
-    let v = c .before .before .before .before .before .before .loop .inv in
-    taken-room (v .4) (c .before .before .before .before .before .before .loop .at) (c .before .before .plan-with .ensures) (c .before .if1 .left) .1
+    let l = c .before .before .before .before .before .before in
+    taken-room (l .loop .inv .4) (l .loop .at) (c .before .before .plan-with .ensures .0) (c .if1 .left) .1
 
 mul-taken : tie.Need-mul-taken Inv-loop μ-loop
 mul-taken c = let r = room c in omega arith
@@ -89,31 +85,30 @@ loop-less c = omega arith
 loop-again : tie.Need-loop-again Inv-loop μ-loop
 unfolding vacant
 loop-again c =
-    let l = c .before .before .before .before .before in
+    let l = c .before .before .before .before .before .before in
     let v = l .loop .inv in
-    let q = c .before .before .before .before .before .before .before .before .before .before .before .args .t1 .queue in
+    let q = c .before .before .before .before .before .before .before .before .before .before .before .before .args .t1 .queue in
     let i = l .loop .at in
-    let search = c .before .plan-with .ensures in
+    let found = c .before .before .plan-with .ensures in
     let next = take-next q i vacant (omega arith) in
     ⊎-elim
     (λ w.
     rw (w .1, w .2, w .3, w .4, w .5, w .6) (
       v .0,
-      search .size,
+      found .0 .size,
       omega arith,
       omega arith,
-      rw next (selected-passes (v .4) i search (w .0 .taken) (omega arith) (omega arith)),
-      rw next (left-passes (v .4) i search (v .5) (w .0 .taken)),
+      rw next (selected-passes (v .4) i (found .0) (w .0 .taken) (omega arith) (omega arith)),
+      rw next (left-passes (v .4) i (found .0) (v .5) (w .0 .taken)),
     ))
     (λ w.
-    let less = w .1 .ensures ∙ ap (λ (n : ℕ). leftBy n (getD q i vacant .request) (l .loop .left)) (c .before .before .before .before .before .before .before .counter-count .ensures) in
-    rw (w .2, w .3, w .4, w .5, w .6, w .7) (
+    rw (w .1, w .2, w .3, w .4, w .5, w .6) (
       v .0,
-      search .size,
+      found .0 .size,
       omega arith,
       omega arith,
-      rw next (selected-takes (v .4) i search (w .0 .left) (omega arith) (omega arith)),
-      rw next (left-takes (v .4) i search (v .5) less (w .0 .left)),
+      rw next (selected-takes (v .4) i (found .0) (w .0 .left) (omega arith) (omega arith)),
+      rw next (left-takes (v .4) i (found .0) (v .5) (found .1 (w .0 .left)) (w .0 .left)),
     ))
     (c .if1 .came)
 
@@ -141,7 +136,6 @@ select-spec =
     mul-passed
     element-write-passed
     add-rest
-    left-by-requires
     mul-taken
     element-write-taken
     add-count

@@ -1,4 +1,4 @@
--- `planner::turn::requeued` is `sessionChosen`. The loops' invariants: the array is `padded` of the first i of those passed over, and then of
+-- `planner::requeue::requeued` is `sessionChosen`. The loops' invariants: the array is `padded` of the first i of those passed over, and then of
 -- all of them and the first j of those taken.
 use mathlib.Core.Path.{_≡_, sym, ap, _∙_}
 use mathlib.Core.List.{[], _∷_, _++_, append-nil, append-assoc}
@@ -11,8 +11,8 @@ use Rattle.planner.specs.Selections.{entriesAt, sessionChosen}
 use Rattle.requests.proofs.Windows.{length-mapped}
 use Rattle.planner.proofs.Queues.{padded-none, padded-push}
 use Rattle.planner.proofs.Assigning.{entries-length, entries-next}
-use Rattle.planner.proofs.turn.requeued.Statement.{statement}
-use Rattle.planner.proofs.turn.requeued.Tie as tie
+use Rattle.planner.proofs.requeue.requeued.Statement.{statement}
+use Rattle.planner.proofs.requeue.requeued.Tie as tie
 
 abbrev Inv-loop : tie.InvT-loop
 Inv-loop taken passed session front back queue₀ i₀ queue i =
