@@ -1,5 +1,5 @@
-//! Two line programs on long mixed transcripts: the same output, the time of both, and their instructions.
-//! `lines TUNER RUST LINES FOLDER`
+//! Three line programs on long mixed transcripts: the same output, their times, and their instructions.
+//! `lines TUNER SAME_ROAD FASTEST LINES FOLDER`
 
 #[path = "line_program/answer.rs"]
 mod answer;
@@ -22,10 +22,9 @@ const RUNS: usize = 15;
 /// Instructions are counted on fewer lines: under valgrind a program takes some fifty times as long.
 const COUNTED_LINES: usize = 20_000;
 
-/// The two programs, and where their inputs and outputs lie.
+/// The proved program, the Rust one on its road and the fastest, and where their inputs and outputs lie.
 struct Bench<'a> {
-    tuner: &'a str,
-    rust: &'a str,
+    programs: [&'a str; 3],
     folder: &'a str,
 }
 
@@ -64,14 +63,15 @@ fn best_and_median(mut runs: Vec<f64>) -> (f64, f64) {
     (runs[0], runs[runs.len() / 2])
 }
 
-fn print_row(device: char, what: &str, ours: f64, rust: f64, digits: usize) {
-    println!("{device}, {what:32}{ours:12.digits$}{rust:12.digits$}{:10.2}", ours / rust);
+fn print_row(device: char, what: &str, [ours, road, fastest]: [f64; 3], digits: usize) {
+    let (to_road, to_fastest) = (ours / road, ours / fastest);
+    println!("{device}, {what:32}{ours:10.digits$}{road:10.digits$}{to_road:7.2}{fastest:10.digits$}{to_fastest:7.2}");
 }
 
-fn print_rows(device: char, what: &str, ours: Vec<f64>, rust: Vec<f64>) {
-    let (ours, rust) = (best_and_median(ours), best_and_median(rust));
-    print_row(device, &format!("{what}, best of {RUNS}"), ours.0, rust.0, 3);
-    print_row(device, &format!("{what}, median"), ours.1, rust.1, 3);
+fn print_rows(device: char, what: &str, runs: [Vec<f64>; 3]) {
+    let rows = runs.map(best_and_median);
+    print_row(device, &format!("{what}, best of {RUNS}"), rows.map(|row| row.0), 3);
+    print_row(device, &format!("{what}, median"), rows.map(|row| row.1), 3);
 }
 
 impl Bench<'_> {
@@ -82,25 +82,27 @@ impl Bench<'_> {
     }
 
     fn compare(&self, device: char, input: &str) {
-        let (ours, theirs) = (format!("{input}.tuner"), format!("{input}.rust"));
-        if output_of(self.tuner, input, &ours) != output_of(self.rust, input, &theirs) {
-            println!("DIFFERENT: {input} gives {ours} and {theirs}");
+        let files = [".tuner", ".same-road", ".fastest"].map(|end| format!("{input}{end}"));
+        let outputs: Vec<_> = self.programs.iter().zip(&files).map(|(program, file)| output_of(program, input, file)).collect();
+        if outputs.iter().any(|output| *output != outputs[0]) {
+            println!("DIFFERENT: {input} gives {}", files.join(", "));
             exit(1);
         }
         println!("device {device}: the same output, byte for byte");
-        for file in [ours, theirs] {
+        for file in files {
             fs::remove_file(file).expect("a file of ours");
         }
     }
 
     fn print_times(&self, device: char, input: &str) {
-        let (mut ours, mut theirs) = (Times::default(), Times::default());
+        let mut times: [Times; 3] = Default::default();
         for _ in 0..RUNS {
-            ours.run(self.tuner, input);
-            theirs.run(self.rust, input);
+            for (program, times) in self.programs.iter().zip(&mut times) {
+                times.run(program, input);
+            }
         }
-        print_rows(device, "seconds", ours.clock, theirs.clock);
-        print_rows(device, "processor seconds", ours.processor, theirs.processor);
+        print_rows(device, "seconds", times.each_ref().map(|times| times.clock.clone()));
+        print_rows(device, "processor seconds", times.map(|times| times.processor));
     }
 
     fn print_instructions(&self, device: char) {
@@ -110,20 +112,20 @@ impl Bench<'_> {
             let counts = instructions::counts(program, &[], transcript.into(), self.folder);
             counts.iter().sum::<u64>() as f64 / COUNTED_LINES as f64
         };
-        print_row(device, "instructions a line", a_line(self.tuner), a_line(self.rust), 1);
+        print_row(device, "instructions a line", self.programs.map(a_line), 1);
         fs::remove_file(input).expect("a file of ours");
     }
 }
 
 fn main() {
     let words: Vec<String> = std::env::args().skip(1).collect();
-    let [tuner, rust, lines, folder] = &words[..] else { panic!("lines TUNER RUST LINES FOLDER") };
+    let [tuner, road, fastest, lines, folder] = &words[..] else { panic!("lines TUNER SAME_ROAD FASTEST LINES FOLDER") };
     let lines = lines.parse().expect("a number of lines");
-    let bench = Bench { tuner, rust, folder };
+    let bench = Bench { programs: [tuner, road, fastest], folder };
     let devices = DEVICES.each_ref().map(|device| device.letter as char);
     let inputs = devices.map(|device| (device, bench.write_transcript(device, lines)));
     inputs.iter().for_each(|(device, input)| bench.compare(*device, input));
-    println!("{:35}{:>12}{:>12}{:>10}", format!("{lines} lines"), "ours", "Rust", "ratio");
+    println!("{:35}{:>10}{:>10}{:>7}{:>10}{:>7}", format!("{lines} lines"), "ours", "same road", "ratio", "fastest", "ratio");
     for (device, input) in inputs {
         bench.print_times(device, &input);
         fs::remove_file(input).expect("a file of ours");

@@ -1,4 +1,5 @@
 //! The line program in Rust, written from document 01: lines on standard input, answers on standard output.
+//! With `--cfg same_road` it takes the road of the proved planner, otherwise the fastest one known.
 //! One session behind `&mut`, its queue in a fixed array; two fixed blocks; no heap between the first line and the last.
 
 mod answer;
@@ -8,6 +9,9 @@ mod planner;
 
 use answer::{answer, Output, LONGEST_ANSWER};
 use call::LINE_LIMIT;
+#[cfg(same_road)]
+use planner::fast::session::SameRoad as Session;
+#[cfg(not(same_road))]
 use planner::fast::session::Session;
 use planner::Calls;
 use std::fs::File;

@@ -2,6 +2,7 @@
 //! request is passed over without a search where nothing is left for it, and a turn searches once, for what it takes.
 
 mod left;
+mod road;
 pub mod search;
 pub mod session;
 mod writes;

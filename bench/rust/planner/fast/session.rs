@@ -1,38 +1,27 @@
 //! The session behind `&mut`: its queue lies in a fixed array, and every call changes it in place.
 
-use super::left::Left;
-use super::search::first_plan;
+use super::road::{Fastest, Proved, Road};
 use super::writes::write_list;
 use crate::planner::devices::{Opening, Setup};
 use crate::planner::requests::{refusal_of, Entry, Place, Request, VACANT};
 use crate::planner::{Calls, Turn, LIMIT, PLACES};
+use std::marker::PhantomData;
 
-pub struct Session {
+pub struct SessionOn<R> {
     setup: Option<Setup>,
     queue: [Entry; LIMIT],
     waiting: usize,
+    road: PhantomData<R>,
 }
 
-impl Session {
-    fn position(&self, id: u64) -> Option<usize> {
-        self.queue().iter().position(|entry| entry.id == id)
-    }
+/// The session on the fastest road known.
+pub type Session = SessionOn<Fastest>;
+/// The session on the road of the proved planner.
+pub type SameRoad = SessionOn<Proved>;
 
-    /// Goes through the queue from the front and takes what fits together; answers the places of the queue taken, as bits.
-    fn select(&self, usable: u64, turn: &mut Turn) -> u64 {
-        let mut left = Left::all(usable);
-        let mut at = 0;
-        for (place, entry) in self.queue().iter().enumerate() {
-            if left.no_counter() {
-                break;
-            }
-            if left.take(entry.request) {
-                turn.taken[turn.count] = *entry;
-                turn.count += 1;
-                at |= 1 << place;
-            }
-        }
-        at
+impl<R> SessionOn<R> {
+    fn position(&self, id: u64) -> Option<usize> {
+        self.queue[..self.waiting].iter().position(|entry| entry.id == id)
     }
 
     /// Those passed over close up, and the taken ones go behind them.
@@ -48,9 +37,9 @@ impl Session {
     }
 }
 
-impl Calls for Session {
-    fn new() -> Session {
-        Session { setup: None, queue: [VACANT; LIMIT], waiting: 0 }
+impl<R: Road> Calls for SessionOn<R> {
+    fn new() -> SessionOn<R> {
+        SessionOn { setup: None, queue: [VACANT; LIMIT], waiting: 0, road: PhantomData }
     }
 
     fn queue(&self) -> &[Entry] {
@@ -76,7 +65,7 @@ impl Calls for Session {
         if let Some(number) = refusal_of(setup.device, request) {
             return Err(number);
         }
-        if !Left::all(setup.usable).take(request) {
+        if !R::plans_alone(setup, request) {
             return Err(12);
         }
         if self.waiting == LIMIT {
@@ -101,9 +90,8 @@ impl Calls for Session {
     fn turn(&mut self, list: &mut [u64]) -> Result<Turn, u64> {
         let setup = self.setup.ok_or(2u64)?;
         let mut turn = Turn { taken: [VACANT; PLACES], places: [Place::Counter(0); PLACES], count: 0, writes: 0 };
-        let at = self.select(setup.usable, &mut turn);
+        let at = R::choose(setup, self.queue(), &mut turn);
         let taken = &turn.taken[..turn.count];
-        turn.places = first_plan(setup, taken).expect("what is taken has a plan");
         turn.writes = write_list(setup, taken, &turn.places, list).ok_or(14u64)?;
         self.requeue(at, taken);
         Ok(turn)

@@ -1,0 +1,100 @@
+//! Two roads to the requests that a turn takes and to their plan.
+
+use super::left::{sets_after, Left};
+use super::search::first_plan;
+use crate::planner::devices::Setup;
+use crate::planner::requests::{Entry, Place, Request};
+use crate::planner::Turn;
+
+pub trait Road {
+    /// Whether a well-formed request has a plan alone.
+    fn plans_alone(setup: Setup, request: Request) -> bool;
+    /// Goes through the queue from the front, takes what has a plan together, and gives the places; answers the places of the
+    /// queue taken, as bits.
+    fn choose(setup: Setup, queue: &[Entry], turn: &mut Turn) -> u64;
+}
+
+/// What is left of counters and of filter words decides what is taken, and a turn searches once.
+pub struct Fastest;
+
+impl Road for Fastest {
+    #[inline(always)]
+    fn plans_alone(setup: Setup, request: Request) -> bool {
+        Left::all(setup.usable).take(request)
+    }
+
+    #[inline(always)]
+    fn choose(setup: Setup, queue: &[Entry], turn: &mut Turn) -> u64 {
+        let mut left = Left::all(setup.usable);
+        let mut at = 0;
+        for (place, entry) in queue.iter().enumerate() {
+            if left.no_counter() {
+                break;
+            }
+            if left.take(entry.request) {
+                turn.taken[turn.count] = *entry;
+                turn.count += 1;
+                at |= 1 << place;
+            }
+        }
+        turn.places = first_plan(setup, &turn.taken[..turn.count]).expect("what is taken has a plan");
+        at
+    }
+}
+
+/// The road of the proved planner: only where the sets of counters leave one is a plan looked for, with those taken. An event
+/// extends their plan where a counter is free beside it; otherwise it is searched for.
+pub struct Proved;
+
+/// The counters that a place uses.
+fn counters_of(place: Place) -> u64 {
+    match place {
+        Place::Counter(k) | Place::WithRsp(k, _) => 1 << k,
+        Place::Pair(j, k) => 1 << j | 1 << k,
+    }
+}
+
+/// Takes an entry behind the others if it has a plan with them.
+fn extend(setup: Setup, entry: &Entry, turn: &mut Turn) -> bool {
+    let count = turn.count;
+    turn.taken[count] = *entry;
+    if let Request::Event { allowed, .. } = entry.request {
+        let used = turn.places[..count].iter().fold(0, |used, &place| used | counters_of(place));
+        let free = allowed & setup.usable & !used;
+        if free != 0 {
+            turn.places[count] = Place::Counter(free.trailing_zeros() as u8);
+            turn.count += 1;
+            return true;
+        }
+    }
+    let Some(places) = first_plan(setup, &turn.taken[..count + 1]) else { return false };
+    turn.places = places;
+    turn.count += 1;
+    true
+}
+
+impl Road for Proved {
+    fn plans_alone(setup: Setup, request: Request) -> bool {
+        match request {
+            Request::Event { allowed, .. } | Request::Packet { allowed, .. } | Request::Offcore { allowed, .. } => allowed & setup.usable != 0,
+            Request::Latency { .. } => first_plan(setup, &[Entry { id: 0, request }]).is_some(),
+        }
+    }
+
+    fn choose(setup: Setup, queue: &[Entry], turn: &mut Turn) -> u64 {
+        let most = setup.usable.count_ones() as usize;
+        let mut sets = 1 << setup.usable;
+        let mut at = 0;
+        for (place, entry) in queue.iter().enumerate() {
+            if turn.count == most {
+                break;
+            }
+            let left = sets_after(sets, entry.request);
+            if left != 0 && extend(setup, entry, turn) {
+                sets = left;
+                at |= 1 << place;
+            }
+        }
+        at
+    }
+}
