@@ -1,7 +1,7 @@
 //! Two planners for document 01 and the orders of document 02, written from the papers alone; they share no code with the
 //! crates.
 //! `model` is slow and clear: it says what the answers are, and the stored outputs come from it.
-//! `fast` takes the road of the proved planner: it is what the proved one is timed against.
+//! `fast` is what the proved planner is timed against, on the fastest road known and on the proved one's own.
 //! They share the table of devices, the requests with their checks, and the shape of the calls; each program here uses a part.
 #![allow(dead_code)]
 

@@ -34,7 +34,9 @@ fn without_one(sets: u64, allowed: u64) -> u64 {
 /// The sets that a request leaves.
 pub fn sets_after(sets: u64, request: Request) -> u64 {
     match request {
-        Request::Event { allowed, .. } | Request::Packet { allowed, .. } | Request::Offcore { allowed, .. } => without_one(sets, allowed),
+        Request::Event { allowed, .. } | Request::Packet { allowed, .. } | Request::Offcore { allowed, .. } => {
+            without_one(sets, allowed)
+        }
         Request::Latency { first, second, .. } => without_one(without_one(sets, first), second),
     }
 }

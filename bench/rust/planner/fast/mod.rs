@@ -1,5 +1,6 @@
-//! The fast planner, for the benchmarks: the road of the proved one in Rust's own way. The session is changed in place, a
-//! request is passed over without a search where nothing is left for it, and a turn searches once, for what it takes.
+//! The fast planner, for the benchmarks, in Rust's own way: the session is changed in place, and a request is passed over
+//! without a search where nothing is left for it. On the fastest road a turn searches once, for what it takes; on the proved
+//! planner's own it looks for a plan with each request that passes.
 
 mod left;
 mod road;

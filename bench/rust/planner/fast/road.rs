@@ -76,7 +76,9 @@ fn extend(setup: Setup, entry: &Entry, turn: &mut Turn) -> bool {
 impl Road for Proved {
     fn plans_alone(setup: Setup, request: Request) -> bool {
         match request {
-            Request::Event { allowed, .. } | Request::Packet { allowed, .. } | Request::Offcore { allowed, .. } => allowed & setup.usable != 0,
+            Request::Event { allowed, .. } | Request::Packet { allowed, .. } | Request::Offcore { allowed, .. } => {
+                allowed & setup.usable != 0
+            }
             Request::Latency { .. } => first_plan(setup, &[Entry { id: 0, request }]).is_some(),
         }
     }

@@ -1,7 +1,7 @@
 -- `planner::select::plan_with` searches with one request more: by the laws on a row put behind others. Nothing is searched where as many
 -- requests are taken as counters are usable, or the requests leave no set of counters, by the laws that no further request fits, and
 -- for an event that has a counter beside the plan, by the law that it extends the plan.
-use mathlib.Core.Path.{_≡_, refl, _∙_}
+use mathlib.Core.Path.{_≡_, refl, ap, _∙_}
 use mathlib.Core.List.{[], _∷_, _++_}
 use borrow.Author.Needs.{needs}
 use native.Mathlib.Omega.{arith}
@@ -35,11 +35,13 @@ few c =
     omega (arith, b .pre .0 .0)
 
 left-by-requires : tie.Need-left-by-requires
-left-by-requires c κs = rw (c .before .before .pre .0 .3) (reach .few _)
+left-by-requires c κs = let few = reach .few (c .before .before .args .setup .device) in omega (arith, c .before .before .pre .0 .3)
 
 -- the sets that are left with the request
 left-then : (c : tie.After-left-by) → let a = c .before .before .before .args in c .left-by .result ≡ leftBy (counterCount (a .setup .device)) (a .request) (a .left)
-left-then c = c .left-by .ensures ∙ rw (c .before .before .before .pre .0 .3)
+left-then c =
+    let b = c .before .before .before in
+    c .left-by .ensures ∙ ap (λ (n : ℕ). leftBy n (b .args .request) (b .args .left)) (b .pre .0 .3)
 
 returns-2 : tie.Need-returns-2
 returns-2 c =

@@ -22,7 +22,7 @@ use Rattle.planner.proofs.turn.turn.Tie as tie
 
 abbrev Inv-loop : tie.InvT-loop
 Inv-loop out session taken passed outcome answer chosen front queue₀ len plan i₀ queue i =
-    (length (session .queue) ≡ 16) × (i ≤ front) × (front ≤ 16) × (length passed ≡ 16) × (queue ≡ padded (entriesAt (session .queue) i passed))
+    (length (session .queue) ≡ 16) × (i ≤ front) × (front + chosen .count ≤ 16) × (length passed ≡ 16) × (queue ≡ padded (entriesAt (session .queue) i passed))
 
 abbrev μ-loop : tie.MeasureT-loop
 μ-loop out session taken passed outcome answer chosen front queue₀ len plan i₀ queue i = front - i
