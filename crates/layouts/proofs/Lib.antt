@@ -1,5 +1,6 @@
 pub mod AcceptanceTests
 pub mod ListLaws
+pub mod FilledSlices
 pub mod WordBits
 pub mod CounterSets
 pub mod ListedEvents

@@ -19,8 +19,8 @@ use Rattle.sessions.specs.Calls.{waits}
 use Rattle.sessions.specs.Choose.{takenAfter, passedAfter}
 use Rattle.sessions.specs.Plain.{removed}
 use Rattle.sessions.specs.Sessions.{queueLimit, vacant, queued, padded, sessionOf, newSession, plainOf, refusedBy, answered, openOf, addOf, dropOf, unassigned, turnAnswer, turnOf, turnSlice, planOf}
-use Rattle.sessions.specs.Table.{openRows, outsideIds, addRows, dropRows, turnRows, beforeOpen, onceOpen, table, refusal}
-use Rattle.sessions.specs.Turns.{requestsOf, fits, taken, passed, turned, placesOf, assign, writesOf}
+use Rattle.sessions.specs.Table.{openRows, outsideIds, addRows, dropRows, turnRows, turnsLimit, turnsRows, beforeOpen, onceOpen, table, refusal}
+use Rattle.sessions.specs.Turns.{requestsOf, fits, taken, passed, turned, placesOf, assign, writesOf, listsOf, joined}
 use Rattle.records.specs.Examples.{tabbed}
 use Rattle.records.specs.Fields.{fields, sameBytes}
 use Rattle.records.specs.Numbers.{digitOf, numberFrom, decimalOf, hexOf}
@@ -34,7 +34,7 @@ use Rattle.lines.specs.Tries.{outcome, expected, Tries}
 use Rattle.lines.specs.OrderTries.{OrderTries}
 
 pub tries-hold : Tries
-unfolding flatMap bit inList anyBit onlyBits typeBits anyResponse answerBits outstanding rsp1Bits rsp0Bits rising field matchBits maskBits latencyWord sinkMasks ringMasks starvedMasks bypassMasks cboxEvents eventsOf codeIn pairIn maskNotListed kindNotOn notListed tooWide outOfRange incomplete conflicting requestRows both either every firstHolding has capacity counterCount allCounters fixedCount allFixed letterOf boxCount boxOf devices named deviceOf packetsOn offcoreOn pairsJudged usableSet opens setupOn setupOf openingOf allows numberOf answerFor wordsOf packetsOf ofAll counters countedOf countersOf first second takeCounter takeWord takePacket placeOf admit width firstFrom putFirst thenRest tryNumber planIn firstPlan hasPlan tabulate cboxGlobals cboxGlobal layoutOf rsp0At rsp1At mmCfgAt matchAt maskAt mmEnable enabled eventWord offcoreCode rspMask rspWord packetWord usesOf wordAt setFrom settingsOf rows zeros unusable fixedAt fixedEnables firstGlobal lastGlobal offcoreWrites packetWrites filterWrites writesFor writes flat filled waits takenAfter passedAfter removed queueLimit vacant queued padded sessionOf newSession plainOf refusedBy answered openOf addOf dropOf unassigned turnAnswer turnOf turnSlice planOf openRows outsideIds addRows dropRows turnRows beforeOpen onceOpen table refusal requestsOf fits taken passed turned placesOf assign writesOf tabbed fields sameBytes digitOf numberFrom decimalOf hexOf longest tooLong parseText parsedRefusal bytes tab newline hexDigit hexText decimalDigits decimalText lineOf lineFrom lettered openFormats onBox openOn openLine eventLine packetLine offcoreLine latencyLine dropLine turnLine hasVerb verbs recordOf typed answerText registerText takeLines setLines turnRoom replyOf turnReply recordReply parsedReply lineStart feedStart lineReply keepByte byteState byteText feedState feedText unfinished endText transcript outcome expected
+unfolding flatMap bit inList anyBit onlyBits typeBits anyResponse answerBits outstanding rsp1Bits rsp0Bits rising field matchBits maskBits latencyWord sinkMasks ringMasks starvedMasks bypassMasks cboxEvents eventsOf codeIn pairIn maskNotListed kindNotOn notListed tooWide outOfRange incomplete conflicting requestRows both either every firstHolding has capacity counterCount allCounters fixedCount allFixed letterOf boxCount boxOf devices named deviceOf packetsOn offcoreOn pairsJudged usableSet opens setupOn setupOf openingOf allows numberOf answerFor wordsOf packetsOf ofAll counters countedOf countersOf first second takeCounter takeWord takePacket placeOf admit width firstFrom putFirst thenRest tryNumber planIn firstPlan hasPlan tabulate cboxGlobals cboxGlobal layoutOf rsp0At rsp1At mmCfgAt matchAt maskAt mmEnable enabled eventWord offcoreCode rspMask rspWord packetWord usesOf wordAt setFrom settingsOf rows zeros unusable fixedAt fixedEnables firstGlobal lastGlobal offcoreWrites packetWrites filterWrites writesFor writes flat filled waits takenAfter passedAfter removed queueLimit vacant queued padded sessionOf newSession plainOf refusedBy answered openOf addOf dropOf unassigned turnAnswer turnOf turnSlice planOf openRows outsideIds addRows dropRows turnRows turnsLimit turnsRows beforeOpen onceOpen table refusal requestsOf fits taken passed turned placesOf assign writesOf listsOf joined tabbed fields sameBytes digitOf numberFrom decimalOf hexOf longest tooLong parseText parsedRefusal bytes tab newline hexDigit hexText decimalDigits decimalText lineOf lineFrom lettered openFormats onBox openOn openLine eventLine packetLine offcoreLine latencyLine dropLine turnLine hasVerb verbs recordOf typed answerText registerText takeLines setLines turnRoom replyOf turnReply recordReply parsedReply lineStart feedStart lineReply keepByte byteState byteText feedState feedText unfinished endText transcript outcome expected
 tries-hold = refl
 
 pub order-tries-hold : OrderTries

@@ -1,6 +1,6 @@
 -- Write lists in a slice: one list after another, and one counter after another.
 use mathlib.Core.Path.{_≡_, refl, sym, ap, _∙_}
-use mathlib.Core.List.{List, [], _∷_, _++_}
+use mathlib.Core.List.{List, [], _++_}
 use mathlib.Core.Bool.{Bool, true, false}
 use Prim.Native.Nat.{ℕ, zero, suc, _+_, _*_, _-_, _≤_, _<_}
 use native.Mathlib.Nat.{le-refl}
@@ -14,16 +14,7 @@ use Rattle.requests.specs.Devices.{has, size}
 use Rattle.layouts.specs.Writes.{Write, row, rows, flat}
 use Rattle.layouts.specs.Slices.{Appended}
 use Rattle.layouts.proofs.ListLaws.{sets-append}
-
-flat-append : (xs ys : List Write) → flat (xs ++ ys) ≡ flat xs ++ flat ys
-unfolding flat
-flat-append [] ys = refl
-flat-append (x ∷ xs) ys = rw (flat-append xs ys)
-
-pub length-flat : (ws : List Write) → length (flat ws) ≡ 2 * length ws
-unfolding flat
-length-flat [] = refl
-length-flat (w ∷ ws) = omega (arith, length-flat ws)
+use Rattle.layouts.proofs.FilledSlices.{flat-append, length-flat}
 
 -- stores of the list leave the slice's length
 pub appended : {before after : List ℕ} {at next : ℕ} {ws : List Write} → next ≡ at + 2 * length ws → after ≡ sets before at (flat ws) → Appended before at ws after next

@@ -24,7 +24,8 @@ use Rattle.layouts.specs.Slices.{Appended, Wrote, tooShort, writeAnswer, writte
 use Rattle.layouts.specs.declared.Layout.{Layout}
 use Rattle.layouts.specs.declared.Settings.{Settings}
 use Rattle.layouts.specs.declared.WriteAnswer.the-variants.{Written, TooShort}
-use Rattle.registers.proofs.Appending.{appended-then, length-flat, length-rows}
+use Rattle.layouts.proofs.FilledSlices.{length-flat}
+use Rattle.registers.proofs.Appending.{appended-then, length-rows}
 
 -- a test counts at most once
 pub pick-small : (b : Bool) → pick b 1 0 ≤ 1

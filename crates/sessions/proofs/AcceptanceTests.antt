@@ -1,6 +1,6 @@
 -- The runs, by computation: every definition that they reach is unfolded.
-use mathlib.Core.Path.{refl}
-use mathlib.Core.List.{flatMap}
+use mathlib.Core.Path.{_≡_, refl}
+use mathlib.Core.List.{flatMap, map}
 use Rattle.requests.specs.Bits.{bit, inList, anyBit, onlyBits, typeBits, anyResponse, answerBits, outstanding, rsp1Bits, rsp0Bits, rising, field, matchBits, maskBits, latencyWord}
 use Rattle.requests.specs.CBoxEvents.{sinkMasks, ringMasks, starvedMasks, bypassMasks, cboxEvents}
 use Rattle.requests.specs.Catalogue.{eventsOf, codeIn, pairIn, maskNotListed}
@@ -14,16 +14,30 @@ use Rattle.plans.specs.Places.{countedOf, countersOf, first, second}
 use Rattle.plans.specs.Search.{takeCounter, takeWord, takePacket, placeOf, admit, width, firstFrom, putFirst, thenRest, tryNumber, planIn, firstPlan, hasPlan}
 use Rattle.layouts.specs.Layout.{tabulate, cboxGlobals, cboxGlobal, layoutOf, rsp0At, rsp1At, mmCfgAt, matchAt, maskAt, mmEnable, enabled, eventWord, offcoreCode, rspMask, rspWord, packetWord}
 use Rattle.layouts.specs.Settings.{usesOf, wordAt, setFrom, settingsOf}
-use Rattle.layouts.specs.Writes.{rows, zeros, unusable, fixedAt, fixedEnables, firstGlobal, lastGlobal, offcoreWrites, packetWrites, filterWrites, writesFor, writes}
+use Rattle.layouts.specs.Writes.{rows, zeros, unusable, fixedAt, fixedEnables, firstGlobal, lastGlobal, offcoreWrites, packetWrites, filterWrites, writesFor, writes, flat, filled}
 use Rattle.sessions.specs.Calls.{waits}
 use Rattle.sessions.specs.Choose.{takenAfter, passedAfter}
-use Rattle.sessions.specs.Completed.{turnIf, turnsBy, turnsOf}
+use Rattle.sessions.specs.Completed.{turnsIf, singleTurns, turnsBy, turnsOf}
 use Rattle.sessions.specs.Plain.{removed, onQueue, change, step}
 use Rattle.sessions.specs.Runs.{numbersOf, outcomeOf, upTo, runs, Runs}
-use Rattle.sessions.specs.Sessions.{queueLimit, vacant, queued, padded, sessionOf, newSession, plainOf, refusedBy, answered, openOf, addOf, dropOf, unassigned, turnAnswer, turnOf, planOf, answerTo, nextSession, sessionAfter}
-use Rattle.sessions.specs.Table.{openRows, outsideIds, addRows, dropRows, turnRows, beforeOpen, onceOpen, table, refusal}
-use Rattle.sessions.specs.Turns.{requestsOf, fits, taken, passed, turned, placesOf, assign, writesOf}
+use Rattle.sessions.specs.Sessions.{queueLimit, vacant, queued, padded, sessionOf, newSession, plainOf, refusedBy, answered, openOf, addOf, dropOf, unassigned, turnAnswer, turnOf, planOf, turnedSession, turnsAnswer, turnsSlice, turnsEnds, answerTo, nextSession, sessionAfter}
+use Rattle.sessions.specs.Table.{openRows, outsideIds, addRows, dropRows, turnRows, turnsLimit, turnsRows, beforeOpen, onceOpen, table, refusal}
+use Rattle.sessions.specs.Turns.{requestsOf, fits, taken, passed, turned, placesOf, assign, writesOf, turnedTimes, listsOf, joined, endsFrom}
+use Rattle.sessions.specs.TurnsRuns.{listAfter, endsAfter, times, shifts, Shift, TurnsRuns}
 
 pub runs-hold : Runs
-unfolding flatMap bit inList anyBit onlyBits typeBits anyResponse answerBits outstanding rsp1Bits rsp0Bits rising field matchBits maskBits latencyWord sinkMasks ringMasks starvedMasks bypassMasks cboxEvents eventsOf codeIn pairIn maskNotListed kindNotOn notListed tooWide outOfRange incomplete conflicting requestRows both either every firstHolding has capacity counterCount allCounters fixedCount allFixed letterOf boxCount devices named deviceOf packetsOn offcoreOn pairsJudged usableSet opens setupOn setupOf allows numberOf answerFor answerNumber wordsOf packetsOf ofAll counters countedOf countersOf first second takeCounter takeWord takePacket placeOf admit width firstFrom putFirst thenRest tryNumber planIn firstPlan hasPlan tabulate cboxGlobals cboxGlobal layoutOf rsp0At rsp1At mmCfgAt matchAt maskAt mmEnable enabled eventWord offcoreCode rspMask rspWord packetWord usesOf wordAt setFrom settingsOf rows zeros unusable fixedAt fixedEnables firstGlobal lastGlobal offcoreWrites packetWrites filterWrites writesFor writes waits takenAfter passedAfter turnIf turnsBy turnsOf removed onQueue change step numbersOf outcomeOf upTo runs queueLimit vacant queued padded sessionOf newSession plainOf refusedBy answered openOf addOf dropOf unassigned turnAnswer turnOf planOf answerTo nextSession sessionAfter openRows outsideIds addRows dropRows turnRows beforeOpen onceOpen table refusal requestsOf fits taken passed turned placesOf assign writesOf
+unfolding flatMap bit inList anyBit onlyBits typeBits anyResponse answerBits outstanding rsp1Bits rsp0Bits rising field matchBits maskBits latencyWord sinkMasks ringMasks starvedMasks bypassMasks cboxEvents eventsOf codeIn pairIn maskNotListed kindNotOn notListed tooWide outOfRange incomplete conflicting requestRows both either every firstHolding has capacity counterCount allCounters fixedCount allFixed letterOf boxCount devices named deviceOf packetsOn offcoreOn pairsJudged usableSet opens setupOn setupOf allows numberOf answerFor answerNumber wordsOf packetsOf ofAll counters countedOf countersOf first second takeCounter takeWord takePacket placeOf admit width firstFrom putFirst thenRest tryNumber planIn firstPlan hasPlan tabulate cboxGlobals cboxGlobal layoutOf rsp0At rsp1At mmCfgAt matchAt maskAt mmEnable enabled eventWord offcoreCode rspMask rspWord packetWord usesOf wordAt setFrom settingsOf rows zeros unusable fixedAt fixedEnables firstGlobal lastGlobal offcoreWrites packetWrites filterWrites writesFor writes waits takenAfter passedAfter turnsIf singleTurns turnsBy turnsOf removed onQueue change step numbersOf outcomeOf upTo runs queueLimit vacant queued padded sessionOf newSession plainOf refusedBy answered openOf addOf dropOf unassigned turnAnswer turnOf planOf turnedSession turnsAnswer answerTo nextSession sessionAfter openRows outsideIds addRows dropRows turnRows turnsLimit turnsRows beforeOpen onceOpen table refusal requestsOf fits taken passed turned placesOf assign writesOf turnedTimes listsOf joined
 runs-hold = refl
+
+-- ---- order 6
+
+lists : map listAfter shifts ≡ map (λ (x : Shift). x .list) shifts
+unfolding flatMap bit inList anyBit onlyBits typeBits anyResponse answerBits outstanding rsp1Bits rsp0Bits rising field matchBits maskBits latencyWord sinkMasks ringMasks starvedMasks bypassMasks cboxEvents eventsOf codeIn pairIn maskNotListed kindNotOn notListed tooWide outOfRange incomplete conflicting requestRows both either every firstHolding has capacity counterCount allCounters fixedCount allFixed letterOf boxCount devices named deviceOf packetsOn offcoreOn pairsJudged usableSet opens setupOn setupOf allows answerFor wordsOf packetsOf ofAll counters countedOf countersOf first second takeCounter takeWord takePacket placeOf admit width firstFrom putFirst thenRest tryNumber planIn firstPlan hasPlan tabulate cboxGlobals cboxGlobal layoutOf rsp0At rsp1At mmCfgAt matchAt maskAt mmEnable enabled eventWord offcoreCode rspMask rspWord packetWord usesOf wordAt setFrom settingsOf rows zeros unusable fixedAt fixedEnables firstGlobal lastGlobal offcoreWrites packetWrites filterWrites writesFor writes flat filled waits takenAfter passedAfter removed upTo queueLimit vacant queued padded sessionOf newSession plainOf refusedBy answered openOf addOf dropOf unassigned turnAnswer turnOf turnedSession turnsAnswer turnsSlice nextSession sessionAfter openRows outsideIds addRows dropRows turnRows turnsLimit turnsRows beforeOpen onceOpen table refusal requestsOf fits taken passed turned placesOf assign writesOf listsOf joined listAfter times shifts
+lists = refl
+
+ends : map endsAfter shifts ≡ map (λ (x : Shift). x .ends) shifts
+unfolding flatMap bit inList anyBit onlyBits typeBits anyResponse answerBits outstanding rsp1Bits rsp0Bits rising field matchBits maskBits latencyWord sinkMasks ringMasks starvedMasks bypassMasks cboxEvents eventsOf codeIn pairIn maskNotListed kindNotOn notListed tooWide outOfRange incomplete conflicting requestRows both either every firstHolding has capacity counterCount allCounters fixedCount allFixed letterOf boxCount devices named deviceOf packetsOn offcoreOn pairsJudged usableSet opens setupOn setupOf allows answerFor wordsOf packetsOf ofAll counters countedOf countersOf first second takeCounter takeWord takePacket placeOf admit width firstFrom putFirst thenRest tryNumber planIn firstPlan hasPlan tabulate cboxGlobals cboxGlobal layoutOf rsp0At rsp1At mmCfgAt matchAt maskAt mmEnable enabled eventWord offcoreCode rspMask rspWord packetWord usesOf wordAt setFrom settingsOf rows zeros unusable fixedAt fixedEnables firstGlobal lastGlobal offcoreWrites packetWrites filterWrites writesFor writes waits takenAfter passedAfter removed upTo queueLimit vacant queued padded sessionOf newSession plainOf refusedBy answered openOf addOf dropOf unassigned turnAnswer turnOf turnedSession turnsAnswer turnsEnds nextSession sessionAfter openRows outsideIds addRows dropRows turnRows turnsLimit turnsRows beforeOpen onceOpen table refusal requestsOf fits taken passed turned placesOf assign writesOf listsOf joined endsFrom endsAfter times shifts
+ends = refl
+
+pub turns-hold : TurnsRuns
+turns-hold = record { lists = lists; ends = ends }

@@ -29,7 +29,7 @@ use Rattle.sessions.proofs.TakenPlan.{taken-first}
 use Rattle.sessions.proofs.Conditions.{id-test, inside, waits-test}
 use Rattle.sessions.proofs.Rows.{refusal-table}
 
-le-of-not-lt : {m n : ℕ} → ¬ (n < m) → m ≤ n
+pub le-of-not-lt : {m n : ℕ} → ¬ (n < m) → m ≤ n
 le-of-not-lt h = omega (arith, lt-of-not-le h)
 
 -- ---- open

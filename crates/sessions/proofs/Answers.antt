@@ -3,7 +3,6 @@
 --     turn-plan-is, turn-count-is, turn-slice-is, turn-next-is    the plan, the number of writes, the slice and the session afterwards
 use mathlib.Core.Path.{_≡_, refl, ap, _∙_}
 use mathlib.Core.List.{List}
-use mathlib.Core.Bool.{Bool, true, false}
 use mathlib.Core.Option.{Option, none, some}
 use Prim.Native.Nat.{ℕ, _-_}
 use native.Mathlib.Omega.{arith}
@@ -17,23 +16,15 @@ use Rattle.requests.specs.Refusals.{answerFor}
 use Rattle.requests.specs.Devices.{capacity}
 use Rattle.layouts.specs.Writes.{filled}
 use Rattle.sessions.specs.Turns.{taken, turned, placesOf, assign, writesOf}
-use Rattle.sessions.specs.Calls.{Turn, Plain, notOpen, opened}
+use Rattle.sessions.specs.Calls.{Turn, Plain, opened}
 use Rattle.sessions.specs.Table.{refusal}
 use Rattle.sessions.specs.Plain.{onQueue, change, step}
 use Rattle.sessions.specs.Sessions.{queueLimit, queued, plainOf, refusedBy, sessionOf, unassigned, turnAnswer, turnOf, turnSlice, planOf, answerTo, nextSession}
 use Rattle.sessions.specs.declared.Session.{Session}
 use Rattle.sessions.specs.declared.Assigned.{Assigned}
 use Rattle.sessions.specs.declared.TurnAnswered.{TurnAnswered}
-use Rattle.sessions.proofs.Agreed.{answer-is, next-is}
+use Rattle.sessions.proofs.Agreed.{stands-for, answer-is, next-is}
 use Rattle.sessions.proofs.Steps.{step-accepted}
-
-stands-for : (session : Session) (s : Setup) (q : List Entry) → plainOf session ≡ opened s q → (session .setup ≡ s) × (queued session ≡ q)
-unfolding plainOf
-stands-for session s q e = go (session .opened) refl
-  where
-    go : (b : Bool) → session .opened ≡ b → (session .setup ≡ s) × (queued session ≡ q)
-    go true h = let k : opened (session .setup) (queued session) ≡ opened s q = rw (h, plainOf) at e in (cc, cc)
-    go false h = let k : notOpen ≡ opened s q = rw (h, plainOf) at e in let z : _≡_ {A = ℕ} 0 1 = cc in absurd (omega arith)
 
 -- an accepted answer comes from no row
 pub not-refused : (session : Session) (room : ℕ) → turnOf session room .answer ≡ Accepted → refusedBy session (Turn room) ≡ none

@@ -1,5 +1,6 @@
 -- The condition of each row of the table holds exactly where document 01's does. Assumes nothing.
 --     setup-test, id-test, waits-test, alone-test, full-test, short-test    rows 3, 4, 5 and 6, 12, 13, 14
+--     many-test, turns-short-test    rows 10 and 14 of turns at once
 use mathlib.Core.Path.{_≡_, refl, ap, sym, subst, _∙_}
 use mathlib.Core.List.{List, [], _∷_, map, List·Memᴰ·head, List·Memᴰ·tail, List·Memᴰ·cases-cons, List·Memᴰ·not-nil}
 use mathlib.Core.Logic.{_⊎_, inl, inr, _↔_}
@@ -24,12 +25,13 @@ use Rattle.plans.specs.Order.{First}
 use Rattle.plans.specs.Search.{hasPlan}
 use Rattle.plans.proofs.FirstFound.{first-plan}
 use Rattle.plans.proofs.PlanTestHolds.{plan-test}
-use Rattle.layouts.specs.Writes.{writes}
-use Rattle.sessions.specs.Turns.{requestsOf, taken, placesOf, writesOf}
+use Rattle.layouts.specs.Writes.{Write, writes}
+use Rattle.sessions.specs.Turns.{requestsOf, taken, placesOf, writesOf, listsOf, joined}
 use Rattle.sessions.specs.Calls.{waits}
-use Rattle.sessions.specs.Table.{outsideIds}
-use Rattle.sessions.specs.RefusalTable.{IsId, Waits}
+use Rattle.sessions.specs.Table.{outsideIds, turnsLimit}
+use Rattle.sessions.specs.RefusalTable.{IsId, Waits, Lists}
 use Rattle.sessions.proofs.TakenPlan.{taken-first}
+use Rattle.sessions.proofs.TurnLists.{lists-hold, lists-are}
 
 -- a test of the contrary
 pub not-test : {b : Bool} {P : Type 0} → (b ≡ true) ↔ P → (not b ≡ true) ↔ (¬ P)
@@ -118,3 +120,30 @@ short-test s q room =
     found ps f l =
         let e : ps ≡ placesOf s (taken s q) = first-plan .only s (requestsOf (taken s q)) ps (placesOf s (taken s q)) f (taken-first s q) in
         subst (λ (x : List Place). room < 2 * length (writes s (requestsOf (taken s q)) x)) e l
+
+-- ---- turns at once: 10, more than 64; 14, either slice is too short for all
+
+pub many-test : (n : ℕ) → (ltb turnsLimit n ≡ true) ↔ (64 < n)
+unfolding turnsLimit
+many-test n = (ltb-true 64 n, lt-ltb 64 n)
+
+pub turns-short-test : (s : Setup) (q : List Entry) (n room places : ℕ)
+    → (either (ltb room (2 * length (joined (listsOf s n q)))) (ltb places n) ≡ true)
+    ↔ (((lists : List (List Write)) × Lists s n q lists × (room < 2 * length (joined lists))) ⊎ (places < n))
+unfolding either
+turns-short-test s q n room places = (λ h. to (either-cases (ltb room needed) (ltb places n) h), from)
+  where
+    needed : ℕ
+    needed = 2 * length (joined (listsOf s n q))
+
+    to : (ltb room needed ≡ true) ⊎ (ltb places n ≡ true) → ((lists : List (List Write)) × Lists s n q lists × (room < 2 * length (joined lists))) ⊎ (places < n)
+    to (inl h) = inl (listsOf s n q, lists-hold s n q, ltb-true room needed h)
+    to (inr h) = inr (ltb-true places n h)
+
+    ends-short : (b : Bool) → ltb places n ≡ true → either b (ltb places n) ≡ true
+    ends-short true h = refl
+    ends-short false h = h
+
+    from : ((lists : List (List Write)) × Lists s n q lists × (room < 2 * length (joined lists))) ⊎ (places < n) → either (ltb room needed) (ltb places n) ≡ true
+    from (inl t) = ap (λ (b : Bool). either b (ltb places n)) (lt-ltb room needed (subst (λ (x : List (List Write)). room < 2 * length (joined x)) (lists-are (t .1)) (t .2)))
+    from (inr l) = ends-short (ltb room needed) (lt-ltb places n l)

@@ -6,8 +6,10 @@
 use mathlib.Core.Path.{_≡_, refl, ap, sym, subst, _∙_}
 use mathlib.Core.List.{List, [], _∷_, map, map-append}
 use mathlib.Core.Option.{Option, none, some}
-use Prim.Native.Nat.{ℕ}
+use Prim.Native.Nat.{ℕ, zero, suc, _*_}
+use native.Mathlib.Omega.{arith}
 use lib.ListN.{length, length-map}
+use borrow.Author.Tests.{le-ltb}
 use Rattle.requests.specs.declared.Setup.{Setup}
 use Rattle.requests.specs.declared.Entry.{Entry}
 use Rattle.requests.specs.declared.Refusal.{Refusal}
@@ -15,15 +17,17 @@ use Rattle.requests.specs.declared.Answer.{Answer}
 use Rattle.requests.specs.Refusals.{answerFor}
 use Rattle.plans.specs.Lists.{All, nil, cons}
 use Rattle.plans.proofs.Sets.{all-append}
-use Rattle.sessions.specs.Turns.{taken, placesOf, assign}
-use Rattle.sessions.specs.Calls.{Call, Open, Add, Drop, Turn, Plain, notOpen, opened}
+use Rattle.sessions.specs.Turns.{taken, turned, placesOf, assign, writesOf}
+use Rattle.sessions.specs.Calls.{Call, Open, Add, Drop, Turn, Turns, Plain, notOpen, opened}
 use Rattle.sessions.specs.Table.{refusal}
-use Rattle.sessions.specs.Plain.{unlessRefused, step, run}
+use Rattle.sessions.specs.Plain.{onQueue, change, unlessRefused, step, run}
 use Rattle.sessions.specs.Agreement.{Agrees}
 use Rattle.sessions.specs.declared.Assigned.{Assigned}
-use Rattle.sessions.specs.Completed.{Machine, CompletedTurn, stateAfter, turnIf, turnsBy, turnsOf, OnePlanEach}
+use Rattle.sessions.specs.Completed.{Machine, CompletedTurn, stateAfter, turnsIf, singleTurns, turnsBy, turnsOf, OnePlanEach}
 use Rattle.sessions.proofs.Rank.{turnsIn}
-use Rattle.sessions.proofs.TurnsAt.{TurnAt, turnsAt, count}
+use Rattle.sessions.proofs.TurnsAt.{TurnAt, turnsFrom, turnsAt, count}
+use Rattle.sessions.proofs.Steps.{step-accepted}
+use Rattle.sessions.proofs.TableAnswers.{turn-accepted}
 
 -- the setup and the queue where the turn is completed
 abbrev pub stateOf : CompletedTurn → TurnAt
@@ -56,38 +60,64 @@ module _ {State : Type 0} (m : Machine State) (limit : ℕ) (Stands : State → 
         answers = λ calls c. faithful .answers (stateAfter m s calls) (run limit p calls) (stands-after s p w calls) c;
       }
 
-  -- ---- one turn
+  -- ---- the turns of a call, where it is accepted
 
-  module _ (s : State) (t : Setup) (q : List Entry) (w : Stands s (opened t q)) (room : ℕ) where
-    abbrev answered : CompletedTurn
-    answered = record { setup = t; queue = q; plan = m .plan s room }
-
-    turn-is : map stateOf (turnIf (m .answer s (Turn room)) answered) ≡ unlessRefused (refusal limit (opened t q) (Turn room)) [] (record { setup = t; queue = q } ∷ [])
-    unfolding answerFor turnIf
-    turn-is = ap (λ (a : Answer). map stateOf (turnIf a answered)) (faithful .answers s (opened t q) w (Turn room)) ∙ go (refusal limit (opened t q) (Turn room))
+  module _ (s : State) (p : Plain) (w : Stands s p) (c : Call) (ts : List CompletedTurn) where
+    turns-if : map stateOf (turnsIf (m .answer s c) ts) ≡ unlessRefused (refusal limit p c) [] (map stateOf ts)
+    unfolding answerFor turnsIf
+    turns-if = ap (λ (a : Answer). map stateOf (turnsIf a ts)) (faithful .answers s p w c) ∙ go (refusal limit p c)
       where
-        go : (x : Option Refusal) → map stateOf (turnIf (answerFor x) answered) ≡ unlessRefused x [] (record { setup = t; queue = q } ∷ [])
+        go : (x : Option Refusal) → map stateOf (turnsIf (answerFor x) ts) ≡ unlessRefused x [] (map stateOf ts)
         go none = refl
         go (some x) = refl
 
-    turn-planned : All Planned (turnIf (m .answer s (Turn room)) answered)
-    unfolding answerFor turnIf
-    turn-planned =
-        subst (λ (a : Answer). All Planned (turnIf a answered)) (sym (faithful .answers s (opened t q) w (Turn room))) (go (refusal limit (opened t q) (Turn room)) refl)
+    planned-if : (refusal limit p c ≡ none → All Planned ts) → All Planned (turnsIf (m .answer s c) ts)
+    unfolding answerFor turnsIf
+    planned-if planned = subst (λ (a : Answer). All Planned (turnsIf a ts)) (sym (faithful .answers s p w c)) (go (refusal limit p c) refl)
       where
-        go : (x : Option Refusal) → refusal limit (opened t q) (Turn room) ≡ x → All Planned (turnIf (answerFor x) answered)
-        go none h = cons (faithful .plans s t q w room h) nil
+        go : (x : Option Refusal) → refusal limit p c ≡ x → All Planned (turnsIf (answerFor x) ts)
+        go none h = planned h
         go (some x) h = nil
+
+  -- ---- n single turns
+
+  -- the numbers of a turn's list
+  abbrev enough : Setup → List Entry → ℕ
+  enough t q = 2 * length (writesOf t (taken t q))
+
+  goes : (t : Setup) (q : List Entry) → refusal limit (opened t q) (Turn (enough t q)) ≡ none
+  goes t q = turn-accepted limit t q (enough t q) (le-ltb (enough t q) (enough t q) (omega arith))
+
+  -- a slice that is just long enough is taken
+  next-stands : (s : State) (t : Setup) (q : List Entry) → Stands s (opened t q) → Stands (m .next s (Turn (enough t q))) (opened t (turned t q))
+  unfolding change onQueue
+  next-stands s t q w =
+      subst (Stands (m .next s (Turn (enough t q)))) (step-accepted limit (opened t q) (Turn (enough t q)) (goes t q)) (faithful .next s (opened t q) w (Turn (enough t q)))
+
+  singles-are : (n : ℕ) (t : Setup) (q : List Entry) (s : State) → map stateOf (singleTurns m n t q s) ≡ turnsFrom n t q
+  unfolding singleTurns turnsFrom
+  singles-are zero t q s = refl
+  singles-are (suc n) t q s = ap (λ (l : List TurnAt). record { setup = t; queue = q } ∷ l) (singles-are n t (turned t q) (m .next s (Turn (enough t q))))
+
+  singles-planned : (n : ℕ) (t : Setup) (q : List Entry) (s : State) → Stands s (opened t q) → All Planned (singleTurns m n t q s)
+  unfolding singleTurns
+  singles-planned zero t q s w = nil
+  singles-planned (suc n) t q s w =
+      cons (faithful .plans s t q w (enough t q) (goes t q)) (singles-planned n t (turned t q) (m .next s (Turn (enough t q))) (next-stands s t q w))
 
   -- ---- one call, and any list of calls
 
   call-is : (s : State) (p : Plain) → Stands s p → (c : Call) → map stateOf (turnsBy m p s c) ≡ turnsAt limit p c
-  unfolding turnsBy turnsAt
+  unfolding turnsBy turnsAt turnsFrom
   call-is s p w (Open o) = refl
   call-is s p w (Add id r) = refl
   call-is s p w (Drop id) = refl
   call-is s notOpen w (Turn room) = refl
-  call-is s (opened t q) w (Turn room) = turn-is s t q w room
+  call-is s (opened t q) w (Turn room) = turns-if s (opened t q) w (Turn room) (record { setup = t; queue = q; plan = m .plan s room } ∷ [])
+  call-is s notOpen w (Turns n room places) = refl
+  call-is s (opened t q) w (Turns n room places) =
+      turns-if s (opened t q) w (Turns n room places) (singleTurns m n t q s)
+      ∙ ap (λ (l : List TurnAt). unlessRefused (refusal limit (opened t q) (Turns n room places)) [] l) (singles-are n t q s)
 
   call-planned : (s : State) (p : Plain) → Stands s p → (c : Call) → All Planned (turnsBy m p s c)
   unfolding turnsBy
@@ -95,7 +125,11 @@ module _ {State : Type 0} (m : Machine State) (limit : ℕ) (Stands : State → 
   call-planned s p w (Add id r) = nil
   call-planned s p w (Drop id) = nil
   call-planned s notOpen w (Turn room) = nil
-  call-planned s (opened t q) w (Turn room) = turn-planned s t q w room
+  call-planned s (opened t q) w (Turn room) =
+      planned-if s (opened t q) w (Turn room) (record { setup = t; queue = q; plan = m .plan s room } ∷ []) (λ h. cons (faithful .plans s t q w room h) nil)
+  call-planned s notOpen w (Turns n room places) = nil
+  call-planned s (opened t q) w (Turns n room places) =
+      planned-if s (opened t q) w (Turns n room places) (singleTurns m n t q s) (λ h. singles-planned n t q s w)
 
   pub turns-are : (s : State) (p : Plain) → Stands s p → (cs : List Call) → map stateOf (turnsOf m limit p s cs) ≡ turnsIn (step limit) (turnsAt limit) p cs
   unfolding turnsOf turnsIn

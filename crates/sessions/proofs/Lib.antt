@@ -4,6 +4,7 @@ pub mod Refused
 pub mod Takes
 pub mod TakenPlan
 pub mod Fair
+pub mod TurnLists
 pub mod Conditions
 pub mod Rows
 pub mod TableAnswers
@@ -22,6 +23,7 @@ pub mod Waiting
 pub mod Answers
 pub mod Faithful
 pub mod SmallSession
+pub mod TurnByTurn
 pub mod Given
 pub mod Promised
 pub mod Demand3

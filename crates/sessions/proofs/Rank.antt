@@ -15,7 +15,7 @@ pub record OneServes {Turn : Type 0} (Serves : Turn → Type 0) (turns : List Tu
   pub serves : Serves turn
 
 -- what is among the first of two lists joined, where there is more room
-among-left : {A : Type 0} {x : A} (n m : ℕ) (a b : List A) → n ≤ m → List·Memᴰ x (take n a) → List·Memᴰ x (take m (a ++ b))
+pub among-left : {A : Type 0} {x : A} (n m : ℕ) (a b : List A) → n ≤ m → List·Memᴰ x (take n a) → List·Memᴰ x (take m (a ++ b))
 among-left zero m a b le h = absurd (List·Memᴰ·not-nil h)
 among-left (suc n) m [] b le h = absurd (List·Memᴰ·not-nil h)
 among-left (suc n) zero (y ∷ a) b le h = absurd (omega arith)

@@ -8,8 +8,8 @@ use lib.ListN.{length}
 use Rattle.requests.specs.declared.Refusal.{Refusal}
 use Rattle.requests.specs.declared.Answer.the-variants.{Refused}
 use Rattle.requests.specs.Refusals.{answerFor}
-use Rattle.sessions.specs.Calls.{Call, Turn}
-use Rattle.sessions.specs.Sessions.{refusedBy, turnAnswer, turnOf, turnSlice, planOf, answerTo, nextSession}
+use Rattle.sessions.specs.Calls.{Call, Turn, Turns}
+use Rattle.sessions.specs.Sessions.{refusedBy, turnAnswer, turnOf, turnSlice, planOf, turnsAnswer, turnsSlice, turnsEnds, answerTo, nextSession}
 use Rattle.sessions.specs.Unchanged.{Unchanged}
 use Rattle.sessions.specs.declared.Session.{Session}
 use Rattle.sessions.proofs.Agreed.{answer-is, next-by}
@@ -42,5 +42,17 @@ no-writes : (s : Session) (room : ℕ) (x : Refusal) → turnOf s room .answer �
 unfolding turnOf turnAnswer
 no-writes s room x e = rw (turn-refused s room x e .1, turnOf)
 
+turns-refused : (s : Session) (n room places : ℕ) (x : Refusal) → turnsAnswer s n room places .answer ≡ Refused x → (y : Refusal) × (refusedBy s (Turns n room places) ≡ some y)
+unfolding answerTo
+turns-refused s n room places x e = refused-by s (Turns n room places) x e
+
+same-lists : (s : Session) (n : ℕ) (slice ends : List ℕ) (x : Refusal) → turnsAnswer s n (length slice) (length ends) .answer ≡ Refused x → turnsSlice s n slice (length ends) ≡ slice
+unfolding turnsSlice
+same-lists s n slice ends x e = rw (turns-refused s n (length slice) (length ends) x e .1)
+
+same-ends : (s : Session) (n : ℕ) (slice ends : List ℕ) (x : Refusal) → turnsAnswer s n (length slice) (length ends) .answer ≡ Refused x → turnsEnds s n (length slice) ends ≡ ends
+unfolding turnsEnds
+same-ends s n slice ends x e = rw (turns-refused s n (length slice) (length ends) x e .1)
+
 pub unchanged : Unchanged
-unchanged = record { session = same-session; slice = same-slice; plan = no-plan; writes = no-writes }
+unchanged = record { session = same-session; slice = same-slice; plan = no-plan; writes = no-writes; lists = same-lists; ends = same-ends }

@@ -4,7 +4,7 @@
 --     numbered         and a row that applies is one of them
 --     refusal-table    so the table says what document 01 says
 use mathlib.Core.Path.{_≡_, refl}
-use mathlib.Core.Logic.{_↔_}
+use mathlib.Core.Logic.{_⊎_, inl, inr, _↔_}
 use mathlib.Core.List.{List, _∷_}
 use mathlib.Core.Bool.{Bool, true}
 use Prim.Native.Nat.{ℕ}
@@ -17,24 +17,26 @@ use Rattle.requests.specs.Choice.{both, either, Row}
 use Rattle.requests.specs.Checks.{requestRows}
 use Rattle.requests.proofs.ExactRows.{refused-requests}
 use Rattle.plans.specs.Lists.{nil, cons}
-use Rattle.sessions.specs.Calls.{Call, Open, Add, Drop, Turn, Plain, notOpen, opened}
-use Rattle.sessions.specs.Table.{openRows, addRows, dropRows, turnRows, beforeOpen, onceOpen, table, refusal}
+use Rattle.sessions.specs.Calls.{Call, Open, Add, Drop, Turn, Turns, Plain, notOpen, opened}
+use Rattle.sessions.specs.Table.{openRows, addRows, dropRows, turnRows, turnsRows, beforeOpen, onceOpen, table, refusal}
 use Rattle.sessions.specs.Sessions.{queueLimit}
-use Rattle.sessions.specs.RefusalTable.{Applies, add-before, drop-before, turn-before, second-open, no-setup, add-id, drop-id, id-waits, id-not-waits, kind, not-listed, lacks, range, conflict, alone, full, short, RefusalTable}
+use Rattle.sessions.specs.RefusalTable.{Applies, add-before, drop-before, turn-before, turns-before, second-open, no-setup, add-id, drop-id, id-waits, id-not-waits, kind, not-listed, lacks, range, many, conflict, alone, full, short, lists-short, ends-short, RefusalTable}
 use Rattle.sessions.proofs.Fair.{numbers, Exact, inOrder, Fair, fair-some, fair-none}
-use Rattle.sessions.proofs.Conditions.{not-test, setup-test, id-test, waits-test, alone-test, full-test, short-test}
+use Rattle.sessions.proofs.Conditions.{not-test, setup-test, id-test, waits-test, alone-test, full-test, short-test, many-test, turns-short-test}
 
 -- "Checked in the order 1, 2, 3, .."
 in-order : (limit : ℕ) (p : Plain) (c : Call) → inOrder (numbers (table limit p c)) (numbers (table limit p c)) checkOrder ≡ true
-unfolding table beforeOpen onceOpen openRows addRows requestRows dropRows turnRows numberOf checkOrder inOrder inList both either
+unfolding table beforeOpen onceOpen openRows addRows requestRows dropRows turnRows turnsRows numberOf checkOrder inOrder inList both either
 in-order limit notOpen (Open o) = refl
 in-order limit notOpen (Add id r) = refl
 in-order limit notOpen (Drop id) = refl
 in-order limit notOpen (Turn room) = refl
+in-order limit notOpen (Turns n room places) = refl
 in-order limit (opened s q) (Open o) = refl
 in-order limit (opened s q) (Add id r) = refl
 in-order limit (opened s q) (Drop id) = refl
 in-order limit (opened s q) (Turn room) = refl
+in-order limit (opened s q) (Turns n room places) = refl
 
 -- a row that applies in any case
 always : {A : Type 0} → A → (true ≡ true) ↔ A
@@ -46,11 +48,12 @@ row : (A : ℕ → Type 0) (x : Refusal) {condition : Bool} {P : Type 0} {rows :
 row A x test applies fact rest = cons (λ h. applies (test .0 h), λ a. test .1 (fact a)) rest
 
 exact : (limit : ℕ) (p : Plain) (c : Call) → Exact (Applies limit p c) (table limit p c)
-unfolding table beforeOpen onceOpen openRows addRows requestRows dropRows turnRows numberOf
+unfolding table beforeOpen onceOpen openRows addRows requestRows dropRows turnRows turnsRows numberOf
 exact limit notOpen (Open o) = row (Applies limit notOpen (Open o)) BadOpening (setup-test o) (λ h. no-setup h) (λ a. elim a [ no-setup h ↦ h ]) nil
 exact limit notOpen (Add id r) = cons (always add-before) nil
 exact limit notOpen (Drop id) = cons (always drop-before) nil
 exact limit notOpen (Turn room) = cons (always turn-before) nil
+exact limit notOpen (Turns n room places) = cons (always turns-before) nil
 exact limit (opened s q) (Open o) = cons (always second-open) nil
 exact limit (opened s q) (Add id r) =
     let A : ℕ → Type 0 = Applies limit (opened s q) (Add id r) in
@@ -72,12 +75,18 @@ exact limit (opened s q) (Drop id) =
 exact limit (opened s q) (Turn room) =
     row (Applies limit (opened s q) (Turn room)) SliceTooShort (short-test s q room) (λ h. short (h .1) (h .2)) (λ a. elim a [ short {ps = ps} f l ↦ (ps, f, l) ])
     nil
+exact limit (opened s q) (Turns n room places) =
+    let A : ℕ → Type 0 = Applies limit (opened s q) (Turns n room places) in
+    row A OutOfRange (many-test n) (λ h. many h) (λ a. elim a [ many h ↦ h ])
+    (row A SliceTooShort (turns-short-test s q n room places) (λ h. elim h [ inl t ↦ lists-short (t .1) (t .2) | inr l ↦ ends-short l ]) (λ a. elim a [ lists-short {lists = ls} f l ↦ inl (ls, f, l) | ends-short l ↦ inr l ])
+    nil)
 
 numbered : {limit n : ℕ} {p : Plain} {c : Call} → Applies limit p c n → inList (numbers (table limit p c)) n ≡ true
-unfolding table beforeOpen onceOpen openRows addRows requestRows dropRows turnRows numberOf inList either
+unfolding table beforeOpen onceOpen openRows addRows requestRows dropRows turnRows turnsRows numberOf inList either
 numbered add-before = refl
 numbered drop-before = refl
 numbered turn-before = refl
+numbered turns-before = refl
 numbered second-open = refl
 numbered (no-setup e) = refl
 numbered (add-id e) = refl
@@ -87,11 +96,14 @@ numbered (id-not-waits e) = refl
 numbered (kind e) = refl
 numbered (not-listed e) = refl
 numbered (range e) = refl
+numbered (many e) = refl
 numbered (lacks e) = refl
 numbered (conflict e) = refl
 numbered (alone e) = refl
 numbered (full e) = refl
 numbered (short f l) = refl
+numbered (lists-short f l) = refl
+numbered (ends-short l) = refl
 
 fair : (limit : ℕ) (p : Plain) (c : Call) → Fair (Applies limit p c) (table limit p c)
 fair limit p c = record { exact = exact limit p c; only = λ n a. numbered a; ordered = in-order limit p c }

@@ -7,7 +7,7 @@ use mathlib.Core.Logic.{_≢_}
 use mathlib.Core.List.{List, [], _∷_, _++_, append-nil}
 use mathlib.Core.Bool.{false}
 use mathlib.Core.Option.{Option, none, some}
-use Prim.Native.Nat.{ℕ}
+use Prim.Native.Nat.{ℕ, zero, suc}
 use native.Mathlib.Omega.{arith}
 use lib.Dec.{eqb}
 use lib.ListN.{length-append}
@@ -22,8 +22,8 @@ use Rattle.plans.specs.Lists.{All, nil, cons, Pairwise, empty}
 use Rattle.requests.proofs.Tests.{either-parts}
 use Rattle.requests.proofs.Openings.{opening-is}
 use Rattle.plans.proofs.Sets.{all-append}
-use Rattle.sessions.specs.Turns.{fits, taken, passed, turned}
-use Rattle.sessions.specs.Calls.{Call, Open, Add, Drop, Turn, Plain, notOpen, opened, waiting, waits}
+use Rattle.sessions.specs.Turns.{fits, taken, passed, turned, turnedTimes}
+use Rattle.sessions.specs.Calls.{Call, Open, Add, Drop, Turn, Turns, Plain, notOpen, opened, waiting, waits}
 use Rattle.sessions.specs.Table.{refusal}
 use Rattle.sessions.specs.Plain.{removed, onQueue, change, step, run}
 use Rattle.sessions.specs.DistinctIds.{Distinct, DistinctIds}
@@ -97,6 +97,11 @@ module _ (limit : ℕ) (s : Setup) (q : List Entry) (sound : Sound limit s q) wh
         alone = all-turned (fits s) [] q (sound .alone);
       }
 
+sound-times : (limit : ℕ) (s : Setup) (n : ℕ) (q : List Entry) → Sound limit s q → Sound limit s (turnedTimes s n q)
+unfolding turnedTimes
+sound-times limit s zero q sound = sound
+sound-times limit s (suc n) q sound = sound-times limit s n (turned s q) (sound-turned limit s q sound)
+
 -- ---- any calls
 
 -- a state is sound once it is open
@@ -121,6 +126,7 @@ module _ (limit : ℕ) where
   sound-change p (Add id r) h a = sound-queue p _ (λ s q is sound. sound-added limit s q sound id r (accepted-add limit s q id r (rw is at h))) a
   sound-change p (Drop id) h a = sound-queue p _ (λ s q is sound. sound-removed limit s q sound id) a
   sound-change p (Turn room) h a = sound-queue p _ (λ s q is sound. sound-turned limit s q sound) a
+  sound-change p (Turns n room places) h a = sound-queue p _ (λ s q is sound. sound-times limit s n q sound) a
 
   pub sound-step : (p : Plain) (c : Call) → SoundIn limit p → SoundIn limit (step limit p c)
   sound-step p c a = go (refusal limit p c) refl

@@ -1,6 +1,6 @@
 -- What the refusal table answers, by the tests that the code makes one after another. Assumes nothing.
 --     holding-first, holding-rest   the first row that holds, of two tables one after the other
---     open-.., add-.., drop-.., turn-..   by which row a call is refused
+--     open-.., add-.., drop-.., turn-.., turns-..   by which row a call is refused
 --     answered-refused, answered-accepted   the answer of a call, and the session afterwards
 use mathlib.Core.Path.{_≡_, refl, sym, _∙_}
 use Prim.Native.Nat.{ℕ, _*_, _≤_, _<_}
@@ -16,20 +16,20 @@ use Rattle.requests.specs.declared.Setup.{Setup}
 use Rattle.requests.specs.declared.Request.{Request}
 use Rattle.requests.specs.declared.Entry.{Entry}
 use Rattle.requests.specs.declared.Refusal.{Refusal}
-use Rattle.requests.specs.declared.Refusal.the-variants.{CallOrder, BadOpening, BadId, IdWaiting, IdNotWaiting, NoPlanAlone, QueueFull, SliceTooShort}
+use Rattle.requests.specs.declared.Refusal.the-variants.{CallOrder, BadOpening, BadId, IdWaiting, IdNotWaiting, OutOfRange, NoPlanAlone, QueueFull, SliceTooShort}
 use Rattle.requests.specs.declared.Opened.{Opened}
 use Rattle.requests.specs.declared.Opened.the-variants.{With}
 use Rattle.requests.specs.declared.Answer.{Answer}
 use Rattle.requests.specs.declared.Answer.the-variants.{Accepted, Refused}
-use Rattle.requests.specs.Choice.{Row, firstHolding}
+use Rattle.requests.specs.Choice.{either, Row, firstHolding}
 use Rattle.requests.specs.Refusals.{answerFor}
 use Rattle.requests.specs.Devices.{setupOf, openedAs}
 use Rattle.requests.specs.Checks.{requestRows, requestRefusal}
 use Rattle.requests.proofs.Openings.{opened-some, opened-none}
 use Rattle.plans.specs.Search.{hasPlan}
-use Rattle.sessions.specs.Turns.{taken, writesOf}
-use Rattle.sessions.specs.Calls.{Call, Open, Add, Drop, Turn, notOpen, opened, waits}
-use Rattle.sessions.specs.Table.{openRows, outsideIds, addRows, dropRows, turnRows, beforeOpen, onceOpen, table, refusal}
+use Rattle.sessions.specs.Turns.{taken, writesOf, listsOf, joined}
+use Rattle.sessions.specs.Calls.{Call, Open, Add, Drop, Turn, Turns, notOpen, opened, waits}
+use Rattle.sessions.specs.Table.{openRows, outsideIds, addRows, dropRows, turnRows, turnsLimit, turnsRows, beforeOpen, onceOpen, table, refusal}
 use Rattle.sessions.specs.Sessions.{queueLimit, queued, plainOf, refusedBy, answered, sessionOf, openOf}
 use Rattle.sessions.specs.RefusalTable.{add-before, full}
 use Rattle.sessions.specs.declared.Session.{Session}
@@ -87,6 +87,10 @@ drop-closed limit id = refl
 pub turn-closed : (limit room : ℕ) → refusal limit notOpen (Turn room) ≡ some CallOrder
 unfolding refusal table firstHolding onceOpen
 turn-closed limit room = refl
+
+pub turns-closed : (limit n room places : ℕ) → refusal limit notOpen (Turns n room places) ≡ some CallOrder
+unfolding refusal table firstHolding onceOpen
+turns-closed limit n room places = refl
 
 module _ (limit : ℕ) (t : Setup) (q : List Entry) where
   -- ---- drop
@@ -150,6 +154,27 @@ module _ (limit : ℕ) (t : Setup) (q : List Entry) where
     pub turn-accepted : ltb room (2 * length (writesOf t (taken t q))) ≡ false → refusal limit (opened t q) (Turn room) ≡ none
     unfolding refusal table firstHolding onceOpen turnRows
     turn-accepted h = rw h
+
+  -- ---- turns at once
+
+  module _ (n room places : ℕ) where
+    pub turns-many : ltb turnsLimit n ≡ true → refusal limit (opened t q) (Turns n room places) ≡ some OutOfRange
+    unfolding refusal table firstHolding onceOpen turnsRows
+    turns-many h = rw h
+
+    turns-row : ltb turnsLimit n ≡ false → (b : Bool) → either (ltb room (2 * length (joined (listsOf t n q)))) (ltb places n) ≡ b
+        → refusal limit (opened t q) (Turns n room places) ≡ firstHolding ((b, SliceTooShort) ∷ [])
+    unfolding refusal table firstHolding onceOpen turnsRows
+    turns-row h b e = rw (h, e)
+
+    pub turns-short : ltb turnsLimit n ≡ false → either (ltb room (2 * length (joined (listsOf t n q)))) (ltb places n) ≡ true
+        → refusal limit (opened t q) (Turns n room places) ≡ some SliceTooShort
+    unfolding firstHolding
+    turns-short h e = turns-row h true e
+
+    pub turns-accepted : ltb turnsLimit n ≡ false → either (ltb room (2 * length (joined (listsOf t n q)))) (ltb places n) ≡ false → refusal limit (opened t q) (Turns n room places) ≡ none
+    unfolding firstHolding
+    turns-accepted h e = turns-row h false e
 
 -- ---- the answer
 

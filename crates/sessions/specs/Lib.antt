@@ -11,6 +11,7 @@ pub mod Sound
 pub mod RefusalTable
 pub mod Unchanged
 pub mod QueueRules
+pub mod TurnByTurn
 pub mod Taking
 pub mod TurnPlan
 pub mod Agreement
@@ -20,3 +21,4 @@ pub mod HeadTaken
 pub mod Demand3
 pub mod Demand3From
 pub mod Runs
+pub mod TurnsRuns

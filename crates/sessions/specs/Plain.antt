@@ -8,8 +8,8 @@ use Rattle.requests.specs.declared.Entry.{Entry}
 use Rattle.requests.specs.declared.Refusal.{Refusal}
 use Rattle.requests.specs.Choice.{pick}
 use Rattle.requests.specs.Devices.{setupOf}
-use Rattle.sessions.specs.Turns.{turned}
-use Rattle.sessions.specs.Calls.{Call, Open, Add, Drop, Turn, Plain, notOpen, opened}
+use Rattle.sessions.specs.Turns.{turned, turnedTimes}
+use Rattle.sessions.specs.Calls.{Call, Open, Add, Drop, Turn, Turns, Plain, notOpen, opened}
 use Rattle.sessions.specs.Table.{refusal}
 
 -- "drop: an id. The others keep their order."
@@ -28,6 +28,7 @@ change p (Open o) = elim (setupOf o) [ none ↦ p | some s ↦ opened s [] ]
 change p (Add id r) = onQueue p (λ s q. q ++ record { id = id; request = r } ∷ [])
 change p (Drop id) = onQueue p (λ s q. removed id q)
 change p (Turn room) = onQueue p (λ s q. turned s q)
+change p (Turns n room places) = onQueue p (λ s q. turnedTimes s n q)
 
 -- the turns that a call asks for
 unfoldable pub turnsAsked : Call → ℕ
@@ -35,6 +36,7 @@ turnsAsked (Open o) = 0
 turnsAsked (Add id r) = 0
 turnsAsked (Drop id) = 0
 turnsAsked (Turn room) = 1
+turnsAsked (Turns n room places) = n
 
 -- how often a call asks to drop the id
 unfoldable pub dropsAsked : ℕ → Call → ℕ
@@ -42,6 +44,7 @@ dropsAsked id (Open o) = 0
 dropsAsked id (Add other r) = 0
 dropsAsked id (Drop other) = pick (eqb id other) 1 0
 dropsAsked id (Turn room) = 0
+dropsAsked id (Turns n room places) = 0
 
 -- the first of two where a call is refused, the second where it is accepted
 abbrev pub unlessRefused : {A : Type 0} → Option Refusal → A → A → A
@@ -58,7 +61,7 @@ module _ (limit : ℕ) where
   run p [] = p
   run p (c ∷ cs) = run (step p c) cs
 
-  -- how many turns the call completes: "A turn is completed when it is accepted."
+  -- how many turns the call completes: "A turn is completed when it is accepted." And n turns at once: "accepted, it counts as its n turns"
   unfoldable pub completes : Plain → Call → ℕ
   completes p c = unlessRefused (refusal limit p c) 0 (turnsAsked c)
 

@@ -1,8 +1,9 @@
 -- "A call that the refusal table refuses in that state leaves it as it is. Every other call is accepted and changes it as written above."
 use mathlib.Core.Path.{_≡_}
-use mathlib.Core.List.{List, [], _∷_, _++_}
+use mathlib.Core.List.{List, [], _∷_, _++_, map}
 use mathlib.Core.Option.{none, some}
 use Prim.Native.Nat.{ℕ}
+use lib.ListN.{length}
 use Rattle.requests.specs.declared.Opening.{Opening}
 use Rattle.requests.specs.declared.Setup.{Setup}
 use Rattle.requests.specs.declared.Request.{Request}
@@ -10,9 +11,9 @@ use Rattle.requests.specs.declared.Entry.{Entry}
 use Rattle.requests.specs.declared.Refusal.{Refusal}
 use Rattle.requests.specs.Devices.{openingOf}
 use Rattle.sessions.specs.Turns.{taken, passed}
-use Rattle.sessions.specs.Calls.{Call, Open, Add, Drop, Turn, Plain, notOpen, opened}
+use Rattle.sessions.specs.Calls.{Call, Open, Add, Drop, Turn, Turns, Plain, notOpen, opened}
 use Rattle.sessions.specs.Table.{refusal}
-use Rattle.sessions.specs.Plain.{step, run}
+use Rattle.sessions.specs.Plain.{step, run, completed}
 use Rattle.sessions.specs.DistinctIds.{Distinct}
 
 pub record QueueRules (limit : ℕ) : Type 0 where
@@ -29,3 +30,6 @@ pub record QueueRules (limit : ℕ) : Type 0 where
       → step limit (opened s (ahead ++ e ∷ behind)) (Drop (e .id)) ≡ opened s (ahead ++ behind)
   -- "Afterwards the queue is the ones passed over, then the taken ones"; `Taking` says which these are
   pub turns : (s : Setup) (q : List Entry) (room : ℕ) → refusal limit (opened s q) (Turn room) ≡ none → step limit (opened s q) (Turn room) ≡ opened s (passed s q ++ taken s q)
+  -- order 6: n turns at once are n single turns, whatever the lengths of their slices, "all completed"
+  pub turns-at-once : (s : Setup) (q : List Entry) (rooms : List ℕ) (room places : ℕ) → completed limit (opened s q) (map Turn rooms) ≡ length rooms
+      → refusal limit (opened s q) (Turns (length rooms) room places) ≡ none → step limit (opened s q) (Turns (length rooms) room places) ≡ run limit (opened s q) (map Turn rooms)

@@ -1,5 +1,5 @@
 -- Lists of calls and what comes of them, computed on the definitions: document 01's bench tries A, J and K for the queue, and the bounds of
--- refusals 2, 13 and 14.
+-- refusals 2, 13 and 14; and order 6's of refusals 2, 10 and 14.
 use mathlib.Core.Path.{_≡_}
 use mathlib.Core.List.{List, [], _∷_, _++_, map}
 use mathlib.Core.Option.{Option, none, some}
@@ -12,7 +12,7 @@ use Rattle.requests.specs.declared.Entry.{Entry}
 use Rattle.requests.specs.Refusals.{answerNumber}
 use Rattle.plans.specs.declared.Place.{Place}
 use Rattle.plans.specs.declared.Place.the-variants.{Counter, Pair}
-use Rattle.sessions.specs.Calls.{Call, Open, Add, Drop, Turn, notOpen}
+use Rattle.sessions.specs.Calls.{Call, Open, Add, Drop, Turn, Turns, notOpen}
 use Rattle.sessions.specs.Sessions.{queueLimit, newSession, queued, answerTo, nextSession, sessionAfter}
 use Rattle.sessions.specs.Completed.{smallSession, CompletedTurn, turnsOf}
 use Rattle.sessions.specs.declared.Session.{Session}
@@ -190,8 +190,39 @@ cbox =
           };
     }
 
+-- order 6: turns at once before open, 65 of them and none; slices that are just long enough, too short by one number and by one end; each counts as
+-- its n turns, with their plans, among other calls
+abbrev atOnce : Run
+atOnce =
+    record {
+      calls =
+          Turns 1 40 1
+          ∷ Turns 0 0 0
+          ∷ Turns 65 0 0
+          ∷ openAll
+          ∷ Turns 2 31 2
+          ∷ Turns 2 32 2
+          ∷ Add 1 pinned
+          ∷ Add 2 (Event 0x3C 0x00 (setOf 1))
+          ∷ Turns 2 39 2
+          ∷ Turns 2 40 1
+          ∷ Turns 65 0 0
+          ∷ Turns 0 0 0
+          ∷ Turns 3 60 3
+          ∷ Turn 20
+          ∷ Drop 1
+          ∷ Turns 1 20 1
+          ∷ [];
+      outcome =
+          record {
+            numbers = replicate 3 (some 2) ++ none ∷ some 14 ∷ replicate 3 none ++ some 14 ∷ some 14 ∷ some 10 ∷ replicate 5 none;
+            plans = [] ∷ [] ∷ map (λ (id : ℕ). gets id (Counter 0) ∷ []) (1 ∷ 2 ∷ 1 ∷ 2 ∷ 2 ∷ []);
+            ids = 2 ∷ [];
+          };
+    }
+
 unfoldable pub runs : List Run
-runs = tryA ∷ tryJ ∷ tryK ∷ emptyQueue ∷ openOnce ∷ ids ∷ cbox ∷ []
+runs = tryA ∷ tryJ ∷ tryK ∷ emptyQueue ∷ openOnce ∷ ids ∷ cbox ∷ atOnce ∷ []
 
 -- each list of calls comes to what its row says
 abbrev pub Runs : Type 0

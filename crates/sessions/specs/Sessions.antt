@@ -1,9 +1,9 @@
--- What the four calls answer, for every session and argument.
+-- What the calls answer, for every session and argument.
 use mathlib.Core.List.{List, [], _∷_, _++_, foldl}
 use mathlib.Core.Bool.{true, false}
 use mathlib.Core.Option.{Option, none, some}
-use Prim.Native.Nat.{ℕ, _-_}
-use lib.ListN.{length, take, replicate}
+use Prim.Native.Nat.{ℕ, zero, suc, _-_}
+use lib.ListN.{length, take, drop, replicate}
 use Rattle.requests.specs.declared.Device.the-variants.{G}
 use Rattle.requests.specs.declared.Opening.{Opening}
 use Rattle.requests.specs.declared.Setup.{Setup}
@@ -16,8 +16,8 @@ use Rattle.requests.specs.Refusals.{answerFor}
 use Rattle.requests.specs.Devices.{capacity, setupOf}
 use Rattle.plans.specs.declared.Place.the-variants.{Counter}
 use Rattle.layouts.specs.Writes.{filled}
-use Rattle.sessions.specs.Turns.{taken, turned, placesOf, assign, writesOf}
-use Rattle.sessions.specs.Calls.{Call, Open, Add, Drop, Turn, Plain, notOpen, opened}
+use Rattle.sessions.specs.Turns.{taken, turned, placesOf, assign, writesOf, listsOf, joined, endsFrom}
+use Rattle.sessions.specs.Calls.{Call, Open, Add, Drop, Turn, Turns, Plain, notOpen, opened}
 use Rattle.sessions.specs.Table.{refusal}
 use Rattle.sessions.specs.Plain.{removed, unlessRefused, run}
 use Rattle.sessions.specs.declared.Session.{Session}
@@ -102,6 +102,25 @@ turnSlice s slice = unlessRefused (refusedBy s (Turn (length slice))) slice (fil
 unfoldable pub planOf : TurnAnswered → List Assigned
 planOf a = take (a .taken) (a .plan)
 
+-- ---- n turns at once, given the lengths of the slices for their lists and for the ends
+
+-- the session after n turns
+unfoldable pub turnedSession : ℕ → Session → Session
+turnedSession zero s = s
+turnedSession (suc n) s = turnedSession n (sessionOf (s .setup) (turned (s .setup) (queued s)))
+
+-- "Lists and session are those of n single turns, all completed; no plans are returned"
+unfoldable pub turnsAnswer : Session → ℕ → ℕ → ℕ → Answered
+turnsAnswer s n room places = answered (refusedBy s (Turns n room places)) s (turnedSession n s)
+
+-- what the slice of the lists holds afterwards: "what lies past the last list and end stays"
+unfoldable pub turnsSlice : Session → ℕ → List ℕ → ℕ → List ℕ
+turnsSlice s n slice places = unlessRefused (refusedBy s (Turns n (length slice) places)) slice (filled (joined (listsOf (s .setup) n (queued s))) slice)
+
+-- what the slice of the ends holds afterwards
+unfoldable pub turnsEnds : Session → ℕ → ℕ → List ℕ → List ℕ
+turnsEnds s n room ends = unlessRefused (refusedBy s (Turns n room (length ends))) ends (endsFrom 0 (listsOf (s .setup) n (queued s)) ++ drop n ends)
+
 -- ---- a list of calls, each given the session that the last one left
 
 -- the answer to a call
@@ -110,6 +129,7 @@ answerTo s (Open o) = openOf s o .answer
 answerTo s (Add id r) = addOf s id r .answer
 answerTo s (Drop id) = dropOf s id .answer
 answerTo s (Turn room) = turnOf s room .answer
+answerTo s (Turns n room places) = turnsAnswer s n room places .answer
 
 -- the session that it leaves
 unfoldable pub nextSession : Session → Call → Session
@@ -117,6 +137,7 @@ nextSession s (Open o) = openOf s o .session
 nextSession s (Add id r) = addOf s id r .session
 nextSession s (Drop id) = dropOf s id .session
 nextSession s (Turn room) = turnOf s room .session
+nextSession s (Turns n room places) = turnsAnswer s n room places .session
 
 -- the session that a list of calls leaves
 unfoldable pub sessionAfter : Session → List Call → Session

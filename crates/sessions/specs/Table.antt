@@ -10,13 +10,13 @@ use Rattle.requests.specs.declared.Setup.{Setup}
 use Rattle.requests.specs.declared.Request.{Request}
 use Rattle.requests.specs.declared.Entry.{Entry}
 use Rattle.requests.specs.declared.Refusal.{Refusal}
-use Rattle.requests.specs.declared.Refusal.the-variants.{CallOrder, BadOpening, BadId, IdWaiting, IdNotWaiting, NoPlanAlone, QueueFull, SliceTooShort}
+use Rattle.requests.specs.declared.Refusal.the-variants.{CallOrder, BadOpening, BadId, IdWaiting, IdNotWaiting, OutOfRange, NoPlanAlone, QueueFull, SliceTooShort}
 use Rattle.requests.specs.Choice.{either, isSome, Row, firstHolding}
 use Rattle.requests.specs.Devices.{setupOf}
 use Rattle.requests.specs.Checks.{requestRows}
 use Rattle.plans.specs.Search.{hasPlan}
-use Rattle.sessions.specs.Turns.{taken, writesOf}
-use Rattle.sessions.specs.Calls.{Call, Open, Add, Drop, Turn, Plain, notOpen, opened, waits}
+use Rattle.sessions.specs.Turns.{taken, writesOf, listsOf, joined}
+use Rattle.sessions.specs.Calls.{Call, Open, Add, Drop, Turn, Turns, Plain, notOpen, opened, waits}
 
 -- ---- the rows of each call past 2, in the order in which they are checked
 
@@ -42,6 +42,15 @@ dropRows q id = (outsideIds id, BadId) ∷ (not (waits id q), IdNotWaiting) ∷ 
 unfoldable pub turnRows : Setup → List Entry → ℕ → List (Row Refusal)
 turnRows s q room = (ltb room (2 * length (writesOf s (taken s q))), SliceTooShort) ∷ []
 
+-- order 6: "n is 0 to 64"
+unfoldable pub turnsLimit : ℕ
+turnsLimit = 64
+
+-- 10: more turns at once than that; 14: "either slice is too short for all n"
+unfoldable pub turnsRows : Setup → List Entry → ℕ → ℕ → ℕ → List (Row Refusal)
+turnsRows s q n room places =
+    (ltb turnsLimit n, OutOfRange) ∷ (either (ltb room (2 * length (joined (listsOf s n q)))) (ltb places n), SliceTooShort) ∷ []
+
 -- ---- 2: a call before open, or a second open
 
 -- these rows before open, and 2 afterwards
@@ -56,12 +65,13 @@ onceOpen (opened s q) rows = rows s q
 
 -- ---- the table (1 is the text layer's)
 
--- open: 2, 3; add: 2, 4, 5, 7, 8, 10, 9, 11, 12, 13; drop: 2, 4, 6; turn: 2, 14
+-- open: 2, 3; add: 2, 4, 5, 7, 8, 10, 9, 11, 12, 13; drop: 2, 4, 6; turn: 2, 14; turns: 2, 10, 14
 unfoldable pub table : ℕ → Plain → Call → List (Row Refusal)
 table limit p (Open o) = beforeOpen p (openRows o)
 table limit p (Add id r) = onceOpen p (λ s q. addRows limit s q id r)
 table limit p (Drop id) = onceOpen p (λ s q. dropRows q id)
 table limit p (Turn room) = onceOpen p (λ s q. turnRows s q room)
+table limit p (Turns n room places) = onceOpen p (λ s q. turnsRows s q n room places)
 
 -- by which row a call is refused in a state; none is an accepted call
 unfoldable pub refusal : ℕ → Plain → Call → Option Refusal

@@ -6,7 +6,7 @@ use lib.ListN.{length}
 use Rattle.requests.specs.declared.Refusal.{Refusal}
 use Rattle.requests.specs.declared.Answer.the-variants.{Refused}
 use Rattle.sessions.specs.Calls.{Call}
-use Rattle.sessions.specs.Sessions.{answerTo, nextSession, turnOf, turnSlice, planOf}
+use Rattle.sessions.specs.Sessions.{answerTo, nextSession, turnOf, turnSlice, planOf, turnsAnswer, turnsSlice, turnsEnds}
 use Rattle.sessions.specs.declared.Session.{Session}
 
 pub record Unchanged : Type 0 where
@@ -15,3 +15,8 @@ pub record Unchanged : Type 0 where
   -- a refused turn answers no plan and no writes
   pub plan : (s : Session) (room : ℕ) (x : Refusal) → turnOf s room .answer ≡ Refused x → planOf (turnOf s room) ≡ []
   pub writes : (s : Session) (room : ℕ) (x : Refusal) → turnOf s room .answer ≡ Refused x → turnOf s room .writes ≡ 0
+  -- refused turns at once leave both slices
+  pub lists : (s : Session) (n : ℕ) (slice ends : List ℕ) (x : Refusal) → turnsAnswer s n (length slice) (length ends) .answer ≡ Refused x
+      → turnsSlice s n slice (length ends) ≡ slice
+  pub ends : (s : Session) (n : ℕ) (slice ends : List ℕ) (x : Refusal) → turnsAnswer s n (length slice) (length ends) .answer ≡ Refused x
+      → turnsEnds s n (length slice) ends ≡ ends
