@@ -4,3 +4,4 @@ pub mod Assigning
 pub mod Searching
 pub mod Selecting
 pub mod Turning
+pub mod TakingTurns

@@ -9,6 +9,7 @@ mod queue;
 mod requeue;
 mod select;
 pub mod turn;
+pub mod turns;
 
 // What a turn chooses: the number of the plan of the entries taken, how many they are, and how many entries are passed over.
 struct Chosen {

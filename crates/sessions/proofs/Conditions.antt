@@ -18,7 +18,7 @@ use Rattle.requests.specs.declared.Request.{Request}
 use Rattle.requests.specs.declared.Entry.{Entry}
 use Rattle.requests.specs.Choice.{either, isSome}
 use Rattle.requests.specs.Devices.{setupOf}
-use Rattle.requests.proofs.Tests.{either-parts, either-cases}
+use Rattle.requests.proofs.Tests.{either-true, either-parts, either-cases}
 use Rattle.plans.specs.declared.Place.{Place}
 use Rattle.plans.specs.Legal.{HasPlan}
 use Rattle.plans.specs.Order.{First}
@@ -140,10 +140,6 @@ turns-short-test s q n room places = (λ h. to (either-cases (ltb room needed) (
     to (inl h) = inl (listsOf s n q, lists-hold s n q, ltb-true room needed h)
     to (inr h) = inr (ltb-true places n h)
 
-    ends-short : (b : Bool) → ltb places n ≡ true → either b (ltb places n) ≡ true
-    ends-short true h = refl
-    ends-short false h = h
-
     from : ((lists : List (List Write)) × Lists s n q lists × (room < 2 * length (joined lists))) ⊎ (places < n) → either (ltb room needed) (ltb places n) ≡ true
     from (inl t) = ap (λ (b : Bool). either b (ltb places n)) (lt-ltb room needed (subst (λ (x : List (List Write)). room < 2 * length (joined x)) (lists-are (t .1)) (t .2)))
-    from (inr l) = ends-short (ltb room needed) (lt-ltb places n l)
+    from (inr l) = ap (either (ltb room needed)) (lt-ltb places n l) ∙ either-true (ltb room needed)
