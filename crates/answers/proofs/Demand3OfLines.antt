@@ -14,6 +14,7 @@ use Rattle.requests.specs.declared.Entry.{Entry}
 use Rattle.requests.specs.declared.Refusal.{Refusal}
 use Rattle.requests.specs.declared.Answer.the-variants.{Accepted, Refused}
 use Rattle.requests.specs.Refusals.{answerFor}
+use Rattle.plans.specs.Lists.{All, nil, cons}
 use Rattle.plans.specs.Places.{countersOf}
 use Rattle.plans.specs.Legal.{counters}
 use Rattle.layouts.specs.Writes.{writes}
@@ -24,7 +25,7 @@ use Rattle.sessions.specs.Calls as calls
 use Rattle.sessions.specs.Table.{refusal}
 use Rattle.sessions.specs.Plain.{turnsAsked, unlessRefused, step, run, completes, completed}
 use Rattle.sessions.specs.Sessions.{queueLimit, plainOf, refusedBy, turnOf, planOf, answerTo, nextSession, sessionAfter, queueAfter}
-use Rattle.sessions.specs.Completed.{smallSession, CompletedTurn, turnIf, turnsBy, turnsOf}
+use Rattle.sessions.specs.Completed.{smallSession, CompletedTurn, turnsIf, turnsBy, turnsOf}
 use Rattle.sessions.specs.Sound.{Sound}
 use Rattle.sessions.specs.DistinctIds.{Distinct}
 use Rattle.sessions.specs.Demand3.{InOneOf, Dropped}
@@ -42,20 +43,20 @@ use Rattle.answers.specs.Reader.{Said, Answers}
 use Rattle.answers.specs.LinesAreCalls.{callOf, takesOf, setsOf}
 use Rattle.answers.specs.LineLists.{callsBy}
 use Rattle.answers.specs.Demand3OfLines.{DroppedBy, TakenBy, Demand3OfLines}
-use Rattle.answers.proofs.LineLists.{LineOf, line-of, calls-append, run-append}
+use Rattle.answers.proofs.LineLists.{LineOf, line-of, calls-append, run-append, CallFits, calls-fit}
 use Rattle.answers.proofs.LinesSay.{lines-say}
 use Rattle.answers.proofs.GivenTo.{given-append, given-end, Placed, placed}
 
 -- ---- a completed turn in its place among the calls
 
--- what one call completes: no turn, or one, of an open queue
+-- what one call of a line completes: no turn, or one, of an open queue
 data Completing (p : Plain) (s : Session) (c : Call) : Type 0 where
   nothing : turnsBy smallSession p s c ≡ [] → completes queueLimit p c ≡ 0 → Completing p s c
   one : (room : ℕ) (t : CompletedTurn) → c ≡ calls.Turn room → p ≡ opened (t .setup) (t .queue) → turnsBy smallSession p s c ≡ t ∷ [] → completes queueLimit p c ≡ 1
       → Completing p s c
 
 completing-turn : (x : Setup) (q : List Entry) (s : Session) (room : ℕ) → plainOf s ≡ opened x q → Completing (opened x q) s (calls.Turn room)
-unfolding turnsBy completes turnsAsked turnIf answerTo refusedBy answerFor
+unfolding turnsBy completes turnsAsked turnsIf answerTo refusedBy answerFor
 completing-turn x q s room same = go (refusal queueLimit (opened x q) (calls.Turn room)) refl
   where
     go : (y : Option Refusal) → refusal queueLimit (opened x q) (calls.Turn room) ≡ y → Completing (opened x q) s (calls.Turn room)
@@ -71,13 +72,14 @@ no-turns : (x : Option Refusal) → _≡_ {A = ℕ} (unlessRefused x 0 0) 0
 no-turns none = refl
 no-turns (some x) = refl
 
-completing : (p : Plain) (s : Session) (c : Call) → plainOf s ≡ p → Completing p s c
+completing : (p : Plain) (s : Session) (c : Call) → CallFits c → plainOf s ≡ p → Completing p s c
 unfolding turnsBy completes turnsAsked
-completing p s (calls.Open o) same = nothing refl (no-turns (refusal queueLimit p (calls.Open o)))
-completing p s (calls.Add id r) same = nothing refl (no-turns (refusal queueLimit p (calls.Add id r)))
-completing p s (calls.Drop id) same = nothing refl (no-turns (refusal queueLimit p (calls.Drop id)))
-completing notOpen s (calls.Turn room) same = nothing refl (rw (turn-closed queueLimit room))
-completing (opened x q) s (calls.Turn room) same = completing-turn x q s room same
+completing p s (calls.Open o) f same = nothing refl (no-turns (refusal queueLimit p (calls.Open o)))
+completing p s (calls.Add id r) f same = nothing refl (no-turns (refusal queueLimit p (calls.Add id r)))
+completing p s (calls.Drop id) f same = nothing refl (no-turns (refusal queueLimit p (calls.Drop id)))
+completing notOpen s (calls.Turn room) f same = nothing refl (rw (turn-closed queueLimit room))
+completing (opened x q) s (calls.Turn room) f same = completing-turn x q s room same
+completing p s (calls.Turns n room places) f same = absurd f
 
 -- the turn t among calls, after at most n others, where the plain queue has its setup and its queue
 record Found (p : Plain) (cs : List Call) (n : ℕ) (t : CompletedTurn) : Type 0 where
@@ -101,11 +103,11 @@ found-later p c cs n m t more f =
       there = f .there;
     }
 
-turn-found : (cs : List Call) (p : Plain) (s : Session) → plainOf s ≡ p → (n : ℕ) (t : CompletedTurn) → List·Memᴰ t (take (suc n) (turnsOf smallSession queueLimit p s cs)) → Found p cs n t
+turn-found : (cs : List Call) → All CallFits cs → (p : Plain) (s : Session) → plainOf s ≡ p → (n : ℕ) (t : CompletedTurn) → List·Memᴰ t (take (suc n) (turnsOf smallSession queueLimit p s cs)) → Found p cs n t
 unfolding turnsOf completed run
-turn-found [] p s same n t m = absurd (List·Memᴰ·not-nil m)
-turn-found (c ∷ cs) p s same n t m =
-    go (completing p s c same) m (turn-found cs (step queueLimit p c) (nextSession s c) (next-is s c ∙ ap (λ (x : Plain). step queueLimit x c) same))
+turn-found [] nil p s same n t m = absurd (List·Memᴰ·not-nil m)
+turn-found (c ∷ cs) (cons f fs) p s same n t m =
+    go (completing p s c f same) m (turn-found cs fs (step queueLimit p c) (nextSession s c) (next-is s c ∙ ap (λ (x : Plain). step queueLimit x c) same))
   where
     rest : List CompletedTurn
     rest = turnsOf smallSession queueLimit (step queueLimit p c) (nextSession s c) cs
@@ -176,7 +178,7 @@ module _ (start : Session) (closed : start .opened ≡ false) (before after : Li
   unfolding from counters sessionAfter
   taken-by o =
       let t : CompletedTurn = o .turn in
-      let f : Found from (callsBy after) p t = turn-found (callsBy after) from (sessionAfter start (callsBy before)) (agreement start closed .stands (callsBy before)) p t (o .member) in
+      let f : Found from (callsBy after) p t = turn-found (callsBy after) (calls-fit after) from (sessionAfter start (callsBy before)) (agreement start closed .stands (callsBy before)) p t (o .member) in
       let l : LineOf after (f .since) (calls.Turn (f .room)) = line-of after (f .since) (calls.Turn (f .room)) (f .rest) (f .split) in
       let is : l .asked ≡ Turn = turn-only (l .asked) (f .room) (l .is) in
       let there : queueAfter (callsBy (before ++ l .since)) ≡ opened (t .setup) (t .queue) = queue-since (l .since) (f .since) (l .made) ∙ f .there in

@@ -2,6 +2,7 @@
 --     session-by, stands-after   lines leave the session that their calls leave, which stands for the plain queue of these
 --     calls-append, run-append   two lists one after the other
 --     calls-split      a call among those of lines, and its line
+--     calls-fit        their calls are ones that lines make
 --     askable-after    each request that lines leave waiting is one that a line can add
 use mathlib.Core.Path.{_≡_, refl, ap, sym, _∙_}
 use mathlib.Core.Bool.{false}
@@ -112,12 +113,13 @@ line-of (line ∷ lines) before c after e = go (parseLine line) refl before e (l
 
 -- ---- requests that lines can add
 
--- the numbers of an add fit their fields
-abbrev CallFits : Call → Type 0
+-- a call that a line makes: the numbers of an add fit their fields, and turns at once have no line
+abbrev pub CallFits : Call → Type 0
 CallFits (calls.Open o) = Unit {0}
 CallFits (calls.Add id r) = AddFits id r
 CallFits (calls.Drop id) = Unit {0}
 CallFits (calls.Turn room) = Unit {0}
+CallFits (calls.Turns n room places) = ⊥
 
 call-fits : (r : Record) → Fits r → CallFits (callOf r)
 unfolding callOf
@@ -132,7 +134,7 @@ unfolding callsIn
 line-fits line (Line r) e = cons (call-fits r (grammar .only line r e .0)) nil
 line-fits line (Fault k) e = nil
 
-calls-fit : (lines : List (List ℕ)) → All CallFits (callsBy lines)
+pub calls-fit : (lines : List (List ℕ)) → All CallFits (callsBy lines)
 unfolding callsBy flatMap
 calls-fit [] = nil
 calls-fit (line ∷ lines) = all-append (line-fits line (parseLine line) refl) (calls-fit lines)
@@ -148,6 +150,7 @@ change-askable p (calls.Open o) f h = opened-askable p (setupOf o) h
 change-askable notOpen (calls.Add id r) f h = h
 change-askable notOpen (calls.Drop id) f h = h
 change-askable notOpen (calls.Turn room) f h = h
+change-askable p (calls.Turns n room places) f h = absurd f
 change-askable (opened s q) (calls.Add id r) f h = all-append h (cons f nil)
 change-askable (opened s q) (calls.Drop id) f h = all-removed id q h
 change-askable (opened s q) (calls.Turn room) f h = all-turned (fits s) [] q h
