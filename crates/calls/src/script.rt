@@ -9,6 +9,7 @@ use crate::output::text;
 use crate::reading::reading;
 use crate::session_calls::answered;
 use crate::session_calls::turned;
+use crate::session_calls::turned_at_once;
 use crate::words::Words;
 use crate::words::word;
 use crate::words::words_of;
@@ -58,12 +59,42 @@ fn turn_call(session: Session, length: u64) -> Session {
     turn_in(session, &mut list, length as usize)
 }
 
+// Turns at once with the first numbers of two lists.
+fn turns_in(
+    session: Session,
+    n: usize,
+    list: &mut [u64],
+    count: usize,
+    ends: &mut [u64],
+    places: usize,
+) -> Session
+    requires { ⌜ (count ≤ length (now list)) × (places ≤ length (now ends)) ⌝ }
+{
+    turned_at_once(session, n, &mut list[..count], &mut ends[..places])
+}
+
+fn turns_call(session: Session, at: [u64; 20]) -> Session {
+    if LONGEST_SLICE < at[2] || LONGEST_SLICE < at[3] {
+        return unknown(session);
+    }
+    let mut list = [KEPT; 8192];
+    let mut ends = [KEPT; 8192];
+    turns_in(
+        session,
+        at[1] as usize,
+        &mut list,
+        at[2] as usize,
+        &mut ends,
+        at[3] as usize,
+    )
+}
+
 fn read_call(session: Session, at: [u64; 20]) -> Session {
     reading(at);
     session
 }
 
-// The call of a line without further words, with a number, or with all that open or the reader takes.
+// The call of a line without further words, with one number or three, or with all that open or the reader takes.
 fn call(session: Session, line: &[u8], words: Words) -> Session {
     let verb = word(line, words, 0);
     let alone = numbers_in(line, words, b"v");
@@ -77,6 +108,11 @@ fn call(session: Session, line: &[u8], words: Words) -> Session {
     }
     if same(verb, b"turn") && one.fits {
         return turn_call(session, at[1]);
+    }
+    let three = numbers_in(line, words, b"vddd");
+    if same(verb, b"turns") && three.fits {
+        let given = three.at;
+        return turns_call(session, given);
     }
     let numbers = numbers_in(line, words, b"vlddd0-");
     if same(verb, b"open") && numbers.fits {

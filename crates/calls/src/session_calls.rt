@@ -4,6 +4,7 @@ use crate::answers::plan;
 use crate::answers::queue;
 use crate::output::slice;
 use planner::turn::turn;
+use planner::turns::turns;
 use sessions::Answered;
 use sessions::Session;
 
@@ -23,6 +24,18 @@ pub fn turned(session: Session, list: &mut [u64]) -> Session {
     let answer = done.answer;
     answer_line(answer);
     slice(b"list", list);
+    let next = done.session;
+    queue(next);
+    next
+}
+
+// Turns at once, with a slice for the lists and one for their ends.
+pub fn turned_at_once(session: Session, n: usize, list: &mut [u64], ends: &mut [u64]) -> Session {
+    let done = turns(session, n, list, ends);
+    let answer = done.answer;
+    answer_line(answer);
+    slice(b"list", list);
+    slice(b"ends", ends);
     let next = done.session;
     queue(next);
     next
