@@ -4,41 +4,11 @@
 mod planner;
 
 use planner::devices::{Filters, Opening, Setup};
+use planner::model::applied::{applied, register};
 use planner::model::plan::first_plan;
 use planner::model::reader::{read, Registers, State};
-use planner::model::writes::{list_of, Write};
+use planner::model::writes::list_of;
 use planner::requests::Request;
-use planner::PLACES;
-
-/// The registers after the writes, from registers with all bits set.
-fn applied(setup: Setup, writes: &[Write]) -> Registers {
-    let all = u64::MAX;
-    let control = [all; PLACES];
-    let mut r = Registers { control, rsp: [all; 2], mm_cfg: all, match_word: all, mask_word: all, global: all };
-    for (address, value) in writes {
-        if let Some(register) = register(setup, &mut r, *address) {
-            *register = *value;
-        }
-    }
-    r
-}
-
-/// The register at an address; nothing for a counter's, which the reader is not given.
-fn register(setup: Setup, r: &mut Registers, address: u64) -> Option<&mut u64> {
-    let at = setup.addresses();
-    match (0..setup.device.counters).find(|k| address == at.control + at.step * k) {
-        Some(k) => return Some(&mut r.control[k as usize]),
-        None if address == at.global => return Some(&mut r.global),
-        None => {}
-    }
-    match address {
-        0x1A6 | 0x1A7 => Some(&mut r.rsp[address as usize - 0x1A6]),
-        0xE48 => Some(&mut r.mm_cfg),
-        0xE49 => Some(&mut r.match_word),
-        0xE4A => Some(&mut r.mask_word),
-        _ => None,
-    }
-}
 
 fn print_state(k: usize, state: State) {
     match state {

@@ -20,6 +20,8 @@ pub const LIMIT: usize = 16;
 pub const PLACES: usize = 8;
 /// The numbers that are lent to a turn of a line: the room of 20 writes, the most there are.
 pub const LIST: usize = 40;
+/// The most turns at once (order 6).
+pub const SHIFT: u64 = 64;
 
 /// What a turn took, in the order taken, with the places that the plan gives, and the number of its writes.
 #[derive(Clone, Copy, PartialEq, Eq, Debug)]
@@ -30,12 +32,14 @@ pub struct Turn {
     pub writes: usize,
 }
 
-/// The four calls of a session. A refused call answers its number and changes nothing.
+/// The calls of a session. A refused call answers its number and changes nothing.
 pub trait Calls {
     fn new() -> Self;
     fn open(&mut self, opening: Opening) -> Result<(), u64>;
     fn add(&mut self, id: u64, request: Request) -> Result<(), u64>;
     fn drop(&mut self, id: u64) -> Result<(), u64>;
     fn turn(&mut self, list: &mut [u64]) -> Result<Turn, u64>;
+    /// So many turns at once (order 6): the lists one after another, and the places where they end.
+    fn turns(&mut self, count: u64, lists: &mut [u64], ends: &mut [u64]) -> Result<(), u64>;
     fn queue(&self) -> &[Entry];
 }

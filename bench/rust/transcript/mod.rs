@@ -1,7 +1,7 @@
 //! Whole transcripts: long mixed ones for measuring, and short valid, damaged and adversarial ones for comparing.
 #![allow(dead_code)]
 
-mod calls;
+pub mod calls;
 mod damage;
 
 use crate::answer::{answer, Output, LONGEST_ANSWER};
@@ -52,7 +52,7 @@ fn next_call(bench: &mut Bench, session: &Session, goal: usize) -> Vec<u8> {
 }
 
 /// A bench on this device, with any fixed enables and box that it has.
-fn bench_on(device: &'static Device, usable: u64, odd: u64, mut numbers: Numbers) -> Bench {
+pub fn bench_on(device: &'static Device, usable: u64, odd: u64, mut numbers: Numbers) -> Bench {
     let fixed = numbers.below(device.fixed + 1);
     let box_number = numbers.below(device.boxes.len() as u64);
     Bench { numbers, device, usable, fixed, box_number, ids: IDS, odd, tight: false }

@@ -15,6 +15,7 @@ pub trait Road {
 }
 
 /// What is left of counters and of filter words decides what is taken, and a turn searches once.
+#[derive(Clone)]
 pub struct Fastest;
 
 impl Road for Fastest {
@@ -44,6 +45,7 @@ impl Road for Fastest {
 
 /// The road of the proved planner: only where the sets of counters leave one is a plan looked for, with those taken. An event
 /// extends their plan where a counter is free beside it; otherwise it is searched for.
+#[derive(Clone)]
 pub struct Proved;
 
 /// The counters that a place uses.

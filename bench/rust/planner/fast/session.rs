@@ -4,9 +4,10 @@ use super::road::{Fastest, Proved, Road};
 use super::writes::write_list;
 use crate::planner::devices::{Opening, Setup};
 use crate::planner::requests::{refusal_of, Entry, Place, Request, VACANT};
-use crate::planner::{Calls, Turn, LIMIT, PLACES};
+use crate::planner::{Calls, Turn, LIMIT, LIST, PLACES, SHIFT};
 use std::marker::PhantomData;
 
+#[derive(Clone)]
 pub struct SessionOn<R> {
     setup: Option<Setup>,
     queue: [Entry; LIMIT],
@@ -95,5 +96,27 @@ impl<R: Road> Calls for SessionOn<R> {
         turn.writes = write_list(setup, taken, &turn.places, list).ok_or(14u64)?;
         self.requeue(at, taken);
         Ok(turn)
+    }
+
+    /// A copy makes the turns first, to tell how long their lists are; then each is written where the last one ended.
+    fn turns(&mut self, count: u64, lists: &mut [u64], ends: &mut [u64]) -> Result<(), u64> {
+        self.setup.ok_or(2u64)?;
+        if count > SHIFT {
+            return Err(10);
+        }
+        let mut copy = SessionOn::<R> { road: PhantomData, ..*self };
+        let mut needed = 0;
+        for _ in 0..count {
+            needed += 2 * copy.turn(&mut [0; LIST])?.writes;
+        }
+        if lists.len() < needed || ends.len() < count as usize {
+            return Err(14);
+        }
+        let mut end = 0;
+        for place in &mut ends[..count as usize] {
+            end += 2 * self.turn(&mut lists[end..])?.writes;
+            *place = end as u64;
+        }
+        Ok(())
     }
 }

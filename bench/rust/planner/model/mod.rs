@@ -1,6 +1,7 @@
 //! The slow clear model: the answers as document 01 words them, with lists on the heap and a search for every candidate.
 //! The stored outputs of the program crates come from it, and the fast planner is compared with it. It is never timed.
 
+pub mod applied;
 pub mod c_box;
 pub mod plan;
 pub mod reader;
@@ -8,7 +9,7 @@ pub mod writes;
 
 use super::devices::{Device, Opening, Setup};
 use super::requests::{self, event_refusal, Entry, Place, Request, VACANT};
-use super::{Calls, Turn, LIMIT, PLACES};
+use super::{Calls, Turn, LIMIT, LIST, PLACES, SHIFT};
 use plan::first_plan;
 
 #[derive(Clone)]
@@ -121,5 +122,27 @@ impl Calls for Session {
         }
         self.queue = [passed, taken.clone()].concat();
         Ok(turn_of(&taken, &plan, writes.len()))
+    }
+
+    /// The single turns are made by a copy of the session, each into a slice of its own; only then are both lengths judged.
+    fn turns(&mut self, count: u64, lists: &mut [u64], ends: &mut [u64]) -> Result<(), u64> {
+        self.setup.ok_or(2u64)?;
+        if count > SHIFT {
+            return Err(10);
+        }
+        let (mut after, mut written, mut places) = (self.clone(), Vec::new(), Vec::new());
+        for _ in 0..count {
+            let mut list = [0; LIST];
+            let turn = after.turn(&mut list)?;
+            written.extend_from_slice(&list[..2 * turn.writes]);
+            places.push(written.len() as u64);
+        }
+        if lists.len() < written.len() || ends.len() < places.len() {
+            return Err(14);
+        }
+        lists[..written.len()].copy_from_slice(&written);
+        ends[..places.len()].copy_from_slice(&places);
+        *self = after;
+        Ok(())
     }
 }
