@@ -1,5 +1,6 @@
 -- The tries of plans, by computation: every definition that they reach is unfolded. Assumes nothing.
 use mathlib.Core.Path.{refl}
+use Rattle.requests.specs.Askings.{unasked}
 use Rattle.requests.specs.Bits.{bit, anyResponse, outstanding, latencyWord}
 use Rattle.requests.specs.Choice.{both}
 use Rattle.requests.specs.Devices.{has, counterCount}
@@ -9,9 +10,9 @@ use Rattle.plans.specs.Reach.{setsWith, taking, takingOne, leftBy, leftF
 use Rattle.plans.specs.Search.{takeCounter, takeWord, takePacket, placeOf, admit, width, firstFrom, putFirst, thenRest, tryNumber, planIn, firstPlan}
 
 pub plan-tries : PlanTries
-unfolding bit anyResponse outstanding latencyWord both has counterCount countedOf planTries takenOf takeCounter takeWord takePacket placeOf admit width firstFrom putFirst thenRest tryNumber planIn firstPlan
+unfolding unasked bit anyResponse outstanding latencyWord both has counterCount countedOf planTries takenOf takeCounter takeWord takePacket placeOf admit width firstFrom putFirst thenRest tryNumber planIn firstPlan
 plan-tries = refl
 
 pub left-tries : LeftTries
-unfolding bit has counterCount leftTries setsWith taking takingOne leftBy leftFrom leftOf
+unfolding unasked bit has counterCount leftTries setsWith taking takingOne leftBy leftFrom leftOf
 left-tries = refl

@@ -29,7 +29,7 @@ ownSet d set = setOf (set .0 % 2 ^ counterCount d)
 
 -- the setup without the usable counters that the device does not have
 abbrev pub own : Setup → Setup
-own s = record { device = s .device; usable = ownSet (s .device) (s .usable); fixed = s .fixed }
+own s = record { device = s .device; usable = ownSet (s .device) (s .usable); fixed = s .fixed; overflow = s .overflow }
 
 -- the mask of all counters leaves the device's
 pub masked : (d : Device) (set all : CounterSet) → all ≡ record { 0 = allCounters d } → bitAnd (set .0) (all .0) ≡ ownSet d set .0

@@ -4,6 +4,7 @@ use mathlib.Core.Path.{_≡_}
 use mathlib.Core.List.{List, [], _∷_, map}
 use mathlib.Core.Option.{Option, none, some}
 use Prim.Native.Nat.{ℕ, _+_, _^_}
+use Rattle.requests.specs.Askings.{unasked}
 use Rattle.requests.specs.declared.CounterSet.{CounterSet}
 use Rattle.requests.specs.declared.Device.{Device}
 use Rattle.requests.specs.declared.Device.the-variants.{G, S, C}
@@ -31,7 +32,7 @@ set n = record { 0 = n }
 
 -- a row: the device, its usable set, the requests, what is expected
 abbrev row : Device → ℕ → List Request → Option Taken → Try
-row d usable rs plan = record { setup = record { device = d; usable = set usable; fixed = 0 }; requests = rs; plan = plan }
+row d usable rs plan = record { setup = record { device = d; usable = set usable; fixed = 0; overflow = unasked }; requests = rs; plan = plan }
 
 -- Instruction Retired with an allowed set
 abbrev instructions : ℕ → Request
@@ -145,7 +146,7 @@ pub record LeftTry : Type 0 where
 
 -- a row: the device, its usable set, the requests, what is expected
 abbrev leaves : Device → ℕ → List Request → ℕ → LeftTry
-leaves d usable rs sets = record { setup = record { device = d; usable = set usable; fixed = 0 }; requests = rs; sets = sets }
+leaves d usable rs sets = record { setup = record { device = d; usable = set usable; fixed = 0; overflow = unasked }; requests = rs; sets = sets }
 
 -- the table
 unfoldable pub leftTries : List LeftTry

@@ -1,5 +1,6 @@
 -- The examples hold: antt computes the number of each. Assumes nothing.
 use mathlib.Core.Path.{refl}
+use Rattle.requests.specs.Askings.{unasked}
 use Rattle.requests.specs.Bits.{bit, inList, anyBit, onlyBits, typeBits, anyResponse, answerBits, outstanding, rsp1Bits, rsp0Bits, rising, field, matchBits, maskBits}
 use Rattle.requests.specs.CBoxEvents.{sinkMasks, ringMasks, starvedMasks, bypassMasks, cboxEvents}
 use Rattle.requests.specs.Catalogue.{eventsOf, codeIn, pairIn, maskNotListed}
@@ -11,5 +12,5 @@ use Rattle.requests.specs.MaskRules.{allows}
 use Rattle.requests.specs.Refusals.{numberOf, answerFor, answerNumber}
 
 pub examples-hold : Examples
-unfolding bit inList anyBit onlyBits typeBits anyResponse answerBits outstanding rsp1Bits rsp0Bits rising field matchBits maskBits sinkMasks ringMasks starvedMasks bypassMasks cboxEvents eventsOf codeIn pairIn maskNotListed kindNotOn notListed tooWide outOfRange incomplete conflicting requestRows requestRefusal both either every firstHolding counterCount allCounters packetsOn offcoreOn pairsJudged examples numberFor allows numberOf answerFor answerNumber
+unfolding unasked bit inList anyBit onlyBits typeBits anyResponse answerBits outstanding rsp1Bits rsp0Bits rising field matchBits maskBits sinkMasks ringMasks starvedMasks bypassMasks cboxEvents eventsOf codeIn pairIn maskNotListed kindNotOn notListed tooWide outOfRange incomplete conflicting requestRows requestRefusal both either every firstHolding counterCount allCounters packetsOn offcoreOn pairsJudged examples numberFor allows numberOf answerFor answerNumber
 examples-hold = refl

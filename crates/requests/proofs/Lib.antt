@@ -3,6 +3,8 @@ pub mod Words
 pub mod BitLists
 pub mod MaskTests
 pub mod DeviceNumbers
+pub mod AnswerTests
+pub mod AskingTests
 pub mod Openings
 pub mod OpeningsTaken
 pub mod RuleNumbers

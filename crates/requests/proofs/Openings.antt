@@ -9,9 +9,9 @@ use native.Mathlib.Omega.{arith}
 use lib.Dec.{eqb, ltb}
 use lib.ListN.{length, getD, drop, drop-of-length-le}
 use lib.Seq.{drop-cons}
-use borrow.Author.Tests.{eqb-true, eq-eqb, ne-eqb, ltb-true}
-use Rattle.requests.specs.Choice.{pick}
-use Rattle.requests.specs.Devices.{counterCount, letterOf, boxCount, boxOf, devices, named, deviceOf, opens, setupOn, setupOf, openingOf, openedAs}
+use borrow.Author.Tests.{eqb-true, eq-eqb, ne-eqb, ltb-true, not-false}
+use Rattle.requests.specs.Choice.{firstHolding}
+use Rattle.requests.specs.Devices.{counterCount, letterOf, boxCount, boxOf, devices, named, deviceOf, opens, rowsWhere, openingRows, onDevice, openingTable, setupOn, openedOn, openedBy, openedSetup, setupOf, openingOf}
 use Rattle.requests.specs.declared.Device.{Device}
 use Rattle.requests.specs.declared.Device.the-variants.{G, S, C}
 use Rattle.requests.specs.declared.Opening.{Opening}
@@ -21,6 +21,7 @@ use Rattle.requests.specs.declared.Opened.the-variants.{With, Refused}
 use Rattle.requests.specs.declared.Refusal.{Refusal}
 use Rattle.requests.specs.declared.Refusal.the-variants.{BadOpening}
 use Rattle.requests.proofs.Tests.{both-parts}
+use Rattle.requests.proofs.FirstHolding.{passed}
 use Rattle.requests.proofs.DeviceNumbers.{numbers}
 
 -- a set of the device's counters fits 64 bits
@@ -50,45 +51,59 @@ pub no-letter : (ds : List Device) (i n : ℕ) → length ds ≤ i → named (dr
 unfolding named
 no-letter ds i n l = rw (drop-of-length-le ds l, named)
 
--- the setup of a device with what is given beside its letter
-abbrev pub setupWhere : Device → Opening → Bool → Option Setup
-setupWhere d o b = pick {A = Option Setup} b (some (setupOn d o)) none
-
-pub setup-on : (o : Opening) (d : Device) → deviceOf (o .device) (o .cbox) ≡ some d → setupOf o ≡ setupWhere d o (opens d o)
-unfolding setupOf
-setup-on o d e = rw (e, setupOf) (go (opens d o))
-  where
-    go : (b : Bool) → elim b [ true ↦ some (setupOn d o) | false ↦ none ] ≡ setupWhere d o b
-    go true = refl
-    go false = refl
-
 -- what an opening with a device's letter opens
-pub opened-on : (o : Opening) (d : Device) → deviceOf (o .device) (o .cbox) ≡ some d → openedAs (setupOf o) ≡ pick (opens d o) (With (setupOn d o)) (Refused BadOpening)
-unfolding openedAs
-opened-on o d e = ap openedAs (setup-on o d e) ∙ go (opens d o)
-  where
-    go : (b : Bool) → openedAs (setupWhere d o b) ≡ pick b (With (setupOn d o)) (Refused BadOpening)
-    go true = refl
-    go false = refl
+pub opened-on : (o : Opening) (d : Device) → deviceOf (o .device) (o .cbox) ≡ some d → openedBy o ≡ openedOn d o (firstHolding (openingRows d o))
+unfolding openedBy
+opened-on o d e = rw (e, openedBy)
 
 -- what an opening with another letter opens
-pub opened-refused : (o : Opening) → deviceOf (o .device) (o .cbox) ≡ none → openedAs (setupOf o) ≡ Refused BadOpening
-unfolding setupOf openedAs
-opened-refused o e =
-    let refused : setupOf o ≡ none = rw (e, setupOf) in
-    ap openedAs refused
+pub opened-refused : (o : Opening) → deviceOf (o .device) (o .cbox) ≡ none → openedBy o ≡ Refused BadOpening
+unfolding openedBy
+opened-refused o e = rw (e, openedBy)
 
 -- the setup of what was opened
-pub opened-some : (x : Option Setup) (s : Setup) → openedAs x ≡ With s → x ≡ some s
-unfolding openedAs
-opened-some none s e = let z : _≡_ {A = ℕ} 0 1 = cc in absurd (omega arith)
-opened-some (some t) s e = cc
+pub opened-some : (o : Opening) (s : Setup) → openedBy o ≡ With s → setupOf o ≡ some s
+unfolding setupOf openedSetup
+opened-some o s e = ap openedSetup e
 
--- where there is none, the refusal is 3
-pub opened-none : (x : Option Setup) (y : Refusal) → openedAs x ≡ Refused y → (x ≡ none) × (BadOpening ≡ y)
-unfolding openedAs
-opened-none none y e = (refl, cc)
-opened-none (some t) y e = let z : _≡_ {A = ℕ} 0 1 = cc in absurd (omega arith)
+-- what is opened and the table of refusals agree
+abbrev Agree : Opened → Option Refusal → Type 0
+Agree (With s) x = x ≡ none
+Agree (Refused y) x = x ≡ some y
+
+opened-table : (o : Opening) → Agree (openedBy o) (firstHolding (openingTable o))
+unfolding openedBy openedOn onDevice openingTable rowsWhere openingRows firstHolding
+opened-table o = go (deviceOf (o .device) (o .cbox)) refl
+  where
+    on : (d : Device) (x : Option Refusal) → Agree (openedOn d o x) x
+    on d none = refl
+    on d (some x) = refl
+
+    go : (x : Option Device) → deviceOf (o .device) (o .cbox) ≡ x → Agree (openedBy o) (firstHolding (openingTable o))
+    go none h = rw (h, openedBy, onDevice) refl
+    go (some d) h = rw (h, openedBy, onDevice) (on d (firstHolding (openingRows d o)))
+
+-- where nothing is opened, the table has the refusal
+pub opened-none : (o : Opening) (x : Refusal) → openedBy o ≡ Refused x → (setupOf o ≡ none) × (firstHolding (openingTable o) ≡ some x)
+unfolding setupOf openedSetup
+opened-none o x e = (ap openedSetup e, subst (λ (y : Opened). Agree y (firstHolding (openingTable o))) e (opened-table o))
+
+-- an opening is taken exactly where no row of the table refuses it
+pub taken-table : (o : Opening) (s : Setup) → setupOf o ≡ some s → firstHolding (openingTable o) ≡ none
+unfolding setupOf openedSetup
+taken-table o s e = go (openedBy o) (opened-table o) e
+  where
+    go : (y : Opened) → Agree y (firstHolding (openingTable o)) → openedSetup y ≡ some s → firstHolding (openingTable o) ≡ none
+    go (With t) a k = a
+    go (Refused x) a k = absurd (Option·none-ne-some s k)
+
+pub table-taken : (o : Opening) → firstHolding (openingTable o) ≡ none → (s : Setup) × (setupOf o ≡ some s)
+unfolding setupOf openedSetup
+table-taken o e = go (openedBy o) (opened-table o)
+  where
+    go : (y : Opened) → Agree y (firstHolding (openingTable o)) → (s : Setup) × (openedSetup y ≡ some s)
+    go (With t) a = (t, refl)
+    go (Refused x) a = absurd (Option·none-ne-some x (sym e ∙ a))
 
 -- the letter that names a device is its own
 pub letter-is : (letter box : ℕ) (d : Device) → deviceOf letter box ≡ some d → letterOf d ≡ letter
@@ -120,27 +135,30 @@ box-is letter box d e h = go (eqb letter (letterOf G)) refl (eqb letter (letterO
     go false f false g true k = ap boxOf (sym (Option·some-injective (C box) d (rw (f, g, k, named) at e)))
     go false f false g false k = absurd (Option·none-ne-some d (rw (f, g, k, named) at e))
 
--- an opening that is taken: its letter names the device, which opens with the rest
-pub taken-parts : (o : Opening) (s : Setup) → setupOf o ≡ some s → (letterOf (s .device) ≡ o .device) × (opens (s .device) o ≡ true) × (setupOn (s .device) o ≡ s) × (boxOf (s .device) ≡ o .cbox)
-unfolding setupOf setupOn opens
+-- an opening that is taken: its letter names the device, which refuses it by no row
+pub taken-parts : (o : Opening) (s : Setup) → setupOf o ≡ some s
+    → (letterOf (s .device) ≡ o .device) × (firstHolding (openingRows (s .device) o) ≡ none) × (setupOn (s .device) o ≡ s) × (boxOf (s .device) ≡ o .cbox)
+unfolding setupOf openedSetup openedBy openedOn rowsWhere openingRows opens setupOn
 taken-parts o s e = go (deviceOf (o .device) (o .cbox)) refl
   where
     Parts : Setup → Type 0
-    Parts t = (letterOf (t .device) ≡ o .device) × (opens (t .device) o ≡ true) × (setupOn (t .device) o ≡ t) × (boxOf (t .device) ≡ o .cbox)
+    Parts t = (letterOf (t .device) ≡ o .device) × (firstHolding (openingRows (t .device) o) ≡ none) × (setupOn (t .device) o ≡ t) × (boxOf (t .device) ≡ o .cbox)
 
-    opened : (d : Device) → deviceOf (o .device) (o .cbox) ≡ some d → (b : Bool) → opens d o ≡ b → Parts s
-    opened d h true k =
-        let is : setupOn d o ≡ s = Option·some-injective (setupOn d o) s (rw (h, k, setupOf) at e) in
-        subst Parts is (letter-is (o .device) (o .cbox) d h, k, refl, box-is (o .device) (o .cbox) d h (both-parts _ _ (both-parts _ _ k .1) .1))
-    opened d h false k = absurd (Option·none-ne-some s (rw (h, k, setupOf) at e))
+    opened : (d : Device) → deviceOf (o .device) (o .cbox) ≡ some d → (x : Option Refusal) → firstHolding (openingRows d o) ≡ x → Parts s
+    opened d h none k =
+        let is : setupOn d o ≡ s = Option·some-injective (setupOn d o) s (rw (h, k, setupOf, openedBy, openedOn) at e) in
+        let has : opens d o ≡ true = not-false _ (passed _ _ k .0) in
+        subst Parts is (letter-is (o .device) (o .cbox) d h, k, refl, box-is (o .device) (o .cbox) d h (both-parts _ _ (both-parts _ _ has .1) .1))
+    opened d h (some x) k = absurd (Option·none-ne-some s (rw (h, k, setupOf, openedBy, openedOn) at e))
 
     go : (x : Option Device) → deviceOf (o .device) (o .cbox) ≡ x → Parts s
-    go none h = absurd (Option·none-ne-some s (rw (h, setupOf) at e))
-    go (some d) h = opened d h (opens d o) refl
+    go none h = absurd (Option·none-ne-some s (rw (h, setupOf, openedBy) at e))
+    go (some d) h = opened d h (firstHolding (openingRows d o)) refl
 
 -- the setup of an opening is what it was given, as it was given
 pub opening-is : (o : Opening) (s : Setup) → setupOf o ≡ some s → openingOf s ≡ o
 unfolding setupOn openingOf
 opening-is o s e =
     let parts = taken-parts o s e in
-    ap openingOf (sym (parts .2)) ∙ ap₂ (λ (n box : ℕ). record { device = n; usable = o .usable; fixed = o .fixed; cbox = box }) (parts .0) (parts .3)
+    ap openingOf (sym (parts .2))
+    ∙ ap₂ (λ (n box : ℕ). record { device = n; usable = o .usable; fixed = o .fixed; cbox = box; overflow = o .overflow }) (parts .0) (parts .3)

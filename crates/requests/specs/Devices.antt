@@ -1,11 +1,12 @@
 -- Document 01, 'What is on the bench' and 'open': devices, their counters, and what open takes.
-use mathlib.Core.Bool.{Bool, true, false}
+use mathlib.Core.Bool.{Bool, true, false, not}
 use mathlib.Core.List.{List, [], _∷_}
 use mathlib.Core.Option.{Option, none, some}
 use Prim.Native.Nat.{ℕ, zero, suc, _+_, _-_, _^_}
 use lib.Dec.{ltb, leb, eqb}
-use Rattle.requests.specs.Choice.{both, pick}
+use Rattle.requests.specs.Choice.{both, pick, Row, firstHolding}
 use Rattle.requests.specs.Bits.{bit}
+use Rattle.requests.specs.Askings.{overflowNotOn, overflowFits}
 use Rattle.requests.specs.declared.CounterSet.{CounterSet}
 use Rattle.requests.specs.declared.Device.{Device}
 use Rattle.requests.specs.declared.Device.the-variants.{G, S, C}
@@ -13,7 +14,8 @@ use Rattle.requests.specs.declared.Opening.{Opening}
 use Rattle.requests.specs.declared.Setup.{Setup}
 use Rattle.requests.specs.declared.Opened.{Opened}
 use Rattle.requests.specs.declared.Opened.the-variants.{With}
-use Rattle.requests.specs.declared.Refusal.the-variants.{BadOpening}
+use Rattle.requests.specs.declared.Refusal.{Refusal}
+use Rattle.requests.specs.declared.Refusal.the-variants.{BadOpening, KindNotOnDevice, OutOfRange}
 use Rattle.requests.specs.declared.Answer.{Answer}
 use Rattle.requests.specs.declared.Answer.the-variants.{Accepted, Refused}
 
@@ -103,30 +105,59 @@ pairsJudged (C b) = false
 unfoldable pub usableSet : Device → CounterSet → Bool
 usableSet d u = both (ltb 0 (u .0)) (leb (u .0) (allCounters d))
 
--- whether the device opens with what is given beside its letter
+-- whether the device has the counters, the fixed enables and the box that are given beside its letter
 unfoldable pub opens : Device → Opening → Bool
 opens d o = both (usableSet d (o .usable)) (both (leb (o .fixed) (allFixed d)) (ltb (o .cbox) (boxCount d)))
 
+-- the rows of an opening, by what holds of its device: 3; 7, something asked that the device does not do; 10, an asking out of range
+unfoldable pub rowsWhere : ((Device → Bool) → Bool) → Opening → List (Row Refusal)
+rowsWhere holds o =
+    (not (holds (λ d. opens d o)), BadOpening)
+    ∷ (holds (λ d. overflowNotOn d (o .overflow)), KindNotOnDevice)
+    ∷ (not (overflowFits (o .overflow)), OutOfRange)
+    ∷ []
+
+-- what a device answers to an opening
+unfoldable pub openingRows : Device → Opening → List (Row Refusal)
+openingRows d o = rowsWhere (λ test. test d) o
+
+-- whether there is a device of the letter and the test holds of it
+unfoldable pub onDevice : Opening → (Device → Bool) → Bool
+onDevice o test = elim (deviceOf (o .device) (o .cbox)) [ none ↦ false | some d ↦ test d ]
+
+-- the same of every opening: 3 also where no device has the letter
+unfoldable pub openingTable : Opening → List (Row Refusal)
+openingTable o = rowsWhere (onDevice o) o
+
 -- the device with what is given beside its letter
 unfoldable pub setupOn : Device → Opening → Setup
-setupOn d o = record { device = d; usable = o .usable; fixed = o .fixed }
+setupOn d o = record { device = d; usable = o .usable; fixed = o .fixed; overflow = o .overflow }
 
--- what open takes; none is refusal 3: a device unknown, a usable set 0 or above all counters, fixed enables or a box that the device has not
-unfoldable pub setupOf : Opening → Option Setup
-setupOf o =
+-- what an opening of the device opens, by the refusal or none
+unfoldable pub openedOn : Device → Opening → Option Refusal → Opened
+openedOn d o none = With (setupOn d o)
+openedOn d o (some x) = Opened.Refused x
+
+-- what an opening opens, or why none
+unfoldable pub openedBy : Opening → Opened
+openedBy o =
     elim (deviceOf (o .device) (o .cbox)) [
-      | none ↦ none
-      | some d ↦ elim (opens d o) [ true ↦ some (setupOn d o) | false ↦ none ]
+      | none ↦ Opened.Refused BadOpening
+      | some d ↦ openedOn d o (firstHolding (openingRows d o))
     ]
+
+-- the setup, where one is opened
+unfoldable pub openedSetup : Opened → Option Setup
+openedSetup (With s) = some s
+openedSetup (Opened.Refused x) = none
+
+-- what open takes; none is one of the refusals 3, 7 and 10
+unfoldable pub setupOf : Opening → Option Setup
+setupOf o = openedSetup (openedBy o)
 
 -- the opening that a setup is of: of an accepted open, what it was given, as it was given
 unfoldable pub openingOf : Setup → Opening
-openingOf s = record { device = letterOf (s .device); usable = s .usable; fixed = s .fixed; cbox = boxOf (s .device) }
-
--- what an opening opens, or 3
-unfoldable pub openedAs : Option Setup → Opened
-openedAs none = Opened.Refused BadOpening
-openedAs (some s) = With s
+openingOf s = record { device = letterOf (s .device); usable = s .usable; fixed = s .fixed; cbox = boxOf (s .device); overflow = s .overflow }
 
 -- how it is answered: `answerNumber` gives the number of each case
 unfoldable pub openedAnswer : Opened → Answer

@@ -4,6 +4,7 @@ use mathlib.Core.List.{List, [], _∷_, map}
 use mathlib.Core.Option.{Option, none, some}
 use Prim.Native.Nat.{ℕ}
 use Rattle.requests.specs.Refusals.{answerFor, answerNumber}
+use Rattle.requests.specs.Askings.{unasked}
 use Rattle.requests.specs.Checks.{requestRefusal}
 use Rattle.requests.specs.declared.CounterSet.{CounterSet}
 use Rattle.requests.specs.declared.Device.{Device}
@@ -143,7 +144,7 @@ examples =
 
 -- the number that refuses the request of an example
 unfoldable pub numberFor : Example → Option ℕ
-numberFor e = answerNumber (answerFor (requestRefusal (record { device = e .device; usable = all; fixed = 0 }) (e .request)))
+numberFor e = answerNumber (answerFor (requestRefusal (record { device = e .device; usable = all; fixed = 0; overflow = unasked }) (e .request)))
 
 -- each request is answered by its number
 abbrev pub Examples : Type 0

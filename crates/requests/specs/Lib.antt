@@ -1,6 +1,7 @@
 -- What the contracts and the statements speak of.
 pub mod Refusals
 pub mod Bits
+pub mod Askings
 pub mod Devices
 pub mod MaskRules
 pub mod CBoxEvents

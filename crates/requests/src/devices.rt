@@ -1,13 +1,17 @@
 // The devices, and what a session may be opened with.
+use crate::Answer;
 use crate::CounterSet;
 use crate::Device;
 use crate::Opened;
 use crate::Opening;
 use crate::Refusal;
 use crate::Setup;
+use crate::askings::overflow_fits;
+use crate::askings::overflow_not_on;
 ghost use mathlib.Core.Path.{_≡_};
-ghost use Rattle.requests.specs.Choice.{pick};
-ghost use Rattle.requests.specs.Devices.{counterCount, allCounters, fixedCount, allFixed, letterOf, boxCount, boxOf, devices, packetsOn, offcoreOn, pairsJudged, usableSet, opens, setupOn, setupOf, openingOf, openedAs};
+ghost use Rattle.requests.specs.Choice.{firstHolding};
+ghost use Rattle.requests.specs.Refusals.{answerFor};
+ghost use Rattle.requests.specs.Devices.{counterCount, allCounters, fixedCount, allFixed, letterOf, boxCount, boxOf, devices, packetsOn, offcoreOn, pairsJudged, usableSet, opens, openingRows, openedOn, openedBy, openingOf};
 
 // The number of counters that arrays have room for.
 pub const CAPACITY: usize = 8;
@@ -135,7 +139,7 @@ fn usable_set(d: Device, usable: CounterSet) -> bool
     false
 }
 
-// Whether the device opens with what is given beside its letter.
+// Whether the device has the counters, the fixed enables and the box that are given beside its letter.
 fn opens(d: Device, o: Opening) -> bool
     ensures { λ r. ⌜ r ≡ opens d o ⌝ }
 {
@@ -148,24 +152,46 @@ fn opens(d: Device, o: Opening) -> bool
     false
 }
 
-// What a device opens with what is given beside its letter.
-fn opened_on(d: Device, o: Opening) -> Opened
-    ensures { λ r. ⌜ r ≡ pick (opens d o) (Opened.With (setupOn d o)) (Opened.Refused Refusal.BadOpening) ⌝ }
+// How the device answers an opening.
+fn opening_answer(d: Device, o: Opening) -> Answer
+    ensures { λ r. ⌜ r ≡ answerFor (firstHolding (openingRows d o)) ⌝ }
 {
-    if opens(d, o) {
-        let usable = o.usable;
-        return Opened::With(Setup {
-            device: d,
-            usable: usable,
-            fixed: o.fixed,
-        });
+    if !opens(d, o) {
+        return Answer::Refused(Refusal::BadOpening);
     }
-    Opened::Refused(Refusal::BadOpening)
+    let overflow = o.overflow;
+    if overflow_not_on(d, overflow) {
+        return Answer::Refused(Refusal::KindNotOnDevice);
+    }
+    if !overflow_fits(overflow) {
+        return Answer::Refused(Refusal::OutOfRange);
+    }
+    Answer::Accepted
 }
 
-// What the opening opens, or refusal 3.
+// What a device opens with what is given beside its letter.
+fn opened_on(d: Device, o: Opening) -> Opened
+    ensures { λ r. ⌜ r ≡ openedOn d o (firstHolding (openingRows d o)) ⌝ }
+{
+    let answer = opening_answer(d, o);
+    match answer {
+        Answer::Accepted => {
+            let usable = o.usable;
+            let overflow = o.overflow;
+            Opened::With(Setup {
+                device: d,
+                usable: usable,
+                fixed: o.fixed,
+                overflow: overflow,
+            })
+        }
+        Answer::Refused(refusal) => Opened::Refused(refusal),
+    }
+}
+
+// What the opening opens, or why none.
 pub fn setup_of(o: Opening) -> Opened
-    ensures { λ r. ⌜ r ≡ openedAs (setupOf o) ⌝ }
+    ensures { λ r. ⌜ r ≡ openedBy o ⌝ }
 {
     let letter = o.device;
     let devices = devices(o.cbox);
@@ -186,10 +212,12 @@ pub fn opening_of(s: Setup) -> Opening
 {
     let device = s.device;
     let usable = s.usable;
+    let overflow = s.overflow;
     Opening {
         device: letter_of(device),
         usable: usable,
         fixed: s.fixed,
         cbox: box_of(device),
+        overflow: overflow,
     }
 }

@@ -1,4 +1,5 @@
 // What a request is, what a session is opened with, and how a call is answered.
+pub mod askings;
 pub mod bits;
 pub mod catalogue;
 mod cbox_events;
@@ -20,13 +21,26 @@ pub enum Device {
     C(u64),
 }
 
-// What open is given: the letter of a device, as a number, the usable counters, the enables of the fixed counters, and the number of
-// the C-Box, 0 on other devices.
+// The core that gets an interrupt, if any.
+pub enum Core {
+    NoCore,
+    At(u64),
+}
+
+// What the overflow of a counter does: with freeze 1 it stops all uncore counting, with a core it interrupts that core.
+pub struct Overflow {
+    pub freeze: u64,
+    pub core: Core,
+}
+
+// What open is given: the letter of a device, as a number, the usable counters, the enables of the fixed counters, the number of the
+// C-Box, 0 on other devices, and what an overflow does.
 pub struct Opening {
     pub device: u64,
     pub usable: CounterSet,
     pub fixed: u64,
     pub cbox: u64,
+    pub overflow: Overflow,
 }
 
 // What a session is opened with, its device known by its letter. A session keeps that of its accepted open.
@@ -34,6 +48,7 @@ pub struct Setup {
     pub device: Device,
     pub usable: CounterSet,
     pub fixed: u64,
+    pub overflow: Overflow,
 }
 
 // What an opening opens: a session with a setup, or why none.
