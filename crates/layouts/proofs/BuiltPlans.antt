@@ -35,7 +35,7 @@ pub record Built (s : Setup) (a b : ℕ) (q : ℕ × ℕ) (f : ℕ → ℕ) : Ty
   pub rsp0 : All (λ (w : ℕ). w ≡ a) (ofAll (wordsOf 0) requests places)
   pub rsp1 : All (λ (w : ℕ). w ≡ b) (ofAll (wordsOf 1) requests places)
   pub packet : All (λ (p : ℕ × ℕ). p ≡ q) (flatMap packetsOf requests)
-  pub words : (k : ℕ) → wordAt (ofAll (usesOf (s .device)) requests places) k ≡ f k
+  pub words : (k : ℕ) → wordAt (ofAll (usesOf s) requests places) k ≡ f k
   pub only : All (λ (k : ℕ). f k ≡ 0 → ⊥) (counters places)
 
 -- f with the uses in front
@@ -70,11 +70,11 @@ module _ (s : Setup) (a b : ℕ) (q : ℕ × ℕ) where
   pub extend : (f : ℕ → ℕ) (r : Request) (p : Place) → Built s a b q f → Described s r → Allowed r p
       → All (Usable s) (countersOf p) → Pairwise _≢_ (countersOf p)
       → All (λ (w : ℕ). w ≡ a) (wordsOf 0 r p) → All (λ (w : ℕ). w ≡ b) (wordsOf 1 r p) → All (λ (x : ℕ × ℕ). x ≡ q) (packetsOf r)
-      → All (λ (k : ℕ). f k ≡ 0) (countersOf p) → All (λ (x : ℕ × ℕ). x .1 ≡ 0 → ⊥) (usesOf (s .device) r p)
-      → Built s a b q (put (usesOf (s .device) r p) f)
+      → All (λ (k : ℕ). f k ≡ 0) (countersOf p) → All (λ (x : ℕ × ℕ). x .1 ≡ 0 → ⊥) (usesOf s r p)
+      → Built s a b q (put (usesOf s r p) f)
   unfolding ofAll counters flatMap
   extend f r p built described allowed usable differ first second packet free some =
-      let us = usesOf (s .device) r p in
+      let us = usesOf s r p in
       record {
         requests = r ∷ built .requests;
         places = p ∷ built .places;
@@ -85,8 +85,8 @@ module _ (s : Setup) (a b : ℕ) (q : ℕ × ℕ) where
         rsp0 = all-append first (built .rsp0);
         rsp1 = all-append second (built .rsp1);
         packet = all-append packet (built .packet);
-        words = λ k. word-put us (ofAll (usesOf (s .device)) (built .requests) (built .places)) f k (built .words k);
-        only = all-append (subst (λ (l : List ℕ). All (λ (k : ℕ). put us f k ≡ 0 → ⊥) l) (use-counters (s .device) allowed) (put-counters f some))
+        words = λ k. word-put us (ofAll (usesOf s) (built .requests) (built .places)) f k (built .words k);
+        only = all-append (subst (λ (l : List ℕ). All (λ (k : ℕ). put us f k ≡ 0 → ⊥) l) (use-counters s allowed) (put-counters f some))
             (all-imp (λ k n. put-some f k some n) (built .only));
       }
 
@@ -114,7 +114,7 @@ pub record Item (s : Setup) (a b : ℕ) (q : ℕ × ℕ) (k w : ℕ) : Type 0 wh
   pub place : Place
   pub described : Described s request
   pub allowed : Allowed request place
-  pub one : usesOf (s .device) request place ≡ (k, w) ∷ []
+  pub one : usesOf s request place ≡ (k, w) ∷ []
   pub rsp0 : All (λ (x : ℕ). x ≡ a) (wordsOf 0 request place)
   pub rsp1 : All (λ (x : ℕ). x ≡ b) (wordsOf 1 request place)
   pub packet : All (λ (x : ℕ × ℕ). x ≡ q) (packetsOf request)
@@ -123,7 +123,7 @@ module _ (s : Setup) (a b : ℕ) (q : ℕ × ℕ) where
   add-item : (f : ℕ → ℕ) (k w : ℕ) → (w ≡ 0 → ⊥) → Usable s k → f k ≡ w → Item s a b q k w → Built s a b q (without k f) → Built s a b q f
   add-item f k w some usable e x built =
       let us : List (ℕ × ℕ) = (k, w) ∷ [] in
-      let counter : countersOf (x .place) ≡ k ∷ [] = sym (use-counters (s .device) (x .allowed)) ∙ ap (map counterOf) (x .one) in
+      let counter : countersOf (x .place) ≡ k ∷ [] = sym (use-counters s (x .allowed)) ∙ ap (map counterOf) (x .one) in
       subst (λ (g : ℕ → ℕ). Built s a b q g) (ap (λ (l : List (ℕ × ℕ)). put l (without k f)) (x .one) ∙ restore k w f e)
       (extend s a b q (without k f) (x .request) (x .place) built (x .described) (x .allowed)
       (rw counter (cons usable nil))

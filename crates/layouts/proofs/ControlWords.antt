@@ -1,9 +1,9 @@
 -- The control words of plans: an event's, an RSP register's, the match/mask register's. Assumes nothing.
 --     listed         codes and masks of listed events are below 256, and no code is that of a filter event
 --     ControlWord    the control words that a plan may have
---     word-parts, word-some, word-clean   such a word gives its code and mask back, is not 0, and has no reserved bit
+--     word-parts, word-some, word-high, word-clean   such a word gives its code and mask back, is not 0, has the enable bits, and no reserved bit
 --     plan-words     the words of a plan of well-formed requests are such words
-use mathlib.Core.Path.{_≡_, refl, sym, _∙_}
+use mathlib.Core.Path.{_≡_, refl, sym, ap, _∙_}
 use mathlib.Core.Logic.{inr}
 use mathlib.Core.Bool.{Bool, true, false}
 use mathlib.Core.List.{List, [], _∷_}
@@ -29,6 +29,7 @@ use Rattle.layouts.specs.Layout.{controlBits, enabled, eventWord, codeOf
 use Rattle.layouts.specs.Settings.{usesOf, wordAt}
 use Rattle.layouts.proofs.ListedEvents.{Listed, row-listed}
 use Rattle.layouts.proofs.DeviceFacts.{filterCode, facts}
+use Rattle.layouts.proofs.EnableBits.{enables}
 use Rattle.layouts.proofs.WordBits.{bit-high, bits-only, only-cases}
 
 -- ---- listed events
@@ -40,35 +41,35 @@ listed d c m h = row-listed (filterCode d) c m (eventsOf d) (facts d .events) h
 
 -- the word of a listed event, of a counter on an RSP register, or of a counter of packets
 pub data ControlWord (s : Setup) (w : ℕ) : Type 0 where
-  listed-event : (c m : ℕ) → pairIn (eventsOf (s .device)) c m ≡ true → w ≡ eventWord (s .device) c m → ControlWord s w
-  rsp-event : (i : ℕ) → s .device ≡ G → i < 2 → w ≡ rspWord (s .device) i → ControlWord s w
-  packet-event : s .device ≡ S → w ≡ packetWord (s .device) → ControlWord s w
+  listed-event : (c m : ℕ) → pairIn (eventsOf (s .device)) c m ≡ true → w ≡ eventWord s c m → ControlWord s w
+  rsp-event : (i : ℕ) → s .device ≡ G → i < 2 → w ≡ rspWord s i → ControlWord s w
+  packet-event : s .device ≡ S → w ≡ packetWord s → ControlWord s w
 
 -- a word with a code and a mask of 8 bits each gives them back, and agrees with the enable bits above
-pub record WordParts (d : Device) (c m : ℕ) : Type 0 where
-  pub code : codeOf (eventWord d c m) ≡ c
-  pub mask : maskOf (eventWord d c m) ≡ m
-  pub above : eventWord d c m / 2 ^ 16 ≡ enabled d / 2 ^ 16
-  pub some-bit : eventWord d c m ≡ 0 → ⊥
-  pub fits : eventWord d c m < 2 ^ 64
+pub record WordParts (s : Setup) (c m : ℕ) : Type 0 where
+  pub code : codeOf (eventWord s c m) ≡ c
+  pub mask : maskOf (eventWord s c m) ≡ m
+  pub above : eventWord s c m / 2 ^ 16 ≡ enabled s / 2 ^ 16
+  pub some-bit : eventWord s c m ≡ 0 → ⊥
+  pub fits : eventWord s c m < 2 ^ 64
 
-pub word-parts : (d : Device) (c m : ℕ) → c < 256 → m < 256 → WordParts d c m
+pub word-parts : (s : Setup) (c m : ℕ) → c < 256 → m < 256 → WordParts s c m
 unfolding eventWord codeOf maskOf
-word-parts d c m l k =
-    let low = facts d .enabled-above in
-    let small = facts d .enabled-small in
-    let some = facts d .enabled-some in
+word-parts s c m l k =
+    let low = enables s .above in
+    let small = enables s .small in
+    let some = enables s .some in
     record { code = omega arith; mask = omega arith; above = omega arith; some-bit = λ e. omega arith; fits = omega arith }
 
 -- a control word has a code and a mask of 8 bits each
-record CodeAndMask (d : Device) (w : ℕ) : Type 0 where
+record CodeAndMask (s : Setup) (w : ℕ) : Type 0 where
   pub code : ℕ
   pub mask : ℕ
   pub code-below : code < 256
   pub mask-below : mask < 256
-  pub word : w ≡ eventWord d code mask
+  pub word : w ≡ eventWord s code mask
 
-word-code-mask : (s : Setup) (w : ℕ) → ControlWord s w → CodeAndMask (s .device) w
+word-code-mask : (s : Setup) (w : ℕ) → ControlWord s w → CodeAndMask s w
 unfolding rspWord packetWord offcoreCode rspMask
 word-code-mask s w (listed-event c m h e) =
     let l = listed (s .device) c m h in
@@ -83,24 +84,30 @@ word-code-mask s w (packet-event g e) = record { code = 0; mask = 0; code-below 
 pub word-some : (s : Setup) (w : ℕ) → ControlWord s w → w ≡ 0 → ⊥
 word-some s w h e =
     let v = word-code-mask s w h in
-    word-parts (s .device) (v .code) (v .mask) (v .code-below) (v .mask-below) .some-bit (sym (v .word) ∙ e)
+    word-parts s (v .code) (v .mask) (v .code-below) (v .mask-below) .some-bit (sym (v .word) ∙ e)
+
+-- from bit 16 on it has the session's enable bits
+pub word-high : (s : Setup) (w : ℕ) → ControlWord s w → w / 2 ^ 16 ≡ enabled s / 2 ^ 16
+word-high s w h =
+    let v = word-code-mask s w h in
+    ap (λ (x : ℕ). x / 2 ^ 16) (v .word) ∙ word-parts s (v .code) (v .mask) (v .code-below) (v .mask-below) .above
 
 -- code and mask are below the enable bits, and every bit of them is permitted
 pub word-clean : (s : Setup) (w : ℕ) → ControlWord s w → onlyBits (controlBits (s .device)) w ≡ true
 word-clean s w h =
     let d = s .device in
     let v = word-code-mask s w h in
-    let p = word-parts (s .device) (v .code) (v .mask) (v .code-below) (v .mask-below) in
+    let p = word-parts s (v .code) (v .mask) (v .code-below) (v .mask-below) in
     rw (v .word)
-    (bits-only (controlBits d) (eventWord d (v .code) (v .mask)) (p .fits)
+    (bits-only (controlBits d) (eventWord s (v .code) (v .mask)) (p .fits)
     (λ k l. elim (decLt k 16) [
       | yes low ↦ inr (every-at 16 (inList (controlBits d)) (facts d .low-permitted) k low)
-      | no o ↦ rw (bit-high 16 k (eventWord d (v .code) (v .mask)) (enabled d) (let y = o in omega arith) (p .above)) (only-cases (controlBits d) k (enabled d) (facts d .enabled-permitted) l)
+      | no o ↦ rw (bit-high 16 k (eventWord s (v .code) (v .mask)) (enabled s) (let y = o in omega arith) (p .above)) (only-cases (controlBits d) k (enabled s) (enables s .permitted) l)
     ]))
 
 -- ---- the words of a plan
 
-pub plan-words : (s : Setup) {rs : List Request} {ps : List Place} → All (Described s) rs → Each Allowed rs ps → All (λ (u : ℕ × ℕ). ControlWord s (u .1)) (ofAll (usesOf (s .device)) rs ps)
+pub plan-words : (s : Setup) {rs : List Request} {ps : List Place} → All (Described s) rs → Each Allowed rs ps → All (λ (u : ℕ × ℕ). ControlWord s (u .1)) (ofAll (usesOf s) rs ps)
 unfolding ofAll usesOf first second
 plan-words s nil none = nil
 plan-words s (cons (event {c = c} {m = m} h a) fs) (and (plans.event b) es) = cons (listed-event c m h refl) (plan-words s fs es)

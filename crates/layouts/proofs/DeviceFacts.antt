@@ -2,9 +2,9 @@
 --     facts     the facts of a device
 --     apart     no two of its registers have one address
 --     in-room   arrays have room for its counters
---     cbox-small, cbox-row, cbox-past   the table of the C-Boxes
+--     cbox-range, cbox-row, cbox-past   the table of the C-Boxes
 use mathlib.Core.Path.{_≡_, refl}
-use mathlib.Core.Bool.{true}
+use mathlib.Core.Bool.{true, false, false≢true}
 use mathlib.Core.List.{List, [], _∷_}
 use Prim.Native.Nat.{ℕ, zero, suc, _+_, _*_, _%_, _^_, _≤_, _<_}
 use native.Mathlib.Omega.{arith}
@@ -15,10 +15,11 @@ use Rattle.requests.specs.declared.Device.the-variants.{G, S, C}
 use Rattle.requests.specs.Bits.{bit, inList, onlyBits, rising, field}
 use Rattle.requests.specs.CBoxEvents.{sinkMasks, ringMasks, starvedMasks, bypassMasks, cboxEvents}
 use Rattle.requests.specs.Catalogue.{eventsOf}
+use Rattle.requests.specs.Askings.{overflowOn}
 use Rattle.requests.specs.Devices.{capacity, counterCount, fixedCount}
 use Rattle.plans.specs.Lists.{All, nil, cons}
 use Rattle.plans.proofs.PlanLengthHolds.{plan-length}
-use Rattle.layouts.specs.Layout.{tabulate, globalBits, controlBits, enabled, offcoreCode, cboxGlobals, cboxGlobal, layoutOf, controlAt, counterAt, filtersAt, rsp0At, rsp1At, mmCfgAt, matchAt, maskAt}
+use Rattle.layouts.specs.Layout.{tabulate, globalBits, controlBits, enabledOn, offcoreCode, cboxGlobals, cboxGlobal, layoutOf, controlAt, counterAt, filtersAt, rsp0At, rsp1At, mmCfgAt, matchAt, maskAt, uboxAt}
 use Rattle.layouts.specs.WriteCount.{writeLimit}
 use Rattle.layouts.proofs.ListedEvents.{allBelow, belowMask, table}
 
@@ -44,14 +45,23 @@ pub record Apart (d : Device) : Type 0 where
   pub filter-control : (k : ℕ) → k < capacity → All (λ (a : ℕ). a ≡ controlAt d k → ⊥) (filtersAt d)
   pub filter-counter : (k : ℕ) → k < capacity → All (λ (a : ℕ). a ≡ counterAt d k → ⊥) (filtersAt d)
   pub filter-global : All (λ (a : ℕ). a ≡ layoutOf d .global → ⊥) (filtersAt d)
+  -- and none has that of the U-Box
+  pub ubox-global : uboxAt ≡ layoutOf d .global → ⊥
+  pub ubox-control : (k : ℕ) → k < capacity → uboxAt ≡ controlAt d k → ⊥
+  pub ubox-counter : (k : ℕ) → k < capacity → uboxAt ≡ counterAt d k → ⊥
+  pub ubox-filter : All (λ (a : ℕ). a ≡ uboxAt → ⊥) (filtersAt d)
 
 pub record DeviceFacts (d : Device) : Type 0 where
   -- the bits that every event word has: some of 23 to 16, and none below
-  pub enabled-some : 0 < enabled d
-  pub enabled-above : enabled d % 2 ^ 16 ≡ 0
-  pub enabled-small : enabled d ≤ 0xFFFFFF
+  pub enabled-some : 0 < enabledOn d
+  pub enabled-above : enabledOn d % 2 ^ 16 ≡ 0
+  pub enabled-small : enabledOn d ≤ 0x7FFFFF
   -- a control register has them, and the 16 bits of code and unit mask
-  pub enabled-permitted : onlyBits (controlBits d) (enabled d) ≡ true
+  pub enabled-permitted : onlyBits (controlBits d) (enabledOn d) ≡ true
+  -- pmi_en is none of them, and where something may be asked it is permitted with them
+  pub pmi-off : bit 20 (enabledOn d) ≡ false
+  pub pmi-on : overflowOn d ≡ true → bit 20 (enabledOn d + 2 ^ 20) ≡ true
+  pub pmi-permitted : overflowOn d ≡ true → onlyBits (controlBits d) (enabledOn d + 2 ^ 20) ≡ true
   pub low-permitted : every 16 (inList (controlBits d)) ≡ true
   -- the global register has a bit for each counter, and from bit 32 on for each fixed counter
   pub enables : every (counterCount d) (inList (globalBits d)) ≡ true
@@ -60,7 +70,8 @@ pub record DeviceFacts (d : Device) : Type 0 where
   pub events : table (filterCode d) (eventsOf d) ≡ true
   -- the writes of all counters and of the filter registers are within the limit
   pub filter-small : filterRoom d ≤ 4
-  pub write-room : 2 + 3 * counterCount d + filterRoom d ≤ writeLimit d
+  pub write-room : 2 + 3 * counterCount d + filterRoom d ≤ writeLimit d false
+  pub frame-room : overflowOn d ≡ true → 4 + 3 * counterCount d + filterRoom d ≤ writeLimit d true
   -- addresses have 16 bits, and a step is at most 2
   pub control-small : layoutOf d .control ≤ 0xFFFF
   pub counter-small : layoutOf d .counter ≤ 0xFFFF
@@ -68,17 +79,17 @@ pub record DeviceFacts (d : Device) : Type 0 where
   pub apart : Apart d
 
 -- the address of a box's global control register
-pub cbox-small : (b : ℕ) → cboxGlobal b ≤ 0x0DE0
+pub cbox-range : (b : ℕ) → (0x0D00 ≤ cboxGlobal b) × (cboxGlobal b ≤ 0x0DE0)
 unfolding cboxGlobal cboxGlobals
-cbox-small zero = omega arith
-cbox-small (suc zero) = omega arith
-cbox-small (suc (suc zero)) = omega arith
-cbox-small (suc (suc (suc zero))) = omega arith
-cbox-small (suc (suc (suc (suc zero)))) = omega arith
-cbox-small (suc (suc (suc (suc (suc zero))))) = omega arith
-cbox-small (suc (suc (suc (suc (suc (suc zero)))))) = omega arith
-cbox-small (suc (suc (suc (suc (suc (suc (suc zero))))))) = omega arith
-cbox-small (suc (suc (suc (suc (suc (suc (suc (suc b)))))))) = omega arith
+cbox-range zero = (omega arith, omega arith)
+cbox-range (suc zero) = (omega arith, omega arith)
+cbox-range (suc (suc zero)) = (omega arith, omega arith)
+cbox-range (suc (suc (suc zero))) = (omega arith, omega arith)
+cbox-range (suc (suc (suc (suc zero)))) = (omega arith, omega arith)
+cbox-range (suc (suc (suc (suc (suc zero))))) = (omega arith, omega arith)
+cbox-range (suc (suc (suc (suc (suc (suc zero)))))) = (omega arith, omega arith)
+cbox-range (suc (suc (suc (suc (suc (suc (suc zero))))))) = (omega arith, omega arith)
+cbox-range (suc (suc (suc (suc (suc (suc (suc (suc b)))))))) = (omega arith, omega arith)
 
 -- a row of the table, whatever stands past it
 row-any : (l : List ℕ) (i x y : ℕ) → i < length l → getD l i x ≡ getD l i y
@@ -96,19 +107,23 @@ unfolding cboxGlobal cboxGlobals
 cbox-past b l = List·getD-eq-default cboxGlobals 0x0D00 l
 
 pub facts : (d : Device) → DeviceFacts d
-unfolding capacity counterCount fixedCount layoutOf controlAt counterAt filtersAt rsp0At rsp1At mmCfgAt matchAt maskAt enabled controlBits globalBits field tabulate inList bit onlyBits every both either belowMask table allBelow eventsOf cboxEvents sinkMasks ringMasks starvedMasks bypassMasks filterCode offcoreCode filterRoom writeLimit rising
+unfolding capacity counterCount fixedCount layoutOf controlAt counterAt filtersAt rsp0At rsp1At mmCfgAt matchAt maskAt uboxAt enabledOn overflowOn controlBits globalBits field tabulate inList bit onlyBits every both either belowMask table allBelow eventsOf cboxEvents sinkMasks ringMasks starvedMasks bypassMasks filterCode offcoreCode filterRoom writeLimit rising
 facts G =
     record {
       enabled-some = omega arith;
       enabled-above = refl;
       enabled-small = omega arith;
       enabled-permitted = refl;
+      pmi-off = refl;
+      pmi-on = λ h. absurd (false≢true h);
+      pmi-permitted = λ h. absurd (false≢true h);
       low-permitted = refl;
       enables = refl;
       fixed-enables = refl;
       events = refl;
       filter-small = omega arith;
       write-room = omega arith;
+      frame-room = λ h. absurd (false≢true h);
       control-small = omega arith;
       counter-small = omega arith;
       step-small = omega arith;
@@ -121,6 +136,10 @@ facts G =
         filter-control = λ k a. cons {a = rsp0At} (λ e. omega arith) (cons {a = rsp1At} (λ e. omega arith) nil);
         filter-counter = λ k a. cons {a = rsp0At} (λ e. omega arith) (cons {a = rsp1At} (λ e. omega arith) nil);
         filter-global = cons {a = rsp0At} (λ e. omega arith) (cons {a = rsp1At} (λ e. omega arith) nil);
+        ubox-global = λ e. omega arith;
+        ubox-control = λ k l e. omega arith;
+        ubox-counter = λ k l e. omega arith;
+        ubox-filter = cons {a = rsp0At} (λ e. omega arith) (cons {a = rsp1At} (λ e. omega arith) nil);
       };
     }
 facts S =
@@ -129,12 +148,16 @@ facts S =
       enabled-above = refl;
       enabled-small = omega arith;
       enabled-permitted = refl;
+      pmi-off = refl;
+      pmi-on = λ h. refl;
+      pmi-permitted = λ h. refl;
       low-permitted = refl;
       enables = refl;
       fixed-enables = refl;
       events = refl;
       filter-small = omega arith;
       write-room = omega arith;
+      frame-room = λ h. omega arith;
       control-small = omega arith;
       counter-small = omega arith;
       step-small = omega arith;
@@ -147,6 +170,10 @@ facts S =
         filter-control = λ k a. cons {a = mmCfgAt} (λ e. omega arith) (cons {a = matchAt} (λ e. omega arith) (cons {a = maskAt} (λ e. omega arith) nil));
         filter-counter = λ k a. cons {a = mmCfgAt} (λ e. omega arith) (cons {a = matchAt} (λ e. omega arith) (cons {a = maskAt} (λ e. omega arith) nil));
         filter-global = cons {a = mmCfgAt} (λ e. omega arith) (cons {a = matchAt} (λ e. omega arith) (cons {a = maskAt} (λ e. omega arith) nil));
+        ubox-global = λ e. omega arith;
+        ubox-control = λ k l e. omega arith;
+        ubox-counter = λ k l e. omega arith;
+        ubox-filter = cons {a = mmCfgAt} (λ e. omega arith) (cons {a = matchAt} (λ e. omega arith) (cons {a = maskAt} (λ e. omega arith) nil));
       };
     }
 facts (C b) =
@@ -155,14 +182,18 @@ facts (C b) =
       enabled-above = refl;
       enabled-small = omega arith;
       enabled-permitted = refl;
+      pmi-off = refl;
+      pmi-on = λ h. refl;
+      pmi-permitted = λ h. refl;
       low-permitted = refl;
       enables = refl;
       fixed-enables = refl;
       events = refl;
       filter-small = omega arith;
       write-room = omega arith;
-      control-small = omega (arith, cbox-small b);
-      counter-small = omega (arith, cbox-small b);
+      frame-room = λ h. omega arith;
+      control-small = omega (arith, cbox-range b .1);
+      counter-small = omega (arith, cbox-range b .1);
       step-small = omega arith;
       apart = record {
         control-control = λ j k e. omega arith;
@@ -173,6 +204,10 @@ facts (C b) =
         filter-control = λ k l. nil;
         filter-counter = λ k l. nil;
         filter-global = nil;
+        ubox-global = λ e. omega (arith, cbox-range b .0);
+        ubox-control = λ k l e. omega (arith, cbox-range b .0);
+        ubox-counter = λ k l e. omega (arith, cbox-range b .0);
+        ubox-filter = nil;
       };
     }
 

@@ -30,7 +30,7 @@ module _ (o : Opening) (s : Setup) (opened : setupOf o ≡ some s) where
   number = openings .only o s opened .fixed
 
   few : s .fixed ≤ allFixed (s .device)
-  few = rw (← number, numbers (s .device) .fixed-most) (openings .only o s opened .fixed-at-most)
+  few = rw (← number, numbers (s .device) .fixed-most) (openings .only o s opened .given .fixed-at-most)
 
   written : (rs : List Request) (ps : List Place) → Legal s rs ps
       → (v : ℕ) → List·Memᴰ (layoutOf (s .device) .global, v) (writes s rs ps) → Carries (o .fixed) (allCounters (s .device)) v

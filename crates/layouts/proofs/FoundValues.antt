@@ -12,24 +12,25 @@ use native.Mathlib.Omega.{arith}
 use borrow.Author.Tests.{eqb-true, eq-eqb, ne-eqb, leb-true}
 use lib.Dec.{eqb}
 use lib.ListN.{length, getD}
-use Rattle.requests.specs.Choice.{every, pick}
+use Rattle.requests.specs.Choice.{either, every, pick}
+use Rattle.requests.specs.Askings.{asked}
 use Rattle.requests.specs.declared.CounterSet.{CounterSet}
 use Rattle.requests.specs.declared.Device.{Device}
 use Rattle.requests.specs.declared.Device.the-variants.{G, S, C}
 use Rattle.requests.specs.declared.Setup.{Setup}
 use Rattle.requests.specs.declared.Request.the-variants.{Packet, Offcore, Latency}
 use Rattle.requests.specs.Bits.{inList, outstanding, latencyWord}
-use Rattle.requests.specs.Devices.{has, counterCount}
+use Rattle.requests.specs.Devices.{capacity, has, counterCount}
 use Rattle.requests.specs.Checks.{formed}
 use Rattle.requests.specs.WellFormedRequests.{Described}
 use Rattle.requests.proofs.Tests.{both-parts, every-at, either-cases}
 use Rattle.plans.specs.Lists.{All, cons}
 use Rattle.plans.specs.Legal.{Usable, Legal, wordsOf, packetsOf, ofAll, counters}
 use Rattle.plans.proofs.Sets.{all-imp}
-use Rattle.layouts.specs.Layout.{layoutOf, controlAt, filtersAt, matchAt, maskAt, mmEnable, rspWord, packetWord}
+use Rattle.layouts.specs.Layout.{layoutOf, controlAt, filtersAt, matchAt, maskAt, uboxAt, mmEnable, rspWord, packetWord}
 use Rattle.layouts.specs.Settings.{wordAt, setFrom, headOr, nonempty}
 use Rattle.layouts.specs.Writes.{rows, lastGlobal, writes, apply}
-use Rattle.layouts.specs.Read.{ours, noCounter, count, controlFits, rsp0Fits, rsp1Fits, latencyFits, filtersFit, accepts, filterWord, packetsFit}
+use Rattle.layouts.specs.Read.{ours, noCounter, count, controlFits, rsp0Fits, rsp1Fits, latencyFits, filtersFit, uboxFits, accepts, filterWord, packetsFit}
 use Rattle.layouts.specs.ExactReader.{FiltersShow, LeavesValues}
 use Rattle.layouts.specs.declared.RegisterValues.{RegisterValues}
 use Rattle.layouts.proofs.ListLaws.{all-member}
@@ -40,7 +41,7 @@ use Rattle.layouts.proofs.Counts.{hits}
 use Rattle.layouts.proofs.UsableSets.{on, Within, usable-counter}
 use Rattle.layouts.proofs.ControlWords.{word-some, plan-words}
 use Rattle.layouts.proofs.FormedRequests.{form-all, passes-described}
-use Rattle.layouts.proofs.PlanWords.{usesIn, used-word, count-uses, control-left, global-left}
+use Rattle.layouts.proofs.PlanWords.{usesIn, used-word, count-uses, control-left, global-left, ubox-left, ubox-stays}
 use Rattle.layouts.proofs.PlanFilters.{enabled-by, rsp-hits, packet-hits, rsp-some, packet-some}
 use Rattle.layouts.proofs.LeftValues.{rsp0-left, rsp1-left, mm-cfg-left, match-left, mask-left, kept, zero-fits}
 use Rattle.layouts.proofs.BuiltPlans.{Built}
@@ -52,37 +53,44 @@ use Rattle.layouts.proofs.FoundPlans.{Words, plain-G, plain-S, plain-ba
 every-counter : Device → CounterSet
 every-counter d = record { 0 = setFrom (counterCount d) 0 (λ k. true) }
 
--- registers that hold the control values, and the match and mask words
+-- registers that hold the value of the U-Box, and the match and mask words
+around : RegisterValues → ℕ → ℕ
+around v a = pick (eqb uboxAt a) (v .ubox) (pick (eqb matchAt a) (v .filters .«match_word») (v .filters .«mask_word»))
+
+-- and the control values
 before : Device → RegisterValues → ℕ → ℕ
-before d v =
-    apply (rows (counterCount d) (every-counter d) (layoutOf d .control) (layoutOf d .step) (v .control))
-    (λ a. pick (eqb matchAt a) (v .filters .«match_word») (v .filters .«mask_word»))
+before d v = apply (rows (counterCount d) (every-counter d) (layoutOf d .control) (layoutOf d .step) (v .control)) (around v)
 
 before-control : (d : Device) (v : RegisterValues) (k : ℕ) → k < counterCount d → before d v (controlAt d k) ≡ getD (v .control) k 0
 unfolding before every-counter controlAt has
 before-control d v k l =
     let values = rows (counterCount d) (every-counter d) (layoutOf d .control) (layoutOf d .step) (v .control) in
-    let r : ℕ → ℕ = λ a. pick (eqb matchAt a) (v .filters .«match_word») (v .filters .«mask_word») in
-    apply-after values r (controlAt d k)
-    ∙ rows-at (every-counter d) (layoutOf d .control) (layoutOf d .step) (v .control) (apart d .control-control) (counterCount d) k (r (controlAt d k)) l
+    apply-after values (around v) (controlAt d k)
+    ∙ rows-at (every-counter d) (layoutOf d .control) (layoutOf d .step) (v .control) (apart d .control-control) (counterCount d) k (around v (controlAt d k)) l
     ∙ rw (bit-set (counterCount d) 0 k (λ j. true) l)
 
--- a filter register is none of the control registers
-before-filter : (d : Device) (v : RegisterValues) (a : ℕ) → List·Memᴰ a (filtersAt d) → before d v a ≡ pick (eqb matchAt a) (v .filters .«match_word») (v .filters .«mask_word»)
+-- what is none of the control registers
+before-other : (d : Device) (v : RegisterValues) (a : ℕ) → ((k : ℕ) → k < capacity → controlAt d k ≡ a → ⊥) → before d v a ≡ around v a
 unfolding before controlAt
-before-filter d v a m =
+before-other d v a other =
     let values = rows (counterCount d) (every-counter d) (layoutOf d .control) (layoutOf d .step) (v .control) in
-    let r : ℕ → ℕ = λ x. pick (eqb matchAt x) (v .filters .«match_word») (v .filters .«mask_word») in
-    apply-after values r a
-    ∙ after-other a (r a) (rows-all (λ w. w .0 ≡ a → ⊥) (every-counter d) (layoutOf d .control) (layoutOf d .step) (v .control) (counterCount d)
-    (λ k l h e. all-member (apart d .filter-control k (in-room d k l)) m (sym e)))
+    apply-after values (around v) a
+    ∙ after-other a (around v a) (rows-all (λ w. w .0 ≡ a → ⊥) (every-counter d) (layoutOf d .control) (layoutOf d .step) (v .control) (counterCount d)
+    (λ k l h. other k (in-room d k l)))
+
+before-filter : (d : Device) (v : RegisterValues) (a : ℕ) → List·Memᴰ a (filtersAt d) → before d v a ≡ around v a
+before-filter d v a m = before-other d v a (λ k l e. all-member (apart d .filter-control k l) m (sym e))
+
+before-ubox : (d : Device) (v : RegisterValues) → before d v uboxAt ≡ v .ubox
+unfolding around
+before-ubox d v = before-other d v uboxAt (λ k l e. apart d .ubox-control k l (sym e)) ∙ rw (eq-eqb uboxAt uboxAt refl)
 
 before-match : (v : RegisterValues) → before S v matchAt ≡ v .filters .«match_word»
-unfolding filtersAt matchAt
+unfolding filtersAt around uboxAt matchAt
 before-match v = before-filter S v matchAt (List·Memᴰ·tail (List·Memᴰ·head refl))
 
 before-mask : (v : RegisterValues) → before S v maskAt ≡ v .filters .«mask_word»
-unfolding filtersAt matchAt maskAt
+unfolding filtersAt around uboxAt matchAt maskAt
 before-mask v = before-filter S v maskAt (List·Memᴰ·tail (List·Memᴰ·tail (List·Memᴰ·head refl)))
 
 -- ---- a plan that is found leaves the values
@@ -123,9 +131,9 @@ module _ (s : Setup) (v : RegisterValues) (a b : ℕ) (q : ℕ × ℕ) (built : 
   built-count w n = ap (λ (f : ℕ → ℕ). count (counterCount (s .device)) f w) (sym built-words) ∙ count-uses s (built .requests) (built .places) built-legal w n
 
   built-leaves : FiltersShow (s .device) (v .filters) (apply (writes s (built .requests) (built .places)) (before (s .device) v))
-      → v .global ≡ lastGlobal s (setFrom (counterCount (s .device)) 0 (λ k. not (eqb (ours s v k) 0))) → LeavesValues s v
-  unfolding ours
-  built-leaves shown e =
+      → v .global ≡ lastGlobal s (setFrom (counterCount (s .device)) 0 (λ k. not (eqb (ours s v k) 0))) → uboxFits s (v .ubox) ≡ true → LeavesValues s v
+  unfolding ours uboxFits either
+  built-leaves shown e fits =
       record {
         requests = built .requests;
         places = built .places;
@@ -139,9 +147,14 @@ module _ (s : Setup) (v : RegisterValues) (a b : ℕ) (q : ℕ × ℕ) (built : 
           global = e
               ∙ ap (lastGlobal s) (set-same (counterCount (s .device)) 0 (λ k. not (eqb (ours s v k) 0)) (inList (counters (built .places))) (λ k l. sym (built-used (0 + k))))
               ∙ sym (global-left s (built .requests) (built .places) (before (s .device) v));
+          ubox = ubox-shown (asked s) refl;
         };
       }
     where
+      ubox-shown : (b : Bool) → asked s ≡ b → v .ubox ≡ apply (writes s (built .requests) (built .places)) (before (s .device) v) uboxAt
+      ubox-shown true h = eqb-true _ _ (rw h at fits) ∙ sym (ubox-left s (built .requests) (built .places) (before (s .device) v) h)
+      ubox-shown false h = sym (ubox-stays s (built .requests) (built .places) (before (s .device) v) h ∙ before-ubox (s .device) v)
+
       looked-at : (k : ℕ) (h : Bool) → pick (not (eqb (pick h (getD (v .control) k 0) 0) 0)) (pick h (getD (v .control) k 0) 0) (pick h 0 (getD (v .control) k 0)) ≡ getD (v .control) k 0
       looked-at k true = kept (getD (v .control) k 0)
       looked-at k false = refl
@@ -153,20 +166,20 @@ module _ (u : Setup) (v : RegisterValues) where
 
   -- an RSP register without a counter is 0
   abbrev ZeroUnused : ℕ → ℕ → Type 0
-  ZeroUnused i w = count (counterCount G) (ours (on G u) v) (rspWord G i) ≡ 0 → w ≡ 0
+  ZeroUnused i w = count (counterCount G) (ours (on G u) v) (rspWord (on G u) i) ≡ 0 → w ≡ 0
 
   leaves-G : Built (on G u) (v .filters .rsp0) (v .filters .rsp1) (0, 0) (ours (on G u) v) → ZeroUnused 0 (v .filters .rsp0) → ZeroUnused 1 (v .filters .rsp1) → Counted G
-      → LeavesValues (on G u) v
-  leaves-G built zero0 zero1 e =
+      → uboxFits (on G u) (v .ubox) ≡ true → LeavesValues (on G u) v
+  leaves-G built zero0 zero1 e fits =
       let s = on G u in
       let w0 = v .filters .rsp0 in
       let w1 = v .filters .rsp1 in
-      let on0 = built-count s v w0 w1 (0, 0) built (rspWord G 0) (rsp-some 0) ∙ rsp-hits u 0 (omega arith) (built .described) (built .allowed) in
-      let on1 = built-count s v w0 w1 (0, 0) built (rspWord G 1) (rsp-some 1) ∙ rsp-hits u 1 (omega arith) (built .described) (built .allowed) in
+      let on0 = built-count s v w0 w1 (0, 0) built (rspWord (on G u) 0) (rsp-some u 0) ∙ rsp-hits u 0 (omega arith) (built .described) (built .allowed) in
+      let on1 = built-count s v w0 w1 (0, 0) built (rspWord (on G u) 1) (rsp-some u 1) ∙ rsp-hits u 1 (omega arith) (built .described) (built .allowed) in
       built-leaves s v w0 w1 (0, 0) built (
         sym (rsp0-left u (built .requests) (built .places) (before G v) ∙ head-is w0 (ofAll (wordsOf 0) (built .requests) (built .places)) (built .rsp0) (λ z. zero0 (on0 ∙ z))),
         sym (rsp1-left u (built .requests) (built .places) (before G v) ∙ head-is w1 (ofAll (wordsOf 1) (built .requests) (built .places)) (built .rsp1) (λ z. zero1 (on1 ∙ z))),
-      ) e
+      ) e fits
 
   -- the words of the match/mask register, where a packet request asks for them or nobody does
   packet-words : (asked : List (ℕ × ℕ)) (x y : ℕ) → All (λ (p : ℕ × ℕ). p ≡ (x, y)) asked
@@ -175,19 +188,19 @@ module _ (u : Setup) (v : RegisterValues) where
   packet-words (p ∷ ps) x y (cons h hs) = (sym (ap (λ (r : ℕ × ℕ). r .0) h), sym (ap (λ (r : ℕ × ℕ). r .1) h))
 
   leaves-S : Built (on S u) 0 0 (v .filters .«match_word», v .filters .«mask_word») (ours (on S u) v)
-      → v .filters .«mm_cfg» ≡ pick (eqb (count (counterCount S) (ours (on S u) v) (packetWord S)) 0) 0 (2 ^ mmEnable) → Counted S → LeavesValues (on S u) v
-  leaves-S built m e =
+      → v .filters .«mm_cfg» ≡ pick (eqb (count (counterCount S) (ours (on S u) v) (packetWord (on S u))) 0) 0 (2 ^ mmEnable) → Counted S → uboxFits (on S u) (v .ubox) ≡ true → LeavesValues (on S u) v
+  leaves-S built m e fits =
       let s = on S u in
       let x = v .filters .«match_word» in
       let y = v .filters .«mask_word» in
       let asked = flatMap packetsOf (built .requests) in
-      let packets = built-count s v 0 0 (x, y) built (packetWord S) packet-some ∙ packet-hits u (built .described) (built .allowed) in
+      let packets = built-count s v 0 0 (x, y) built (packetWord (on S u)) (packet-some u) ∙ packet-hits u (built .described) (built .allowed) in
       let held = packet-words asked x y (built .packet) in
       built-leaves s v 0 0 (x, y) built (
         m ∙ ap (λ (n : ℕ). pick (eqb n 0) 0 (2 ^ mmEnable)) packets ∙ sym (enabled-by asked) ∙ sym (mm-cfg-left u (built .requests) (built .places) (before S v)),
         sym (match-left u (built .requests) (built .places) (before S v) ∙ rw (before-match v) (sym (held .0))),
         sym (mask-left u (built .requests) (built .places) (before S v) ∙ rw (before-mask v) (sym (held .1))),
-      ) e
+      ) e fits
 
 -- ---- from the test to a plan
 
@@ -211,24 +224,24 @@ ours-words s v within t = record { fits = λ k. fit k (has (s .usable) k) refl; 
     placed k false h = inl refl
 
 module _ (u : Setup) (v : RegisterValues) where
-  found-G : Within (on G u) → Words (on G u) (ours (on G u) v) → filtersFit (on G u) (ours (on G u) v) (v .filters) ≡ true → Counted u v G → LeavesValues (on G u) v
+  found-G : Within (on G u) → Words (on G u) (ours (on G u) v) → filtersFit (on G u) (ours (on G u) v) (v .filters) ≡ true → Counted u v G → uboxFits (on G u) (v .ubox) ≡ true → LeavesValues (on G u) v
   unfolding filtersFit rsp0Fits rsp1Fits latencyFits
-  found-G within w t e =
+  found-G within w t e fits =
       let s = on G u in
       let f = ours (on G u) v in
       let w0 = v .filters .rsp0 in
       let w1 = v .filters .rsp1 in
-      let n0 = count (counterCount G) f (rspWord G 0) in
-      let n1 = count (counterCount G) f (rspWord G 1) in
+      let n0 = count (counterCount G) f (rspWord (on G u) 0) in
+      let n1 = count (counterCount G) f (rspWord (on G u) 1) in
       let parts = both-parts _ _ t in
       let zero1 : n1 ≡ 0 → w1 ≡ 0 = λ z. eqb-true w1 0 (pick-zero n1 (eqb w1 0) (formed s (Offcore w1 noCounter)) (parts .0) z) in
       let zero0 : n0 ≡ 0 → w0 ≡ 0 = λ z. eqb-true w0 0 (pick-zero n0 (eqb w0 0) _ (parts .1) z) in
       let second : (n1 ≡ 0) ⊎ Described s (Offcore w1 noCounter) =
       ⊎-elim (λ z. inl z) (λ h. inr (passes-described s (Offcore w1 noCounter) h)) (pick-cases n1 (eqb w1 0) (formed s (Offcore w1 noCounter)) (parts .0)) in
       ⊎-elim
-      (λ z. leaves-G u v (plain-G u within w0 w1 (0, 0) f w (inl z) second) zero0 zero1 e)
+      (λ z. leaves-G u v (plain-G u within w0 w1 (0, 0) f w (inl z) second) zero0 zero1 e fits)
       (λ h. ⊎-elim
-      (λ offcore. leaves-G u v (plain-G u within w0 w1 (0, 0) f w (inr (passes-described s (Offcore w0 noCounter) offcore)) second) zero0 zero1 e)
+      (λ offcore. leaves-G u v (plain-G u within w0 w1 (0, 0) f w (inr (passes-described s (Offcore w0 noCounter) offcore)) second) zero0 zero1 e fits)
       (λ latency.
       let types = w0 % 2 ^ outstanding in
       let first-part = both-parts _ _ latency in
@@ -238,15 +251,15 @@ module _ (u : Setup) (v : RegisterValues) where
       let held0 : latencyWord 0 types ≡ w0 = sym (eqb-true w0 (latencyWord 0 types) (first-part .0)) in
       let held1 : latencyWord 1 types ≡ w1 = sym (eqb-true w1 (latencyWord 1 types) (second-part .0)) in
       leaves-G u v
-      (subst (λ (x : ℕ). Built s x w1 (0, 0) f) held0 (subst (λ (y : ℕ). Built s (latencyWord 0 types) y (0, 0) f) held1 built)) zero0 zero1 e)
+      (subst (λ (x : ℕ). Built s x w1 (0, 0) f) held0 (subst (λ (y : ℕ). Built s (latencyWord 0 types) y (0, 0) f) held1 built)) zero0 zero1 e fits)
       (either-cases _ _ h))
       (pick-cases n0 (eqb w0 0) _ (parts .1))
 
-  found-S : Within (on S u) → Words (on S u) (ours (on S u) v) → filtersFit (on S u) (ours (on S u) v) (v .filters) ≡ true → Counted u v S → LeavesValues (on S u) v
+  found-S : Within (on S u) → Words (on S u) (ours (on S u) v) → filtersFit (on S u) (ours (on S u) v) (v .filters) ≡ true → Counted u v S → uboxFits (on S u) (v .ubox) ≡ true → LeavesValues (on S u) v
   unfolding filtersFit packetsFit
-  found-S within w t e =
+  found-S within w t e fits =
       let s = on S u in
-      let n = count (counterCount S) (ours (on S u) v) (packetWord S) in
+      let n = count (counterCount S) (ours (on S u) v) (packetWord (on S u)) in
       let x = v .filters .«match_word» in
       let y = v .filters .«mask_word» in
       let c = v .filters .«mm_cfg» in
@@ -257,18 +270,19 @@ module _ (u : Setup) (v : RegisterValues) where
         | yes z ↦ rw (eq-eqb n 0 z) (eqb-true c 0 (pick-zero n (eqb c 0) _ t z))
         | no o ↦ rw (ne-eqb n 0 o) (eqb-true c (2 ^ mmEnable) (both-parts _ _ (rw (ne-eqb n 0 o) at t) .0))
       ] in
-      leaves-S u v (plain-S u within 0 0 (x, y) (ours (on S u) v) w filtered) set e
+      leaves-S u v (plain-S u within 0 0 (x, y) (ours (on S u) v) w filtered) set e fits
 
-  found : (d : Device) → Within (on d u) → Words (on d u) (ours (on d u) v) → filtersFit (on d u) (ours (on d u) v) (v .filters) ≡ true → Counted u v d → LeavesValues (on d u) v
+  found : (d : Device) → Within (on d u) → Words (on d u) (ours (on d u) v) → filtersFit (on d u) (ours (on d u) v) (v .filters) ≡ true → Counted u v d → uboxFits (on d u) (v .ubox) ≡ true → LeavesValues (on d u) v
   unfolding filterWord
-  found G within w t e = found-G within w t e
-  found S within w t e = found-S within w t e
-  found (C b) within w t e = built-leaves (on (C b) u) v 0 0 (0, 0) (plain-bare u (C b) (λ x. refl) within 0 0 (0, 0) (ours (on (C b) u) v) w) tt e
+  found G within w t e fits = found-G within w t e fits
+  found S within w t e fits = found-S within w t e fits
+  found (C b) within w t e fits = built-leaves (on (C b) u) v 0 0 (0, 0) (plain-bare u (C b) (λ x. refl) within 0 0 (0, 0) (ours (on (C b) u) v) w) tt e fits
 
 pub accepted-left : (s : Setup) (v : RegisterValues) → Within s → accepts s v ≡ true → LeavesValues s v
 unfolding accepts
 accepted-left s v within h =
     let words = both-parts _ _ h in
     let rest = both-parts _ _ (words .1) in
-    found s v (s .device) within (ours-words s v within (words .0)) (rest .1)
-    (eqb-true (v .global) (lastGlobal s (setFrom (counterCount (s .device)) 0 (λ k. not (eqb (ours s v k) 0)))) (rest .0))
+    let registers = both-parts _ _ (rest .1) in
+    found s v (s .device) within (ours-words s v within (words .0)) (registers .0)
+    (eqb-true (v .global) (lastGlobal s (setFrom (counterCount (s .device)) 0 (λ k. not (eqb (ours s v k) 0)))) (rest .0)) (registers .1)

@@ -43,13 +43,13 @@ all-listed k nil h = absurd (false≢true h)
 all-listed {P} k (cons {a = j} {rest = ks} g gs) h =
     ⊎-elim (λ e. subst P (eqb-true j k e) g) (λ e. all-listed k gs e) (either-cases (eqb j k) (inList ks k) h)
 
-pub used-has : (d : Device) (rs : List Request) (ps : List Place) (k : ℕ) → k < counterCount d → has (settingsOf d rs ps .used) k ≡ inList (counters ps) k
+pub used-has : (s : Setup) (rs : List Request) (ps : List Place) (k : ℕ) → k < counterCount (s .device) → has (settingsOf s rs ps .used) k ≡ inList (counters ps) k
 unfolding has settingsOf
-used-has d rs ps k l = bit-set (counterCount d) 0 k (inList (counters ps)) l ∙ ap (inList (counters ps)) (zero-add k)
+used-has s rs ps k l = bit-set (counterCount (s .device)) 0 k (inList (counters ps)) l ∙ ap (inList (counters ps)) (zero-add k)
 
 module _ (s : Setup) (rs : List Request) (ps : List Place) (legal : Legal s rs ps) where
-  pub used-usable : (k : ℕ) → k < counterCount (s .device) → has (settingsOf (s .device) rs ps .used) k ≡ true → Usable s k
-  used-usable k l h = all-listed k (legal .usable-only) (sym (used-has (s .device) rs ps k l) ∙ h)
+  pub used-usable : (k : ℕ) → k < counterCount (s .device) → has (settingsOf s rs ps .used) k ≡ true → Usable s k
+  used-usable k l h = all-listed k (legal .usable-only) (sym (used-has s rs ps k l) ∙ h)
 
 -- ---- a value: a number from bit 32 on, and a set of the device's counters below
 
@@ -158,7 +158,7 @@ module _ (s : Setup) (rs : List Request) (ps : List Place) (legal : Legal s rs p
   abbrev enabled : ℕ → Bool
   enabled k = either (not (has (s .usable) k)) (inList (counters ps) k)
 
-  last-value : lastGlobal s (settingsOf (s .device) rs ps .used .0) ≡ value (s .device) (s .fixed % 2 ^ fixedCount (s .device)) enabled
+  last-value : lastGlobal s (settingsOf s rs ps .used .0) ≡ value (s .device) (s .fixed % 2 ^ fixedCount (s .device)) enabled
   unfolding lastGlobal settingsOf
   last-value =
       ap₂ _+_ (first-value s) (mod-eq-of-lt (set-below (counterCount (s .device)) 0 (inList (counters ps))))
@@ -171,18 +171,18 @@ module _ (s : Setup) (rs : List Request) (ps : List Place) (legal : Legal s rs p
       apart k h false e = refl
 
   pub last-bit : (k : ℕ) → k < counterCount (s .device)
-      → bit k (lastGlobal s (settingsOf (s .device) rs ps .used .0)) ≡ either (not (has (s .usable) k)) (inList (counters ps) k)
+      → bit k (lastGlobal s (settingsOf s rs ps .used .0)) ≡ either (not (has (s .usable) k)) (inList (counters ps) k)
   last-bit k l = ap (bit k) last-value ∙ value-bit (s .device) _ enabled k l
 
-  pub last-none : (k : ℕ) → counterCount (s .device) ≤ k → k < 32 → bit k (lastGlobal s (settingsOf (s .device) rs ps .used .0)) ≡ false
+  pub last-none : (k : ℕ) → counterCount (s .device) ≤ k → k < 32 → bit k (lastGlobal s (settingsOf s rs ps .used .0)) ≡ false
   last-none k past l = ap (bit k) last-value ∙ value-none (s .device) _ enabled k past l
 
-  pub last-fixed : (k : ℕ) → bit (32 + k) (lastGlobal s (settingsOf (s .device) rs ps .used .0)) ≡ both (ltb k (fixedCount (s .device))) (bit k (s .fixed))
+  pub last-fixed : (k : ℕ) → bit (32 + k) (lastGlobal s (settingsOf s rs ps .used .0)) ≡ both (ltb k (fixedCount (s .device))) (bit k (s .fixed))
   last-fixed k = ap (bit (32 + k)) last-value ∙ value-fixed s enabled k
 
-  pub last-permitted : onlyBits (globalBits (s .device)) (lastGlobal s (settingsOf (s .device) rs ps .used .0)) ≡ true
+  pub last-permitted : onlyBits (globalBits (s .device)) (lastGlobal s (settingsOf s rs ps .used .0)) ≡ true
   last-permitted = rw last-value (value-clean s enabled)
 
   -- the number of an accepted open, and enables of the device's counters below it
-  pub last-carries : s .fixed ≤ allFixed (s .device) → Carries (s .fixed) (allCounters (s .device)) (lastGlobal s (settingsOf (s .device) rs ps .used .0))
+  pub last-carries : s .fixed ≤ allFixed (s .device) → Carries (s .fixed) (allCounters (s .device)) (lastGlobal s (settingsOf s rs ps .used .0))
   last-carries w = subst (Carries (s .fixed) (allCounters (s .device))) (sym last-value) (value-carries s enabled w)

@@ -15,18 +15,19 @@ use Rattle.requests.specs.declared.Device.the-variants.{G, S, C}
 use Rattle.requests.specs.declared.Setup.{Setup}
 use Rattle.requests.specs.declared.Request.{Request}
 use Rattle.requests.specs.declared.Request.the-variants.{Event}
+use Rattle.requests.specs.Askings.{asked}
 use Rattle.requests.specs.Bits.{inList}
 use Rattle.requests.specs.Devices.{has, counterCount, capacity}
 use Rattle.requests.specs.WellFormedRequests.{Described, event}
-use Rattle.requests.proofs.Tests.{true-both, either-left, either-right, every-true}
+use Rattle.requests.proofs.Tests.{either-true, true-both, either-left, either-right, every-true}
 use Rattle.plans.specs.declared.Place.{Place}
 use Rattle.plans.specs.Lists.{All, nil, OneValue}
 use Rattle.plans.specs.Legal.{Legal, wordsOf, packetsOf, ofAll, counters}
 use Rattle.plans.proofs.Sets.{all-imp}
 use Rattle.layouts.specs.Layout.{filtersAt, rsp0At, rsp1At, mmCfgAt, matchAt, maskAt, mmEnable, enabled, eventWord, offcoreCode, rspMask, rspWord, packetWord}
 use Rattle.layouts.specs.Settings.{wordAt, setFrom, headOr, nonempty, settingsOf}
-use Rattle.layouts.specs.Writes.{lastGlobal, offcoreWrites, packetWrites, filterWrites, writes, apply}
-use Rattle.layouts.specs.Read.{ours, noCounter, filterWord, controlFits, accepts, tell, cell, readingOf}
+use Rattle.layouts.specs.Writes.{lastGlobal, uboxValue, offcoreWrites, packetWrites, filterWrites, writes, apply}
+use Rattle.layouts.specs.Read.{ours, noCounter, filterWord, controlFits, uboxFits, accepts, tell, cell, readingOf}
 use Rattle.layouts.specs.Told.{notOurs, told, toldBy, toldOf, toldAt, toldPlan}
 use Rattle.layouts.specs.ExactReader.{FiltersShow, LeavesValues}
 use Rattle.layouts.specs.declared.FilterValues.{FilterValues}
@@ -40,7 +41,7 @@ use Rattle.layouts.proofs.UsableSets.{on, Within, usable-counter}
 use Rattle.layouts.proofs.ControlWords.{ControlWord, listed-event, rsp-event, packet-event, listed, word-parts, word-some, plan-words, word-at}
 use Rattle.layouts.proofs.AskedWords.{none-within}
 use Rattle.layouts.proofs.FormedRequests.{describe-all, described-passes}
-use Rattle.layouts.proofs.PlanWords.{usesIn, used-word, unused-word, control-left, global-left, filter-left}
+use Rattle.layouts.proofs.PlanWords.{usesIn, used-word, unused-word, control-left, global-left, filter-left, ubox-left}
 use Rattle.layouts.proofs.PlanFilters.{devices-differ, c-not-g, c-not-s, LeftFilters, filters-fit}
 use Rattle.layouts.proofs.PlanTold.{Holds, tell-plan}
 
@@ -67,8 +68,8 @@ module _ (u : Setup) (rs : List Request) (ps : List Place) (registers : ℕ → 
   abbrev left : Device → ℕ → ℕ
   left d = apply (writes (on d u) rs ps) registers
 
-  abbrev asked : List (ℕ × ℕ)
-  asked = flatMap packetsOf rs
+  abbrev packets : List (ℕ × ℕ)
+  packets = flatMap packetsOf rs
 
   pub rsp0-left : left G rsp0At ≡ headOr 0 (ofAll (wordsOf 0) rs ps)
   unfolding after filterWrites offcoreWrites settingsOf filtersAt rsp0At rsp1At
@@ -78,21 +79,21 @@ module _ (u : Setup) (rs : List Request) (ps : List Place) (registers : ℕ → 
   unfolding after filterWrites offcoreWrites settingsOf filtersAt rsp0At rsp1At
   rsp1-left = filter-left (on G u) rs ps registers rsp1At (List·Memᴰ·tail (List·Memᴰ·head refl))
 
-  pub mm-cfg-left : left S mmCfgAt ≡ pick (nonempty asked) (2 ^ mmEnable) 0
+  pub mm-cfg-left : left S mmCfgAt ≡ pick (nonempty packets) (2 ^ mmEnable) 0
   unfolding filterWrites settingsOf filtersAt
-  mm-cfg-left = filter-left (on S u) rs ps registers mmCfgAt (List·Memᴰ·head refl) ∙ mm-cfg-after (nonempty asked) (headOr (0, 0) asked .0) (headOr (0, 0) asked .1) (registers mmCfgAt)
+  mm-cfg-left = filter-left (on S u) rs ps registers mmCfgAt (List·Memᴰ·head refl) ∙ mm-cfg-after (nonempty packets) (headOr (0, 0) packets .0) (headOr (0, 0) packets .1) (registers mmCfgAt)
 
-  pub match-left : left S matchAt ≡ pick (nonempty asked) (headOr (0, 0) asked .0) (registers matchAt)
+  pub match-left : left S matchAt ≡ pick (nonempty packets) (headOr (0, 0) packets .0) (registers matchAt)
   unfolding filterWrites settingsOf filtersAt
   match-left =
       filter-left (on S u) rs ps registers matchAt (List·Memᴰ·tail (List·Memᴰ·head refl))
-      ∙ match-after (nonempty asked) (headOr (0, 0) asked .0) (headOr (0, 0) asked .1) (registers matchAt)
+      ∙ match-after (nonempty packets) (headOr (0, 0) packets .0) (headOr (0, 0) packets .1) (registers matchAt)
 
-  pub mask-left : left S maskAt ≡ pick (nonempty asked) (headOr (0, 0) asked .1) (registers maskAt)
+  pub mask-left : left S maskAt ≡ pick (nonempty packets) (headOr (0, 0) packets .1) (registers maskAt)
   unfolding filterWrites settingsOf filtersAt
   mask-left =
       filter-left (on S u) rs ps registers maskAt (List·Memᴰ·tail (List·Memᴰ·tail (List·Memᴰ·head refl)))
-      ∙ mask-after (nonempty asked) (headOr (0, 0) asked .0) (headOr (0, 0) asked .1) (registers maskAt)
+      ∙ mask-after (nonempty packets) (headOr (0, 0) packets .0) (headOr (0, 0) packets .1) (registers maskAt)
 
 pair-path : (p : ℕ × ℕ) (x y : ℕ) → x ≡ p .0 → y ≡ p .1 → p ≡ (x, y)
 pair-path p x y e q = λ i. (sym e i, sym q i)
@@ -131,30 +132,30 @@ kept w = go (eqb w 0) refl
     go false e = refl
 
 -- the control words of filter events are known as such
-rsp-filter : (d : Device) (i : ℕ) → d ≡ G → i < 2 → filterWord d (rspWord d i) ≡ true
-unfolding filterWord either rspWord eventWord enabled offcoreCode rspMask
-rsp-filter G zero g l = refl
-rsp-filter G (suc zero) g l = refl
-rsp-filter G (suc (suc i)) g l = absurd (omega arith)
-rsp-filter S i g l = absurd (devices-differ (sym g))
-rsp-filter (C b) i g l = absurd (c-not-g b g)
+rsp-filter : (d : Device) (u : Setup) (i : ℕ) → d ≡ G → i < 2 → filterWord (on d u) (rspWord (on d u) i) ≡ true
+unfolding filterWord either
+rsp-filter G u zero g l = rw (eq-eqb (rspWord (on G u) 0) (rspWord (on G u) 0) refl)
+rsp-filter G u (suc zero) g l = rw (eq-eqb (rspWord (on G u) 1) (rspWord (on G u) 1) refl) (either-true (eqb (rspWord (on G u) 1) (rspWord (on G u) 0)))
+rsp-filter G u (suc (suc i)) g l = absurd (omega arith)
+rsp-filter S u i g l = absurd (devices-differ (sym g))
+rsp-filter (C b) u i g l = absurd (c-not-g b g)
 
-packet-filter : (d : Device) → d ≡ S → filterWord d (packetWord d) ≡ true
-unfolding filterWord packetWord eventWord enabled
-packet-filter G g = absurd (devices-differ g)
-packet-filter S g = refl
-packet-filter (C b) g = absurd (c-not-s b g)
+packet-filter : (d : Device) (u : Setup) → d ≡ S → filterWord (on d u) (packetWord (on d u)) ≡ true
+unfolding filterWord
+packet-filter G u g = absurd (devices-differ g)
+packet-filter S u g = eq-eqb (packetWord (on S u)) (packetWord (on S u)) refl
+packet-filter (C b) u g = absurd (c-not-s b g)
 
 control-fits : (s : Setup) (w : ℕ) → ControlWord s w → controlFits s w ≡ true
 unfolding controlFits
 control-fits s w (listed-event c m h e) =
     let l = listed (s .device) c m h in
-    let p = word-parts (s .device) c m (l .code) (l .mask) in
+    let p = word-parts s c m (l .code) (l .mask) in
     rw (e, p .code, p .mask)
     (either-right _ _ (either-right _ _
-    (true-both _ _ (eq-eqb (eventWord (s .device) c m) (eventWord (s .device) c m) refl) (described-passes s (Event c m noCounter) (event h (none-within s))))))
-control-fits s w (rsp-event i g l e) = either-right _ _ (either-left _ _ (rw e (rsp-filter (s .device) i g l)))
-control-fits s w (packet-event g e) = either-right _ _ (either-left _ _ (rw e (packet-filter (s .device) g)))
+    (true-both _ _ (eq-eqb (eventWord s c m) (eventWord s c m) refl) (described-passes s (Event c m noCounter) (event h (none-within s))))))
+control-fits s w (rsp-event i g l e) = either-right _ _ (either-left _ _ (rw e (rsp-filter (s .device) s i g l)))
+control-fits s w (packet-event g e) = either-right _ _ (either-left _ _ (rw e (packet-filter (s .device) s g)))
 
 pub zero-fits : (s : Setup) → controlFits s 0 ≡ true
 unfolding controlFits either
@@ -199,6 +200,15 @@ module _ (s : Setup) (v : RegisterValues) (within : Within s) (plan : LeavesValu
       ∙ global-left s (plan .requests) (plan .places) (plan .before)
       ∙ ap (lastGlobal s) (set-same (counterCount d) 0 (inList (counters (plan .places))) (λ k. not (eqb (wordAt us k) 0)) (λ k l. used (0 + k)))
 
+  -- the U-Box holds its last value where something is asked
+  ubox : uboxFits s (v .ubox) ≡ true
+  unfolding uboxFits either
+  ubox = go (asked s) refl
+    where
+      go : (b : Bool) → asked s ≡ b → either (not b) (eqb (v .ubox) (uboxValue s)) ≡ true
+      go true h = eq-eqb _ _ (plan .shown .ubox ∙ ubox-left s (plan .requests) (plan .places) (plan .before) h)
+      go false h = refl
+
   pub left-accepted : accepts s v ≡ true
   unfolding accepts
   left-accepted =
@@ -206,17 +216,17 @@ module _ (s : Setup) (v : RegisterValues) (within : Within s) (plan : LeavesValu
       (true-both _ _ (every-true (counterCount d) (λ k. controlFits s (wordAt us k))
       (λ k l. word-at (λ w. controlFits s w ≡ true) us k (zero-fits s) (all-imp (λ u w. control-fits s (u .1) w) words)))
       (true-both _ _ (eq-eqb _ _ global)
-      (filters-fit d s (plan .requests) (plan .places) (v .filters) plan-described (plan .legal) (filters .0))))
+      (true-both _ _ (filters-fit d s (plan .requests) (plan .places) (v .filters) plan-described (plan .legal) (filters .0)) ubox)))
 
   pub left-told : toldBy (readingOf s v) ≡ toldPlan s (plan .requests) (plan .places)
   unfolding toldBy readingOf toldPlan told
   left-told =
-      map-tabulate (λ (c : CounterRead). told (c .state)) capacity (λ k. cell (pick (has (s .usable) k) (tell d (v .filters) (ours s v k)) NotOurs))
-      ∙ tabulate-same capacity (λ k. told (pick (has (s .usable) k) (tell d (v .filters) (ours s v k)) NotOurs))
+      map-tabulate (λ (c : CounterRead). told (c .state)) capacity (λ k. cell (pick (has (s .usable) k) (tell s (v .filters) (ours s v k)) NotOurs))
+      ∙ tabulate-same capacity (λ k. told (pick (has (s .usable) k) (tell s (v .filters) (ours s v k)) NotOurs))
       (λ k. pick (has (s .usable) k) (toldAt (ofAll toldOf (plan .requests) (plan .places)) k) notOurs) (λ k l. go k (has (s .usable) k))
     where
-      go : (k : ℕ) (b : Bool) → told (pick b (tell d (v .filters) (ours s v k)) NotOurs) ≡ pick b (toldAt (ofAll toldOf (plan .requests) (plan .places)) k) notOurs
+      go : (k : ℕ) (b : Bool) → told (pick b (tell s (v .filters) (ours s v k)) NotOurs) ≡ pick b (toldAt (ofAll toldOf (plan .requests) (plan .places)) k) notOurs
       go k true =
-          ap (λ (f : ℕ → ℕ). told (tell d (v .filters) (f k))) ours-left
+          ap (λ (f : ℕ → ℕ). told (tell s (v .filters) (f k))) ours-left
           ∙ tell-plan d s (plan .requests) (plan .places) (v .filters) k plan-described (plan .legal .allowed) (filters .1)
       go k false = refl

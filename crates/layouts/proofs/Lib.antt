@@ -5,6 +5,7 @@ pub mod WordBits
 pub mod CounterSets
 pub mod ListedEvents
 pub mod DeviceFacts
+pub mod EnableBits
 pub mod RegistersAfter
 pub mod WriteByWrite
 pub mod GlobalValues
@@ -34,6 +35,7 @@ pub mod FoundValues
 pub mod ExactReader
 pub mod FixedEnables
 pub mod UsedEnabled
+pub mod UBox
 pub mod EmptyPlan
 pub mod Tabulated
 pub mod ToldPlaces

@@ -3,26 +3,33 @@ use mathlib.Core.Path.{_≡_, refl, sym, subst, _∙_}
 use mathlib.Core.Logic.{⊎-elim}
 use mathlib.Core.Bool.{Bool, true, false, true≢false}
 use mathlib.Core.List.{List, [], _∷_, List·Memᴰ, List·Memᴰ·head, List·Memᴰ·tail, List·Memᴰ·cases-cons, flatMap}
-use Prim.Native.Nat.{ℕ, _^_, _<_}
+use Prim.Native.Nat.{ℕ, _+_, _^_, _<_}
+use native.Mathlib.Nat.{add-zero}
 use native.Mathlib.Omega.{arith}
+use borrow.Author.Tests.{ltb-true}
+use lib.Dec.{eqb, ltb}
 use lib.ListN.{getD}
-use Rattle.requests.specs.Choice.{both, either, every}
+use Rattle.requests.specs.Choice.{both, either, every, pick}
 use Rattle.requests.specs.declared.Device.{Device}
 use Rattle.requests.specs.declared.Device.the-variants.{G, S, C}
+use Rattle.requests.specs.declared.Core.{Core}
+use Rattle.requests.specs.declared.Core.the-variants.{NoCore, At}
 use Rattle.requests.specs.declared.Setup.{Setup}
 use Rattle.requests.specs.declared.Request.{Request}
 use Rattle.requests.specs.declared.Request.the-variants.{Packet, Offcore}
-use Rattle.requests.specs.Bits.{bit, inList, onlyBits, outstanding, rsp0Bits, rsp1Bits, matchBits, maskBits}
+use Rattle.requests.specs.Bits.{bit, inList, onlyBits, outstanding, rsp0Bits, rsp1Bits, rising, field, matchBits, maskBits}
+use Rattle.requests.specs.Askings.{coreCount}
 use Rattle.requests.specs.Devices.{counterCount, capacity}
 use Rattle.requests.specs.WellFormedRequests.{Described, packet, offcore, latency}
+use Rattle.requests.proofs.Tests.{every-at}
 use Rattle.requests.proofs.WellFormed.{no-outstanding}
 use Rattle.plans.specs.declared.Place.{Place}
 use Rattle.plans.specs.Lists.{All, nil, cons, Each}
 use Rattle.plans.specs.Legal.{Allowed, Legal, wordsOf, packetsOf, ofAll}
 use Rattle.plans.proofs.Sets.{all-imp}
-use Rattle.layouts.specs.Layout.{tabulate, Register, registersOf, layoutOf, controlAt, counterAt, filtersAt, rsp0At, rsp1At, mmCfgAt, matchAt, maskAt, mmEnable, globalBits, controlBits}
+use Rattle.layouts.specs.Layout.{tabulate, Register, registersOf, layoutOf, controlAt, counterAt, filtersAt, rsp0At, rsp1At, mmCfgAt, matchAt, maskAt, uboxAt, mmEnable, frzAll, enAll, coreSel, uboxBits, globalBits, controlBits}
 use Rattle.layouts.specs.Settings.{usesOf, wordAt, headOr, nonempty, settingsOf}
-use Rattle.layouts.specs.Writes.{Write, firstGlobal, lastGlobal, offcoreWrites, packetWrites, filterWrites, writes}
+use Rattle.layouts.specs.Writes.{Write, firstGlobal, lastGlobal, offcoreWrites, packetWrites, filterWrites, coreBit, uboxValue, writes}
 use Rattle.layouts.specs.Read.{noCounter}
 use Rattle.layouts.specs.NoReservedBit.{Clean, AsksOutstanding, NoReservedBit}
 use Rattle.layouts.proofs.UsableSets.{on}
@@ -30,7 +37,7 @@ use Rattle.layouts.proofs.ListLaws.{all-member, all-head, tabulate-memb
 use Rattle.layouts.proofs.Tabulated.{getD-tabulate}
 use Rattle.layouts.proofs.WordBits.{bit-zero, zero-only}
 use Rattle.layouts.proofs.DeviceFacts.{in-room, apart}
-use Rattle.layouts.proofs.RegistersAfter.{writes-all}
+use Rattle.layouts.proofs.RegistersAfter.{box-all, writes-all}
 use Rattle.layouts.proofs.GlobalValues.{first-permitted, last-permitted}
 use Rattle.layouts.proofs.ControlWords.{word-clean, plan-words, word-at}
 use Rattle.layouts.proofs.OffcoreWords.{offcore-clean, first-clean}
@@ -53,10 +60,10 @@ filter-among S =
 filter-among (C b) = nil
 
 -- what holds of each of them
-registers-all : (d : Device) (P : Register → Type 0) → P (layoutOf d .global, globalBits d) → All P (filterRegisters d)
+registers-all : (d : Device) (P : Register → Type 0) → P (layoutOf d .global, globalBits d) → All P (filterRegisters d) → P (uboxAt, uboxBits)
     → ((k : ℕ) → k < counterCount d → P (controlAt d k, controlBits d)) → (r : Register) → List·Memᴰ r (registersOf d) → P r
 unfolding registersOf filterRegisters
-registers-all d P global filters controls r m = go d global filters controls m
+registers-all d P global filters ubox controls r m = go d global filters controls m
   where
     control-among : (d : Device) → ((k : ℕ) → k < counterCount d → P (controlAt d k, controlBits d)) → List·Memᴰ r (tabulate (counterCount d) (λ k. (controlAt d k, controlBits d))) → P r
     control-among d controls m = let t = tabulate-member (counterCount d) (λ k. (controlAt d k, controlBits d)) r m in subst P (sym (t .2)) (controls (t .0) (t .1))
@@ -69,10 +76,12 @@ registers-all d P global filters controls r m = go d global filters controls m
     go S global (cons f0 (cons f1 (cons f2 nil))) controls m =
         ⊎-elim (λ e. subst P (sym e) global)
         (λ m1. ⊎-elim (λ e. subst P (sym e) f0)
-        (λ m2. ⊎-elim (λ e. subst P (sym e) f1) (λ m3. ⊎-elim (λ e. subst P (sym e) f2) (λ m4. control-among S controls m4) (List·Memᴰ·cases-cons m3)) (List·Memᴰ·cases-cons m2))
+        (λ m2. ⊎-elim (λ e. subst P (sym e) f1) (λ m3. ⊎-elim (λ e. subst P (sym e) f2)
+        (λ m4. ⊎-elim (λ e. subst P (sym e) ubox) (λ m5. control-among S controls m5) (List·Memᴰ·cases-cons m4)) (List·Memᴰ·cases-cons m3)) (List·Memᴰ·cases-cons m2))
         (List·Memᴰ·cases-cons m1))
         (List·Memᴰ·cases-cons m)
-    go (C b) global nil controls m = ⊎-elim (λ e. subst P (sym e) global) (λ m1. control-among (C b) controls m1) (List·Memᴰ·cases-cons m)
+    go (C b) global nil controls m =
+        ⊎-elim (λ e. subst P (sym e) global) (λ m1. ⊎-elim (λ e. subst P (sym e) ubox) (λ m2. control-among (C b) controls m2) (List·Memᴰ·cases-cons m1)) (List·Memᴰ·cases-cons m)
 
 -- ---- writes
 
@@ -85,6 +94,7 @@ global-clean s v h =
     registers-all d (λ r. layoutOf d .global ≡ r .0 → onlyBits (r .1) v ≡ true)
     (λ e. h)
     (all-imp (λ r m e. absurd (all-member (apart d .filter-global) m (sym e))) (filter-among d))
+    (λ e. absurd (apart d .ubox-global (sym e)))
     (λ k l e. absurd (apart d .global-control k (in-room d k l) e))
 
 control-clean : (s : Setup) (k w : ℕ) → k < counterCount (s .device) → onlyBits (controlBits (s .device)) w ≡ true → Clean s (controlAt (s .device) k, w)
@@ -93,6 +103,7 @@ control-clean s k w l h =
     registers-all d (λ r. controlAt d k ≡ r .0 → onlyBits (r .1) w ≡ true)
     (λ e. absurd (apart d .global-control k (in-room d k l) (sym e)))
     (all-imp (λ r m e. absurd (all-member (apart d .filter-control k (in-room d k l)) m (sym e))) (filter-among d))
+    (λ e. absurd (apart d .ubox-control k (in-room d k l) (sym e)))
     (λ j b e. h)
 
 -- a write of a filter register, seen by the filter registers alone
@@ -102,7 +113,43 @@ filter-clean s a w m h =
     registers-all d (λ r. a ≡ r .0 → onlyBits (r .1) w ≡ true)
     (λ e. absurd (all-member (apart d .filter-global) m e))
     h
+    (λ e. absurd (all-member (apart d .ubox-filter) m e))
     (λ k l e. absurd (all-member (apart d .filter-control k (in-room d k l)) m e))
+
+-- ---- the U-Box
+
+ubox-write-clean : (s : Setup) (v : ℕ) → onlyBits uboxBits v ≡ true → Clean s (uboxAt, v)
+ubox-write-clean s v h =
+    let d = s .device in
+    registers-all d (λ r. uboxAt ≡ r .0 → onlyBits (r .1) v ≡ true)
+    (λ e. absurd (apart d .ubox-global e))
+    (all-imp (λ r m e. absurd (all-member (apart d .ubox-filter) m (sym e))) (filter-among d))
+    (λ e. h)
+    (λ k l e. absurd (apart d .ubox-control k (in-room d k l) e))
+
+-- en_all, with frz_all or without, and with the bit of a core or none
+plain-clean : (off : Bool) → onlyBits uboxBits (2 ^ 28 + pick off 0 (2 ^ 31)) ≡ true
+unfolding uboxBits field rising onlyBits both every either bit inList
+plain-clean true = refl
+plain-clean false = refl
+
+cores-clean : (off : Bool) → every 8 (λ c. onlyBits uboxBits (2 ^ 28 + pick off 0 (2 ^ 31) + 2 ^ (1 + c))) ≡ true
+unfolding uboxBits field rising onlyBits both every either bit inList
+cores-clean true = refl
+cores-clean false = refl
+
+core-clean : (off : Bool) (c : Core) → onlyBits uboxBits (2 ^ 28 + pick off 0 (2 ^ 31) + coreBit c) ≡ true
+unfolding coreBit coreCount coreSel
+core-clean off NoCore = rw (add-zero (2 ^ 28 + pick off 0 (2 ^ 31))) (plain-clean off)
+core-clean off (At c) = go (ltb c 8) refl
+  where
+    go : (b : Bool) → ltb c 8 ≡ b → onlyBits uboxBits (2 ^ 28 + pick off 0 (2 ^ 31) + pick b (2 ^ (1 + c)) 0) ≡ true
+    go true h = every-at 8 (λ c. onlyBits uboxBits (2 ^ 28 + pick off 0 (2 ^ 31) + 2 ^ (1 + c))) (cores-clean off) c (ltb-true c 8 h)
+    go false h = rw (add-zero (2 ^ 28 + pick off 0 (2 ^ 31))) (plain-clean off)
+
+ubox-clean : (s : Setup) → onlyBits uboxBits (uboxValue s) ≡ true
+unfolding uboxValue enAll frzAll
+ubox-clean s = core-clean (eqb (s .overflow .freeze) 0) (s .overflow .core)
 
 -- ---- the filter writes of a plan
 
@@ -134,7 +181,7 @@ packets-clean u (p ∷ ps) (cons h hs) =
 packets-clean u [] nil = cons (zero-clean (on S u) mmCfgAt) nil
 
 filters-clean : (d : Device) (u : Setup) (rs : List Request) (ps : List Place) → All (Described (on d u)) rs → Each Allowed rs ps
-    → All (Clean (on d u)) (filterWrites d (settingsOf d rs ps))
+    → All (Clean (on d u)) (filterWrites d (settingsOf (on d u) rs ps))
 unfolding filterWrites offcoreWrites settingsOf filterRegisters filtersAt rsp0At rsp1At
 filters-clean G u rs ps f h =
     let first : onlyBits rsp0Bits (headOr 0 (ofAll (wordsOf 0) rs ps)) ≡ true =
@@ -153,8 +200,9 @@ module _ (s : Setup) (rs : List Request) (ps : List Place) (described : All (Des
   unfolding writes settingsOf
   clean =
       let d = s .device in
-      let us = ofAll (usesOf (s .device)) rs ps in
-      writes-all s (settingsOf d rs ps) (Clean s)
+      let us = ofAll (usesOf s) rs ps in
+      writes-all s (settingsOf s rs ps) (Clean s) (λ h. (zero-clean s uboxAt, ubox-write-clean s (uboxValue s) (ubox-clean s)))
+      (box-all s (settingsOf s rs ps) (Clean s)
       (global-clean s (firstGlobal s) (first-permitted s))
       (λ k l h. zero-clean s (controlAt d k))
       (filters-clean d s rs ps described (legal .allowed))
@@ -162,7 +210,7 @@ module _ (s : Setup) (rs : List Request) (ps : List Place) (described : All (Des
       (λ k l h. control-clean s k (getD (tabulate capacity (wordAt us)) k 0) l
       (rw (getD-tabulate capacity (wordAt us) k 0 (in-room d k l))
       (word-at (λ w. onlyBits (controlBits d) w ≡ true) us k (zero-only (controlBits d)) (all-imp (λ x w. word-clean s (x .1) w) (plan-words s described (legal .allowed))))))
-      (global-clean s (lastGlobal s (settingsOf d rs ps .used .0)) (last-permitted s rs ps legal))
+      (global-clean s (lastGlobal s (settingsOf s rs ps .used .0)) (last-permitted s rs ps legal)))
 
 -- a word of RSP0 with bit 38 is a latency request's
 first-latency : (s : Setup) (rs : List Request) (w : ℕ) → FirstWord s rs w → bit outstanding w ≡ true → AsksOutstanding rs w
@@ -170,7 +218,7 @@ first-latency s rs w (offcore-word (offcore g h t o c)) held = absurd (true≢fa
 first-latency s rs w (latency-word t a b m h e) held = (t, a, b, m, e)
 
 latency-writes : (d : Device) (u : Setup) (rs : List Request) (ps : List Place) → d ≡ G → All (Described (on d u)) rs → Each Allowed rs ps
-    → All (λ (w : Write). w .0 ≡ rsp0At → bit outstanding (w .1) ≡ true → AsksOutstanding rs (w .1)) (filterWrites d (settingsOf d rs ps))
+    → All (λ (w : Write). w .0 ≡ rsp0At → bit outstanding (w .1) ≡ true → AsksOutstanding rs (w .1)) (filterWrites d (settingsOf (on d u) rs ps))
 unfolding filterWrites offcoreWrites settingsOf rsp0At rsp1At
 latency-writes G u rs ps g f h =
     let first : bit outstanding (headOr 0 (ofAll (wordsOf 0) rs ps)) ≡ true → AsksOutstanding rs (headOr 0 (ofAll (wordsOf 0) rs ps)) =
@@ -191,13 +239,15 @@ latency-only s rs ps w g described legal m held =
     let d = s .device in
     let filter : List·Memᴰ rsp0At (filtersAt d) = subst (λ (x : Device). List·Memᴰ rsp0At (filtersAt x)) (sym g) rsp0-filter in
     all-member
-    (writes-all s (settingsOf d rs ps) (λ x. x .0 ≡ rsp0At → bit outstanding (x .1) ≡ true → AsksOutstanding rs (x .1))
+    (writes-all s (settingsOf s rs ps) (λ x. x .0 ≡ rsp0At → bit outstanding (x .1) ≡ true → AsksOutstanding rs (x .1))
+    (λ h. (λ e. absurd (all-member (apart d .ubox-filter) filter (sym e)), λ e. absurd (all-member (apart d .ubox-filter) filter (sym e))))
+    (box-all s (settingsOf s rs ps) (λ x. x .0 ≡ rsp0At → bit outstanding (x .1) ≡ true → AsksOutstanding rs (x .1))
     (λ e. absurd (all-member (apart d .filter-global) filter (sym e)))
     (λ k l h e. absurd (all-member (apart d .filter-control k (in-room d k l)) filter (sym e)))
     (latency-writes d s rs ps g described (legal .allowed))
     (λ k l h e. absurd (all-member (apart d .filter-counter k (in-room d k l)) filter (sym e)))
     (λ k l h e. absurd (all-member (apart d .filter-control k (in-room d k l)) filter (sym e)))
-    (λ e. absurd (all-member (apart d .filter-global) filter (sym e))))
+    (λ e. absurd (all-member (apart d .filter-global) filter (sym e)))))
     m refl held
 
 pub no-reserved-bit : NoReservedBit

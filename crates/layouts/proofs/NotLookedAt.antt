@@ -1,5 +1,5 @@
 -- The reader's answer depends on nothing that it does not look at: `NotLookedAt`. Assumes nothing.
-use mathlib.Core.Path.{_≡_, refl, sym, ap, _∙_, fun-ext}
+use mathlib.Core.Path.{_≡_, refl, sym, ap, ap₂, _∙_, fun-ext}
 use mathlib.Core.Logic.{_⊎_, inl, inr, ⊎-elim}
 use mathlib.Core.Bool.{Bool, true, false, not}
 use mathlib.Core.Option.{some}
@@ -10,7 +10,8 @@ use native.Mathlib.Omega.{arith}
 use borrow.Author.Tests.{eqb-true, ne-eqb}
 use lib.Dec.{eqb}
 use lib.ListN.{getD}
-use Rattle.requests.specs.Choice.{both, every, pick}
+use Rattle.requests.specs.Choice.{both, either, every, pick}
+use Rattle.requests.specs.Askings.{asked}
 use Rattle.requests.specs.declared.Device.{Device}
 use Rattle.requests.specs.declared.Device.the-variants.{G, S, C}
 use Rattle.requests.specs.declared.Opening.{Opening}
@@ -20,8 +21,8 @@ use Rattle.requests.specs.Devices.{has, counterCount, capacity, setupOf}
 use Rattle.requests.proofs.Tests.{both-parts}
 use Rattle.layouts.specs.Layout.{tabulate, mmEnable, packetWord}
 use Rattle.layouts.specs.Settings.{setFrom}
-use Rattle.layouts.specs.Writes.{lastGlobal}
-use Rattle.layouts.specs.Read.{ours, count, controlFits, packetsFit, filtersFit, accepts, filterOf, tell, cell, readingOf, readOf}
+use Rattle.layouts.specs.Writes.{lastGlobal, uboxValue}
+use Rattle.layouts.specs.Read.{ours, count, controlFits, packetsFit, filtersFit, uboxFits, accepts, filterOf, tell, cell, readingOf, readOf}
 use Rattle.layouts.specs.NotLookedAt.{SameFilters, SameLookedAt, NotLookedAt}
 use Rattle.layouts.specs.declared.CounterState.the-variants.{NotOurs}
 use Rattle.layouts.specs.declared.FilterValues.{FilterValues}
@@ -47,43 +48,43 @@ unfolding filtersFit packetsFit
 filters-fit G u f v w h = rw (h .0, h .1)
 filters-fit S u f v w h = ⊎-elim off (λ e. rw (h .0, e .0, e .1)) (h .1)
   where
-    off : v .«mm_cfg» ≡ 0 → packetsFit (on S u) (count (counterCount S) f (packetWord S)) v ≡ packetsFit (on S u) (count (counterCount S) f (packetWord S)) w
+    off : v .«mm_cfg» ≡ 0 → packetsFit (on S u) (count (counterCount S) f (packetWord (on S u))) v ≡ packetsFit (on S u) (count (counterCount S) f (packetWord (on S u))) w
     off z =
-        let n = count (counterCount S) f (packetWord S) in
+        let n = count (counterCount S) f (packetWord (on S u)) in
         packets-off (on S u) n v z ∙ sym (packets-off (on S u) n w (sym (h .0) ∙ z))
 filters-fit (C b) u f v w h = refl
 
 -- where MM_CFG is 0 and fits, no counter counts packets
-no-packets : (u : Setup) (f : ℕ → ℕ) (v : FilterValues) → filtersFit (on S u) f v ≡ true → v .«mm_cfg» ≡ 0 → count (counterCount S) f (packetWord S) ≡ 0
+no-packets : (u : Setup) (f : ℕ → ℕ) (v : FilterValues) → filtersFit (on S u) f v ≡ true → v .«mm_cfg» ≡ 0 → count (counterCount S) f (packetWord (on S u)) ≡ 0
 unfolding filtersFit packetsFit mmEnable
 no-packets u f v h e =
-    elim (ℕ-discrete (count (counterCount S) f (packetWord S)) 0) [
+    elim (ℕ-discrete (count (counterCount S) f (packetWord (on S u))) 0) [
       | yes z ↦ z
       | no o ↦
-          let enabled : v .«mm_cfg» ≡ 2 ^ 63 = eqb-true _ _ (both-parts _ _ (rw (ne-eqb (count (counterCount S) f (packetWord S)) 0 o) at h) .0) in
+          let enabled : v .«mm_cfg» ≡ 2 ^ 63 = eqb-true _ _ (both-parts _ _ (rw (ne-eqb (count (counterCount S) f (packetWord (on S u))) 0 o) at h) .0) in
           absurd (omega arith)
     ]
 
 tell-same : (d : Device) (u : Setup) (f : ℕ → ℕ) (v w : FilterValues) (k : ℕ) → filtersFit (on d u) f v ≡ true → SameFilters d v w → k < counterCount d
-    → tell d v (f k) ≡ tell d w (f k)
+    → tell (on d u) v (f k) ≡ tell (on d u) w (f k)
 unfolding tell filterOf
 tell-same G u f v w k a h l = rw (h .0, h .1)
 tell-same S u f v w k a h l = go (h .1)
   where
-    go : (v .«mm_cfg» ≡ 0) ⊎ ((v .«match_word» ≡ w .«match_word») × (v .«mask_word» ≡ w .«mask_word»)) → tell S v (f k) ≡ tell S w (f k)
-    go (inl z) = rw (ne-eqb (f k) (packetWord S) (λ e. count-zero (counterCount S) k (packetWord S) f (no-packets u f v a z) l e))
+    go : (v .«mm_cfg» ≡ 0) ⊎ ((v .«match_word» ≡ w .«match_word») × (v .«mask_word» ≡ w .«mask_word»)) → tell (on S u) v (f k) ≡ tell (on S u) w (f k)
+    go (inl z) = rw (ne-eqb (f k) (packetWord (on S u)) (λ e. count-zero (counterCount S) k (packetWord (on S u)) f (no-packets u f v a z) l e))
     go (inr e) = rw (e .0, e .1)
 tell-same (C b) u f v w k a h l = refl
 
 -- the test, given the control values that are looked at
-abbrev test : Setup → (ℕ → ℕ) → ℕ → FilterValues → Bool
-test s f g v =
+abbrev test : Setup → (ℕ → ℕ) → ℕ → Bool → Bool → Bool
+test s f g filters ubox =
     let n = counterCount (s .device) in
-    both (every n (λ k. controlFits s (f k))) (both (eqb g (lastGlobal s (setFrom n 0 (λ k. not (eqb (f k) 0))))) (filtersFit s f v))
+    both (every n (λ k. controlFits s (f k))) (both (eqb g (lastGlobal s (setFrom n 0 (λ k. not (eqb (f k) 0))))) (both filters ubox))
 
 -- the reading, given the control values that are looked at
 abbrev answer : Setup → (ℕ → ℕ) → FilterValues → Reading
-answer s f v = record { answer = Accepted; counters = tabulate capacity (λ k. cell (pick (has (s .usable) k) (tell (s .device) v (f k)) NotOurs)) }
+answer s f v = record { answer = Accepted; counters = tabulate capacity (λ k. cell (pick (has (s .usable) k) (tell s v (f k)) NotOurs)) }
 
 module _ (o : Opening) (s : Setup) (v w : RegisterValues) (opened : setupOf o ≡ some s) (same : SameLookedAt s v w) where
   ours-same : ours s v ≡ ours s w
@@ -94,27 +95,33 @@ module _ (o : Opening) (s : Setup) (v w : RegisterValues) (opened : setupOf o �
       go k true h = same .control k (usable-counter s k (usable-within o s opened) h, h)
       go k false h = refl
 
+  ubox-same : uboxFits s (v .ubox) ≡ uboxFits s (w .ubox)
+  unfolding uboxFits either
+  ubox-same = go (asked s) refl
+    where
+      go : (b : Bool) → asked s ≡ b → either (not b) (eqb (v .ubox) (uboxValue s)) ≡ either (not b) (eqb (w .ubox) (uboxValue s))
+      go true h = rw (same .ubox h)
+      go false h = refl
+
   accepts-same : accepts s v ≡ accepts s w
   unfolding accepts
   accepts-same =
-      ap (λ (f : ℕ → ℕ). test s f (v .global) (v .filters)) ours-same
-      ∙ ap (λ (g : ℕ). test s (ours s w) g (v .filters)) (same .global)
-      ∙ ap (λ (b : Bool). both (every (counterCount (s .device)) (λ k. controlFits s (ours s w k)))
-      (both (eqb (w .global) (lastGlobal s (setFrom (counterCount (s .device)) 0 (λ k. not (eqb (ours s w k) 0))))) b))
-      (filters-fit (s .device) s (ours s w) (v .filters) (w .filters) (same .filters))
+      ap (λ (f : ℕ → ℕ). test s f (v .global) (filtersFit s f (v .filters)) (uboxFits s (v .ubox))) ours-same
+      ∙ ap (λ (g : ℕ). test s (ours s w) g (filtersFit s (ours s w) (v .filters)) (uboxFits s (v .ubox))) (same .global)
+      ∙ ap₂ (λ (b c : Bool). test s (ours s w) (w .global) b c) (filters-fit (s .device) s (ours s w) (v .filters) (w .filters) (same .filters)) ubox-same
 
   reading-same : accepts s v ≡ true → readingOf s v ≡ readingOf s w
   unfolding accepts readingOf
   reading-same h =
-      let fit : filtersFit s (ours s v) (v .filters) ≡ true = both-parts _ _ (both-parts _ _ h .1) .1 in
+      let fit : filtersFit s (ours s v) (v .filters) ≡ true = both-parts _ _ (both-parts _ _ (both-parts _ _ h .1) .1) .0 in
       ap (λ (cs : List CounterRead). record { answer = Accepted; counters = cs })
-      (tabulate-same capacity (λ k. cell (pick (has (s .usable) k) (tell (s .device) (v .filters) (ours s v k)) NotOurs))
-      (λ k. cell (pick (has (s .usable) k) (tell (s .device) (w .filters) (ours s v k)) NotOurs))
+      (tabulate-same capacity (λ k. cell (pick (has (s .usable) k) (tell s (v .filters) (ours s v k)) NotOurs))
+      (λ k. cell (pick (has (s .usable) k) (tell s (w .filters) (ours s v k)) NotOurs))
       (λ k l. go k fit (has (s .usable) k) refl))
       ∙ ap (λ (f : ℕ → ℕ). answer s f (w .filters)) ours-same
     where
       go : (k : ℕ) → filtersFit s (ours s v) (v .filters) ≡ true → (b : Bool) → has (s .usable) k ≡ b
-          → cell (pick b (tell (s .device) (v .filters) (ours s v k)) NotOurs) ≡ cell (pick b (tell (s .device) (w .filters) (ours s v k)) NotOurs)
+          → cell (pick b (tell s (v .filters) (ours s v k)) NotOurs) ≡ cell (pick b (tell s (w .filters) (ours s v k)) NotOurs)
       go k fit true h = ap cell (tell-same (s .device) s (ours s v) (v .filters) (w .filters) k fit (same .filters) (usable-counter s k (usable-within o s opened) h))
       go k fit false h = refl
 

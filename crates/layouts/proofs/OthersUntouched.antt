@@ -16,10 +16,10 @@ use Rattle.plans.proofs.Sets.{all-imp}
 use Rattle.layouts.specs.Layout.{layoutOf}
 use Rattle.layouts.specs.Settings.{settingsOf}
 use Rattle.layouts.specs.Writes.{firstGlobal, lastGlobal, writes, apply}
-use Rattle.layouts.specs.OthersUntouched.{Ours, global, filter, control, counter, OthersUntouched}
+use Rattle.layouts.specs.OthersUntouched.{Ours, global, filter, control, counter, ubox, OthersUntouched}
 use Rattle.layouts.proofs.ListLaws.{all-member}
 use Rattle.layouts.proofs.DeviceFacts.{in-room, apart}
-use Rattle.layouts.proofs.RegistersAfter.{apply-after, after-other, filter-addresses, writes-all}
+use Rattle.layouts.proofs.RegistersAfter.{apply-after, after-other, filter-addresses, box-all, writes-all}
 use Rattle.layouts.proofs.GlobalValues.{used-usable, first-bit, first-fixed, last-bit, last-fixed}
 
 kept : (s : Setup) (rs : List Request) (ps : List Place) → Legal s rs ps
@@ -29,28 +29,31 @@ kept s rs ps legal registers a others =
     apply-after (writes s rs ps) registers a
     ∙ after-other a (registers a)
     (all-imp (λ w o e. others (subst (Ours s) e o))
-    (writes-all s (settingsOf (s .device) rs ps) (λ w. Ours s (w .0))
+    (writes-all s (settingsOf s rs ps) (λ w. Ours s (w .0)) (λ h. (ubox h, ubox h))
+    (box-all s (settingsOf s rs ps) (λ w. Ours s (w .0))
     global
     (λ k l h. control (l, h))
-    (all-imp (λ w m. filter m) (filter-addresses (s .device) (settingsOf (s .device) rs ps)))
+    (all-imp (λ w m. filter m) (filter-addresses (s .device) (settingsOf s rs ps)))
     (λ k l h. counter (used-usable s rs ps legal k l h))
     (λ k l h. control (used-usable s rs ps legal k l h))
-    global))
+    global)))
 
 -- what holds of both values of the global register holds of each that the list writes to it
-pub global-all : (s : Setup) (rs : List Request) (ps : List Place) (P : ℕ → Type 0) → P (firstGlobal s) → P (lastGlobal s (settingsOf (s .device) rs ps .used .0))
+pub global-all : (s : Setup) (rs : List Request) (ps : List Place) (P : ℕ → Type 0) → P (firstGlobal s) → P (lastGlobal s (settingsOf s rs ps .used .0))
     → (v : ℕ) → List·Memᴰ (layoutOf (s .device) .global, v) (writes s rs ps) → P v
 unfolding writes
 global-all s rs ps P first last v m =
     let d = s .device in
     all-member
-    (writes-all s (settingsOf d rs ps) (λ w. w .0 ≡ layoutOf d .global → P (w .1))
+    (writes-all s (settingsOf s rs ps) (λ w. w .0 ≡ layoutOf d .global → P (w .1))
+    (λ h. (λ e. absurd (apart d .ubox-global e), λ e. absurd (apart d .ubox-global e)))
+    (box-all s (settingsOf s rs ps) (λ w. w .0 ≡ layoutOf d .global → P (w .1))
     (λ e. first)
     (λ j b g e. absurd (apart d .global-control j (in-room d j b) (sym e)))
-    (all-imp (λ w a e. absurd (all-member (apart d .filter-global) a e)) (filter-addresses d (settingsOf d rs ps)))
+    (all-imp (λ w a e. absurd (all-member (apart d .filter-global) a e)) (filter-addresses d (settingsOf s rs ps)))
     (λ j b g e. absurd (apart d .global-counter j (in-room d j b) (sym e)))
     (λ j b g e. absurd (apart d .global-control j (in-room d j b) (sym e)))
-    (λ e. last))
+    (λ e. last)))
     m refl
 
 enabled : (s : Setup) (rs : List Request) (ps : List Place) → Legal s rs ps

@@ -11,13 +11,14 @@ use native.Mathlib.Omega.{arith}
 use borrow.Author.Tests.{eq-eqb, ne-eqb, le-leb}
 use lib.Dec.{eqb}
 use lib.ListN.{length}
-use Rattle.requests.specs.Choice.{pick}
+use Rattle.requests.specs.Choice.{both, pick}
 use Rattle.requests.specs.declared.CounterSet.{CounterSet}
 use Rattle.requests.specs.declared.Device.{Device}
 use Rattle.requests.specs.declared.Device.the-variants.{G, S, C}
 use Rattle.requests.specs.declared.Setup.{Setup}
 use Rattle.requests.specs.declared.Request.{Request}
 use Rattle.requests.specs.declared.Request.the-variants.{Packet, Offcore, Latency}
+use Rattle.requests.specs.Askings.{overflowOn, asked}
 use Rattle.requests.specs.Bits.{bit, anyResponse, outstanding, latencyWord}
 use Rattle.requests.specs.Catalogue.{eventsOf, pairIn}
 use Rattle.requests.specs.WellFormedRequests.{Described, event, packet, offcore, latency}
@@ -28,7 +29,7 @@ use Rattle.plans.specs.Lists.{All, nil, cons, Each, none, and}
 use Rattle.plans.specs.Places.{second}
 use Rattle.plans.specs.Legal.{Allowed, Legal, wordsOf, packetsOf, ofAll}
 use Rattle.plans.specs.Legal as plans
-use Rattle.layouts.specs.Layout.{eventWord, enabled, codeOf, offcoreCode, rspMask, rspWord, packetWord, mmEnable}
+use Rattle.layouts.specs.Layout.{eventWord, enabled, enabledOn, codeOf, offcoreCode, rspMask, rspWord, packetWord, mmEnable}
 use Rattle.layouts.specs.Settings.{usesOf, wordAt, headOr, nonempty}
 use Rattle.layouts.specs.Read.{noCounter, rsp0Fits, rsp1Fits, latencyFits, packetsFit, filtersFit}
 use Rattle.layouts.specs.declared.FilterValues.{FilterValues}
@@ -55,70 +56,70 @@ c-not-s b e = let z : _≡_ {A = ℕ} 0 1 = cc in omega arith
 -- ---- control words of filter events
 
 -- no listed event has the control word of a filter event
-pub event-not-rsp : (c m i : ℕ) → pairIn (eventsOf G) c m ≡ true → eventWord G c m ≡ rspWord G i → ⊥
+pub event-not-rsp : (u : Setup) (c m i : ℕ) → pairIn (eventsOf G) c m ≡ true → eventWord (on G u) c m ≡ rspWord (on G u) i → ⊥
 unfolding filterCode rspWord offcoreCode rspMask
-event-not-rsp c m i h e =
+event-not-rsp u c m i h e =
     let l = listed G c m h in
-    l .other (sym (word-parts G c m (l .code) (l .mask) .code) ∙ ap codeOf e ∙ go (eqb i 0))
+    l .other (sym (word-parts (on G u) c m (l .code) (l .mask) .code) ∙ ap codeOf e ∙ go (eqb i 0))
   where
-    go : (b : Bool) → codeOf (eventWord G 0xB7 (pick b 1 2)) ≡ 0xB7
-    go true = word-parts G 0xB7 1 (omega arith) (omega arith) .code
-    go false = word-parts G 0xB7 2 (omega arith) (omega arith) .code
+    go : (b : Bool) → codeOf (eventWord (on G u) 0xB7 (pick b 1 2)) ≡ 0xB7
+    go true = word-parts (on G u) 0xB7 1 (omega arith) (omega arith) .code
+    go false = word-parts (on G u) 0xB7 2 (omega arith) (omega arith) .code
 
-pub event-not-packet : (c m : ℕ) → pairIn (eventsOf S) c m ≡ true → eventWord S c m ≡ packetWord S → ⊥
+pub event-not-packet : (u : Setup) (c m : ℕ) → pairIn (eventsOf S) c m ≡ true → eventWord (on S u) c m ≡ packetWord (on S u) → ⊥
 unfolding filterCode packetWord
-event-not-packet c m h e =
+event-not-packet u c m h e =
     let l = listed S c m h in
-    l .other (sym (word-parts S c m (l .code) (l .mask) .code) ∙ ap codeOf e ∙ word-parts S 0 0 (omega arith) (omega arith) .code)
+    l .other (sym (word-parts (on S u) c m (l .code) (l .mask) .code) ∙ ap codeOf e ∙ word-parts (on S u) 0 0 (omega arith) (omega arith) .code)
 
-rsp-same : (i j : ℕ) → i < 2 → j < 2 → eqb (rspWord G j) (rspWord G i) ≡ eqb j i
-unfolding rspWord eventWord enabled offcoreCode rspMask
-rsp-same zero zero l k = refl
-rsp-same zero (suc zero) l k = refl
-rsp-same (suc zero) zero l k = refl
-rsp-same (suc zero) (suc zero) l k = refl
-rsp-same (suc (suc i)) j l k = absurd (omega arith)
-rsp-same zero (suc (suc j)) l k = absurd (omega arith)
-rsp-same (suc zero) (suc (suc j)) l k = absurd (omega arith)
+rsp-same : (u : Setup) (i j : ℕ) → i < 2 → j < 2 → eqb (rspWord (on G u) j) (rspWord (on G u) i) ≡ eqb j i
+unfolding rspWord eventWord enabled enabledOn asked overflowOn both offcoreCode rspMask
+rsp-same u zero zero l k = refl
+rsp-same u zero (suc zero) l k = refl
+rsp-same u (suc zero) zero l k = refl
+rsp-same u (suc zero) (suc zero) l k = refl
+rsp-same u (suc (suc i)) j l k = absurd (omega arith)
+rsp-same u zero (suc (suc j)) l k = absurd (omega arith)
+rsp-same u (suc zero) (suc (suc j)) l k = absurd (omega arith)
 
-pub rsp-some : (i : ℕ) → rspWord G i ≡ 0 → ⊥
-unfolding rspWord eventWord enabled
-rsp-some i e = omega arith
+pub rsp-some : (u : Setup) (i : ℕ) → rspWord (on G u) i ≡ 0 → ⊥
+unfolding rspWord eventWord enabled enabledOn
+rsp-some u i e = omega arith
 
-pub packet-some : packetWord S ≡ 0 → ⊥
-unfolding packetWord eventWord enabled
-packet-some e = omega arith
+pub packet-some : (u : Setup) → packetWord (on S u) ≡ 0 → ⊥
+unfolding packetWord eventWord enabled enabledOn
+packet-some u e = omega arith
 
 -- a latency request has one counter on each RSP register
-latency-hits : (i : ℕ) → i < 2 → pick (eqb (rspWord G 1) (rspWord G i)) 1 0 + pick (eqb (rspWord G 0) (rspWord G i)) 1 0 ≡ 1
-unfolding rspWord eventWord enabled offcoreCode rspMask
-latency-hits zero l = refl
-latency-hits (suc zero) l = refl
-latency-hits (suc (suc i)) l = absurd (omega arith)
+latency-hits : (u : Setup) (i : ℕ) → i < 2 → pick (eqb (rspWord (on G u) 1) (rspWord (on G u) i)) 1 0 + pick (eqb (rspWord (on G u) 0) (rspWord (on G u) i)) 1 0 ≡ 1
+unfolding rspWord eventWord enabled enabledOn asked overflowOn both offcoreCode rspMask
+latency-hits u zero l = refl
+latency-hits u (suc zero) l = refl
+latency-hits u (suc (suc i)) l = absurd (omega arith)
 
 module _ (u : Setup) where
   pub rsp-hits : (i : ℕ) → i < 2 → {rs : List Request} {ps : List Place} → All (Described (on G u)) rs → Each Allowed rs ps
-      → hits (rspWord G i) (ofAll (usesOf G) rs ps) ≡ length (ofAll (wordsOf i) rs ps)
+      → hits (rspWord (on G u) i) (ofAll (usesOf (on G u)) rs ps) ≡ length (ofAll (wordsOf i) rs ps)
   unfolding hits ofAll usesOf wordsOf second
   rsp-hits i l nil none = refl
   rsp-hits i l (cons (event {c = c} {m = m} h a) fs) (and (plans.event b) es) =
-      rw (ne-eqb (eventWord G c m) (rspWord G i) (event-not-rsp c m i h)) (omega (arith, rsp-hits i l fs es))
+      rw (ne-eqb (eventWord (on G u) c m) (rspWord (on G u) i) (event-not-rsp u c m i h)) (omega (arith, rsp-hits i l fs es))
   rsp-hits i l (cons (packet g x y a) fs) (and (plans.packet b) es) = absurd (devices-differ g)
   rsp-hits i l (cons (offcore {w = w} g h t o c) fs) (and {s = rs} {t = ps} (plans.offcore {i = j} b k) es) =
-      rw (rsp-same i j l k) (go (eqb j i) (ofAll (wordsOf i) rs ps) (rsp-hits i l fs es))
+      rw (rsp-same u i j l k) (go (eqb j i) (ofAll (wordsOf i) rs ps) (rsp-hits i l fs es))
     where
       go : (b : Bool) (ws : List ℕ) {n : ℕ} → n ≡ length ws → n + pick b 1 0 ≡ length (pick b (w ∷ []) [] ++ ws)
       go true ws e = omega arith
       go false ws e = omega arith
-  rsp-hits i l (cons (latency g h o c d) fs) (and (plans.latency x y) es) = omega (arith, latency-hits i l, rsp-hits i l fs es)
+  rsp-hits i l (cons (latency g h o c d) fs) (and (plans.latency x y) es) = omega (arith, latency-hits u i l, rsp-hits i l fs es)
 
   pub packet-hits : {rs : List Request} {ps : List Place} → All (Described (on S u)) rs → Each Allowed rs ps
-      → hits (packetWord S) (ofAll (usesOf S) rs ps) ≡ length (flatMap packetsOf rs)
+      → hits (packetWord (on S u)) (ofAll (usesOf (on S u)) rs ps) ≡ length (flatMap packetsOf rs)
   unfolding hits ofAll usesOf flatMap packetsOf
   packet-hits nil none = refl
   packet-hits (cons (event {c = c} {m = m} h a) fs) (and (plans.event b) es) =
-      rw (ne-eqb (eventWord S c m) (packetWord S) (event-not-packet c m h)) (omega (arith, packet-hits fs es))
-  packet-hits (cons (packet g x y a) fs) (and (plans.packet b) es) = rw (eq-eqb (packetWord S) (packetWord S) refl) (omega (arith, packet-hits fs es))
+      rw (ne-eqb (eventWord (on S u) c m) (packetWord (on S u)) (event-not-packet u c m h)) (omega (arith, packet-hits fs es))
+  packet-hits (cons (packet g x y a) fs) (and (plans.packet b) es) = rw (eq-eqb (packetWord (on S u)) (packetWord (on S u)) refl) (omega (arith, packet-hits fs es))
   packet-hits (cons (offcore g h t o c) fs) (and (plans.offcore b k) es) = absurd (devices-differ (sym g))
   packet-hits (cons (latency g h o c d) fs) (and (plans.latency x y) es) = absurd (devices-differ (sym g))
 
@@ -211,19 +212,19 @@ packets-fit s (p ∷ ps) v e (cons here held) (cons h hs) =
     (described-passes s (Packet (v .«match_word») (v .«mask_word») noCounter) (subst (λ (r : ℕ × ℕ). Described s (Packet (r .0) (r .1) noCounter)) here h)))
 
 pub filters-fit : (d : Device) (u : Setup) (rs : List Request) (ps : List Place) (v : FilterValues)
-    → All (Described (on d u)) rs → Legal (on d u) rs ps → LeftFilters d rs ps v → filtersFit (on d u) (wordAt (ofAll (usesOf d) rs ps)) v ≡ true
+    → All (Described (on d u)) rs → Legal (on d u) rs ps → LeftFilters d rs ps v → filtersFit (on d u) (wordAt (ofAll (usesOf (on d u)) rs ps)) v ≡ true
 unfolding filtersFit
 filters-fit G u rs ps v f legal left =
     let s = on G u in
     let xs = ofAll (wordsOf 0) rs ps in
     let ys = ofAll (wordsOf 1) rs ps in
-    let on0 = count-uses s rs ps legal (rspWord G 0) (rsp-some 0) ∙ rsp-hits u 0 (omega arith) f (legal .allowed) in
-    let on1 = count-uses s rs ps legal (rspWord G 1) (rsp-some 1) ∙ rsp-hits u 1 (omega arith) f (legal .allowed) in
+    let on0 = count-uses s rs ps legal (rspWord (on G u) 0) (rsp-some u 0) ∙ rsp-hits u 0 (omega arith) f (legal .allowed) in
+    let on1 = count-uses s rs ps legal (rspWord (on G u) 1) (rsp-some u 1) ∙ rsp-hits u 1 (omega arith) f (legal .allowed) in
     rw (on0, on1, left .0, left .1)
     (true-both _ _ (rsp1-fits s ys (second-words s f (legal .allowed)))
     (rsp0-fits s rs xs ys (first-words s f (legal .allowed))
     (λ held. pairs s (headOr 0 xs) (headOr 0 ys) held f (legal .allowed) (one-value 0 xs (legal .one-word 0 (omega arith))) (one-value 0 ys (legal .one-word 1 (omega arith))))))
 filters-fit S u rs ps v f legal left =
-    let on0 = count-uses (on S u) rs ps legal (packetWord S) packet-some ∙ packet-hits u f (legal .allowed) in
+    let on0 = count-uses (on S u) rs ps legal (packetWord (on S u)) (packet-some u) ∙ packet-hits u f (legal .allowed) in
     rw on0 (packets-fit (on S u) (flatMap packetsOf rs) v (left .0) (left .1) (packet-words (on S u) f))
 filters-fit (C b) u rs ps v f legal left = refl

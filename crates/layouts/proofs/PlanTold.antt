@@ -6,13 +6,14 @@ use mathlib.Core.Option.{none, some}
 use mathlib.Core.List.{List, [], _∷_, flatMap}
 use Prim.Native.Nat.{ℕ, zero, suc}
 use native.Mathlib.Omega.{arith}
-use borrow.Author.Tests.{ne-eqb}
+use borrow.Author.Tests.{eq-eqb, ne-eqb}
 use lib.Dec.{eqb}
-use Rattle.requests.specs.Choice.{pick}
+use Rattle.requests.specs.Choice.{both, pick}
 use Rattle.requests.specs.declared.Setup.{Setup}
 use Rattle.requests.specs.declared.Device.{Device}
 use Rattle.requests.specs.declared.Device.the-variants.{G, S, C}
 use Rattle.requests.specs.declared.Request.{Request}
+use Rattle.requests.specs.Askings.{overflowOn, asked}
 use Rattle.requests.specs.Bits.{latencyWord}
 use Rattle.requests.specs.Catalogue.{eventsOf, pairIn}
 use Rattle.requests.specs.WellFormedRequests.{Described, event, packet, offcore, latency}
@@ -22,7 +23,7 @@ use Rattle.plans.specs.Lists.{All, nil, cons, Each, and}
 use Rattle.plans.specs.Places.{first, second}
 use Rattle.plans.specs.Legal.{Allowed, wordsOf, packetsOf, ofAll}
 use Rattle.plans.specs.Legal as plans
-use Rattle.layouts.specs.Layout.{eventWord, enabled, codeOf, maskOf, offcoreCode, rspMask, rspWord, packetWord}
+use Rattle.layouts.specs.Layout.{eventWord, enabled, enabledOn, codeOf, maskOf, offcoreCode, rspMask, rspWord, packetWord}
 use Rattle.layouts.specs.Settings.{usesOf, wordAt}
 use Rattle.layouts.specs.Read.{filterOf, tell}
 use Rattle.layouts.specs.Told.{Told, counting, told, toldOf, toldAt}
@@ -34,47 +35,49 @@ use Rattle.layouts.proofs.PlanFilters.{devices-differ, c-not-g, c-not-s
 -- ---- one word
 
 -- a counter that has no use is off
-tell-none : (d : Device) (v : FilterValues) (k : ℕ) → told (tell d v (wordAt [] k)) ≡ toldAt [] k
+tell-none : (s : Setup) (v : FilterValues) (k : ℕ) → told (tell s v (wordAt [] k)) ≡ toldAt [] k
 unfolding tell told wordAt toldAt
-tell-none d v k = refl
+tell-none s v k = refl
 
-tell-event : (d : Device) (v : FilterValues) (c m : ℕ) → pairIn (eventsOf d) c m ≡ true → told (tell d v (eventWord d c m)) ≡ counting c m none []
+tell-event : (d : Device) (u : Setup) (v : FilterValues) (c m : ℕ) → pairIn (eventsOf d) c m ≡ true → told (tell (on d u) v (eventWord (on d u) c m)) ≡ counting c m none []
 unfolding tell told filterOf
-tell-event G v c m h =
+tell-event G u v c m h =
     let l = listed G c m h in
-    let p = word-parts G c m (l .code) (l .mask) in
-    rw (ne-eqb (eventWord G c m) 0 (p .some-bit), p .code, p .mask, ne-eqb (eventWord G c m) (rspWord G 0) (event-not-rsp c m 0 h), ne-eqb (eventWord G c m) (rspWord G 1) (event-not-rsp c m 1 h))
-tell-event S v c m h =
+    let p = word-parts (on G u) c m (l .code) (l .mask) in
+    rw (ne-eqb (eventWord (on G u) c m) 0 (p .some-bit), p .code, p .mask, ne-eqb (eventWord (on G u) c m) (rspWord (on G u) 0) (event-not-rsp u c m 0 h), ne-eqb (eventWord (on G u) c m) (rspWord (on G u) 1) (event-not-rsp u c m 1 h))
+tell-event S u v c m h =
     let l = listed S c m h in
-    let p = word-parts S c m (l .code) (l .mask) in
-    rw (ne-eqb (eventWord S c m) 0 (p .some-bit), p .code, p .mask, ne-eqb (eventWord S c m) (packetWord S) (event-not-packet c m h))
-tell-event (C b) v c m h =
+    let p = word-parts (on S u) c m (l .code) (l .mask) in
+    rw (ne-eqb (eventWord (on S u) c m) 0 (p .some-bit), p .code, p .mask, ne-eqb (eventWord (on S u) c m) (packetWord (on S u)) (event-not-packet u c m h))
+tell-event (C b) u v c m h =
     let l = listed (C b) c m h in
-    let p = word-parts (C b) c m (l .code) (l .mask) in
-    rw (ne-eqb (eventWord (C b) c m) 0 (p .some-bit), p .code, p .mask)
+    let p = word-parts (on (C b) u) c m (l .code) (l .mask) in
+    rw (ne-eqb (eventWord (on (C b) u) c m) 0 (p .some-bit), p .code, p .mask)
 
-tell-rsp0 : (v : FilterValues) → told (tell G v (rspWord G 0)) ≡ counting offcoreCode (rspMask 0) (some 0) (v .rsp0 ∷ [])
-unfolding tell told filterOf rspWord eventWord enabled offcoreCode rspMask codeOf maskOf
-tell-rsp0 v = refl
+tell-rsp0 : (u : Setup) (v : FilterValues) → told (tell (on G u) v (rspWord (on G u) 0)) ≡ counting offcoreCode (rspMask 0) (some 0) (v .rsp0 ∷ [])
+unfolding tell told filterOf rspWord eventWord enabled enabledOn asked overflowOn both offcoreCode rspMask codeOf maskOf
+tell-rsp0 u v = refl
 
-tell-rsp1 : (v : FilterValues) → told (tell G v (rspWord G 1)) ≡ counting offcoreCode (rspMask 1) (some 1) (v .rsp1 ∷ [])
-unfolding tell told filterOf rspWord eventWord enabled offcoreCode rspMask codeOf maskOf
-tell-rsp1 v = refl
+tell-rsp1 : (u : Setup) (v : FilterValues) → told (tell (on G u) v (rspWord (on G u) 1)) ≡ counting offcoreCode (rspMask 1) (some 1) (v .rsp1 ∷ [])
+unfolding tell told filterOf rspWord eventWord enabled enabledOn asked overflowOn both offcoreCode rspMask codeOf maskOf
+tell-rsp1 u v = refl
 
-tell-packet : (v : FilterValues) → told (tell S v (packetWord S)) ≡ counting 0 0 none (v .«match_word» ∷ v .«mask_word» ∷ [])
-unfolding tell told filterOf packetWord eventWord enabled codeOf maskOf
-tell-packet v = refl
+tell-packet : (u : Setup) (v : FilterValues) → told (tell (on S u) v (packetWord (on S u))) ≡ counting 0 0 none (v .«match_word» ∷ v .«mask_word» ∷ [])
+unfolding tell told filterOf packetWord
+tell-packet u v =
+    let p = word-parts (on S u) 0 0 (omega arith) (omega arith) in
+    rw (ne-eqb (eventWord (on S u) 0 0) 0 (p .some-bit), p .code, p .mask, eq-eqb (eventWord (on S u) 0 0) (eventWord (on S u) 0 0) refl)
 
 -- ---- one counter
 
-module _ (d : Device) (v : FilterValues) (k : ℕ) where
+module _ (s : Setup) (v : FilterValues) (k : ℕ) where
   -- one use more, with what is to be told of it
-  tell-use : (j w : ℕ) (t : Told) (us : List (ℕ × ℕ)) (ts : List (ℕ × Told)) → told (tell d v w) ≡ t → told (tell d v (wordAt us k)) ≡ toldAt ts k
-      → told (tell d v (wordAt ((j, w) ∷ us) k)) ≡ toldAt ((j, t) ∷ ts) k
+  tell-use : (j w : ℕ) (t : Told) (us : List (ℕ × ℕ)) (ts : List (ℕ × Told)) → told (tell s v w) ≡ t → told (tell s v (wordAt us k)) ≡ toldAt ts k
+      → told (tell s v (wordAt ((j, w) ∷ us) k)) ≡ toldAt ((j, t) ∷ ts) k
   unfolding wordAt toldAt
   tell-use j w t us ts e q = go (eqb j k)
     where
-      go : (b : Bool) → told (tell d v (pick b w (wordAt us k))) ≡ pick b t (toldAt ts k)
+      go : (b : Bool) → told (tell s v (pick b w (wordAt us k))) ≡ pick b t (toldAt ts k)
       go true = e
       go false = q
 
@@ -87,52 +90,52 @@ Holds (C b) rs ps v = Unit {0}
 module _ (u : Setup) (v : FilterValues) (k : ℕ) where
   tell-G : {rs : List Request} {ps : List Place} → All (Described (on G u)) rs → Each Allowed rs ps
       → All (λ (w : ℕ). w ≡ v .rsp0) (ofAll (wordsOf 0) rs ps) → All (λ (w : ℕ). w ≡ v .rsp1) (ofAll (wordsOf 1) rs ps)
-      → told (tell G v (wordAt (ofAll (usesOf G) rs ps) k)) ≡ toldAt (ofAll toldOf rs ps) k
+      → told (tell (on G u) v (wordAt (ofAll (usesOf (on G u)) rs ps) k)) ≡ toldAt (ofAll toldOf rs ps) k
   unfolding ofAll usesOf toldOf wordsOf first second
-  tell-G nil lists.none xs ys = tell-none G v k
+  tell-G nil lists.none xs ys = tell-none (on G u) v k
   tell-G (cons (event {c = c} {m = m} h a) fs) (and {s = rs} {t = ps} (plans.event {k = j} b) es) xs ys =
-      tell-use G v k j (eventWord G c m) (counting c m none []) (ofAll (usesOf G) rs ps) (ofAll toldOf rs ps) (tell-event G v c m h) (tell-G fs es xs ys)
+      tell-use (on G u) v k j (eventWord (on G u) c m) (counting c m none []) (ofAll (usesOf (on G u)) rs ps) (ofAll toldOf rs ps) (tell-event G u v c m h) (tell-G fs es xs ys)
   tell-G (cons (packet g x y a) fs) (and (plans.packet b) es) xs ys = absurd (devices-differ g)
   tell-G (cons (offcore {w = w} g h t o c) fs) (and {s = rs} {t = ps} (plans.offcore {k = j} {i = zero} b l) es) (cons e xs) ys =
-      tell-use G v k j (rspWord G 0) (counting offcoreCode (rspMask 0) (some 0) (w ∷ [])) (ofAll (usesOf G) rs ps) (ofAll toldOf rs ps)
-      (tell-rsp0 v ∙ ap (λ (x : ℕ). counting offcoreCode (rspMask 0) (some 0) (x ∷ [])) (sym e)) (tell-G fs es xs ys)
+      tell-use (on G u) v k j (rspWord (on G u) 0) (counting offcoreCode (rspMask 0) (some 0) (w ∷ [])) (ofAll (usesOf (on G u)) rs ps) (ofAll toldOf rs ps)
+      (tell-rsp0 u v ∙ ap (λ (x : ℕ). counting offcoreCode (rspMask 0) (some 0) (x ∷ [])) (sym e)) (tell-G fs es xs ys)
   tell-G (cons (offcore {w = w} g h t o c) fs) (and {s = rs} {t = ps} (plans.offcore {k = j} {i = suc zero} b l) es) xs (cons e ys) =
-      tell-use G v k j (rspWord G 1) (counting offcoreCode (rspMask 1) (some 1) (w ∷ [])) (ofAll (usesOf G) rs ps) (ofAll toldOf rs ps)
-      (tell-rsp1 v ∙ ap (λ (x : ℕ). counting offcoreCode (rspMask 1) (some 1) (x ∷ [])) (sym e)) (tell-G fs es xs ys)
+      tell-use (on G u) v k j (rspWord (on G u) 1) (counting offcoreCode (rspMask 1) (some 1) (w ∷ [])) (ofAll (usesOf (on G u)) rs ps) (ofAll toldOf rs ps)
+      (tell-rsp1 u v ∙ ap (λ (x : ℕ). counting offcoreCode (rspMask 1) (some 1) (x ∷ [])) (sym e)) (tell-G fs es xs ys)
   tell-G (cons (offcore g h t o c) fs) (and (plans.offcore {i = suc (suc i)} b l) es) xs ys = absurd (omega arith)
   tell-G (cons (latency {t = t} g h o c d) fs) (and {s = rs} {t = ps} (plans.latency {j = i} {k = j} x y) es) (cons e xs) (cons q ys) =
       let second-told = counting offcoreCode (rspMask 1) (some 1) (latencyWord 1 t ∷ []) in
-      tell-use G v k i (rspWord G 0) (counting offcoreCode (rspMask 0) (some 0) (latencyWord 0 t ∷ [])) ((j, rspWord G 1) ∷ ofAll (usesOf G) rs ps) ((j, second-told) ∷ ofAll toldOf rs ps)
-      (tell-rsp0 v ∙ ap (λ (x : ℕ). counting offcoreCode (rspMask 0) (some 0) (x ∷ [])) (sym e))
-      (tell-use G v k j (rspWord G 1) second-told (ofAll (usesOf G) rs ps) (ofAll toldOf rs ps)
-      (tell-rsp1 v ∙ ap (λ (x : ℕ). counting offcoreCode (rspMask 1) (some 1) (x ∷ [])) (sym q)) (tell-G fs es xs ys))
+      tell-use (on G u) v k i (rspWord (on G u) 0) (counting offcoreCode (rspMask 0) (some 0) (latencyWord 0 t ∷ [])) ((j, rspWord (on G u) 1) ∷ ofAll (usesOf (on G u)) rs ps) ((j, second-told) ∷ ofAll toldOf rs ps)
+      (tell-rsp0 u v ∙ ap (λ (x : ℕ). counting offcoreCode (rspMask 0) (some 0) (x ∷ [])) (sym e))
+      (tell-use (on G u) v k j (rspWord (on G u) 1) second-told (ofAll (usesOf (on G u)) rs ps) (ofAll toldOf rs ps)
+      (tell-rsp1 u v ∙ ap (λ (x : ℕ). counting offcoreCode (rspMask 1) (some 1) (x ∷ [])) (sym q)) (tell-G fs es xs ys))
 
   tell-S : {rs : List Request} {ps : List Place} → All (Described (on S u)) rs → Each Allowed rs ps
       → All (λ (p : ℕ × ℕ). p ≡ (v .«match_word», v .«mask_word»)) (flatMap packetsOf rs)
-      → told (tell S v (wordAt (ofAll (usesOf S) rs ps) k)) ≡ toldAt (ofAll toldOf rs ps) k
+      → told (tell (on S u) v (wordAt (ofAll (usesOf (on S u)) rs ps) k)) ≡ toldAt (ofAll toldOf rs ps) k
   unfolding ofAll usesOf toldOf flatMap packetsOf first second
-  tell-S nil lists.none xs = tell-none S v k
+  tell-S nil lists.none xs = tell-none (on S u) v k
   tell-S (cons (event {c = c} {m = m} h a) fs) (and {s = rs} {t = ps} (plans.event {k = j} b) es) xs =
-      tell-use S v k j (eventWord S c m) (counting c m none []) (ofAll (usesOf S) rs ps) (ofAll toldOf rs ps) (tell-event S v c m h) (tell-S fs es xs)
+      tell-use (on S u) v k j (eventWord (on S u) c m) (counting c m none []) (ofAll (usesOf (on S u)) rs ps) (ofAll toldOf rs ps) (tell-event S u v c m h) (tell-S fs es xs)
   tell-S (cons (packet {x = x} {y = y} g m l a) fs) (and {s = rs} {t = ps} (plans.packet {k = j} b) es) (cons e xs) =
-      tell-use S v k j (packetWord S) (counting 0 0 none (x ∷ y ∷ [])) (ofAll (usesOf S) rs ps) (ofAll toldOf rs ps)
-      (tell-packet v ∙ ap (λ (p : ℕ × ℕ). counting 0 0 none (p .0 ∷ p .1 ∷ [])) (sym e)) (tell-S fs es xs)
+      tell-use (on S u) v k j (packetWord (on S u)) (counting 0 0 none (x ∷ y ∷ [])) (ofAll (usesOf (on S u)) rs ps) (ofAll toldOf rs ps)
+      (tell-packet u v ∙ ap (λ (p : ℕ × ℕ). counting 0 0 none (p .0 ∷ p .1 ∷ [])) (sym e)) (tell-S fs es xs)
   tell-S (cons (offcore g h t o c) fs) (and (plans.offcore b l) es) xs = absurd (devices-differ (sym g))
   tell-S (cons (latency g h o c d) fs) (and (plans.latency x y) es) xs = absurd (devices-differ (sym g))
 
   -- a device that has events only
   tell-bare : (d : Device) → (d ≡ G → ⊥) → (d ≡ S → ⊥) → {rs : List Request} {ps : List Place} → All (Described (on d u)) rs → Each Allowed rs ps
-      → told (tell d v (wordAt (ofAll (usesOf d) rs ps) k)) ≡ toldAt (ofAll toldOf rs ps) k
+      → told (tell (on d u) v (wordAt (ofAll (usesOf (on d u)) rs ps) k)) ≡ toldAt (ofAll toldOf rs ps) k
   unfolding ofAll usesOf toldOf first second
-  tell-bare d no-g no-s nil lists.none = tell-none d v k
+  tell-bare d no-g no-s nil lists.none = tell-none (on d u) v k
   tell-bare d no-g no-s (cons (event {c = c} {m = m} h a) fs) (and {s = rs} {t = ps} (plans.event {k = j} x) es) =
-      tell-use d v k j (eventWord d c m) (counting c m none []) (ofAll (usesOf d) rs ps) (ofAll toldOf rs ps) (tell-event d v c m h) (tell-bare d no-g no-s fs es)
+      tell-use (on d u) v k j (eventWord (on d u) c m) (counting c m none []) (ofAll (usesOf (on d u)) rs ps) (ofAll toldOf rs ps) (tell-event d u v c m h) (tell-bare d no-g no-s fs es)
   tell-bare d no-g no-s (cons (packet g m l a) fs) (and (plans.packet x) es) = absurd (no-s g)
   tell-bare d no-g no-s (cons (offcore g h t o c) fs) (and (plans.offcore x l) es) = absurd (no-g g)
   tell-bare d no-g no-s (cons (latency g h o c e) fs) (and (plans.latency x y) es) = absurd (no-g g)
 
 pub tell-plan : (d : Device) (u : Setup) (rs : List Request) (ps : List Place) (v : FilterValues) (k : ℕ) → All (Described (on d u)) rs → Each Allowed rs ps → Holds d rs ps v
-    → told (tell d v (wordAt (ofAll (usesOf d) rs ps) k)) ≡ toldAt (ofAll toldOf rs ps) k
+    → told (tell (on d u) v (wordAt (ofAll (usesOf (on d u)) rs ps) k)) ≡ toldAt (ofAll toldOf rs ps) k
 tell-plan G u rs ps v k f es h = tell-G u v k f es (h .0) (h .1)
 tell-plan S u rs ps v k f es h = tell-S u v k f es h
 tell-plan (C b) u rs ps v k f es h = tell-bare u v k (C b) (c-not-g b) (c-not-s b) f es

@@ -1,10 +1,11 @@
 -- What a register holds after the write list of settings, from any registers: by `after`, the value at one address.
 --     apply-after, after-append, after-other   the value at an address, write by write
 --     control-after, global-after, filter-after   the registers of a device after `writesFor`
---     writes-all                                what holds of every write of `writesFor`
-use mathlib.Core.Path.{_≡_, refl, sym, ap}
+--     box-all, writes-all                       what holds of every write of `boxWrites` and of `writesFor`
+--     inside-after, ubox-after                  the frame of the U-Box: other registers, and its own
+use mathlib.Core.Path.{_≡_, refl, sym, ap, _∙_}
 use mathlib.Core.Bool.{Bool, true, false}
-use mathlib.Core.List.{List, [], _∷_, _++_, List·Memᴰ, List·Memᴰ·head, List·Memᴰ·tail}
+use mathlib.Core.List.{List, [], _∷_, _++_, List·Memᴰ, List·Memᴰ·head, List·Memᴰ·tail, append-nil}
 use Prim.Native.Nat.{ℕ, zero, suc, _+_, _*_, _<_}
 use native.Mathlib.Nat.{le-refl}
 use native.Mathlib.Decide.{ℕ-discrete}
@@ -17,11 +18,12 @@ use Rattle.requests.specs.declared.CounterSet.{CounterSet}
 use Rattle.requests.specs.declared.Device.{Device}
 use Rattle.requests.specs.declared.Device.the-variants.{G, S, C}
 use Rattle.requests.specs.declared.Setup.{Setup}
+use Rattle.requests.specs.Askings.{asked}
 use Rattle.requests.specs.Devices.{has, counterCount, capacity}
 use Rattle.plans.specs.Lists.{All, nil, cons}
 use Rattle.plans.proofs.Sets.{all-append, all-imp}
-use Rattle.layouts.specs.Layout.{layoutOf, controlAt, counterAt, filtersAt}
-use Rattle.layouts.specs.Writes.{Write, row, rows, zeros, firstGlobal, lastGlobal, offcoreWrites, packetWrites, filterWrites, writesFor, store, apply}
+use Rattle.layouts.specs.Layout.{layoutOf, controlAt, counterAt, filtersAt, uboxAt}
+use Rattle.layouts.specs.Writes.{Write, row, rows, zeros, firstGlobal, lastGlobal, offcoreWrites, packetWrites, filterWrites, uboxValue, boxWrites, writesFor, store, apply}
 use Rattle.layouts.specs.declared.Settings.{Settings}
 use Rattle.layouts.proofs.ListLaws.{all-member, zero-at}
 use Rattle.layouts.proofs.DeviceFacts.{in-room, apart}
@@ -62,6 +64,11 @@ module _ (P : Write → Type 0) (s : CounterSet) (base step : ℕ) (values : Lis
       one : (b : Bool) → has s m ≡ b → All P (row b (base + step * m) (getD values m 0))
       one true e = cons (h m (le-refl (suc m)) e) nil
       one false e = nil
+
+-- what holds of one write, if it is there
+pub row-all : (P : Write → Type 0) (b : Bool) (address value : ℕ) → (b ≡ true → P (address, value)) → All P (row b address value)
+row-all P true address value h = cons (h refl) nil
+row-all P false address value h = nil
 
 pick-same : {A : Type 0} (b : Bool) (x : A) → pick b x x ≡ x
 pick-same true x = refl
@@ -110,17 +117,17 @@ module _ (s : Setup) (t : Settings) where
   abbrev n : ℕ
   n = counterCount (s .device)
 
-  -- what holds of every write of the list
-  pub writes-all : (P : Write → Type 0)
+  -- what holds of every write of the device's own registers
+  pub box-all : (P : Write → Type 0)
       → P (layoutOf d .global, firstGlobal s)
       → ((k : ℕ) → k < n → has (s .usable) k ≡ true → P (controlAt d k, 0))
       → All P (filterWrites d t)
       → ((k : ℕ) → k < n → has (t .used) k ≡ true → P (counterAt d k, 0))
       → ((k : ℕ) → k < n → has (t .used) k ≡ true → P (controlAt d k, getD (t .words) k 0))
       → P (layoutOf d .global, lastGlobal s (t .used .0))
-      → All P (writesFor s t)
-  unfolding writesFor controlAt counterAt zeros
-  writes-all P first off filters counts words last =
+      → All P (boxWrites s t)
+  unfolding boxWrites controlAt counterAt zeros
+  box-all P first off filters counts words last =
       let l = layoutOf d in
       all-append
       (all-append
@@ -133,13 +140,26 @@ module _ (s : Setup) (t : Settings) where
       (rows-all P (t .used) (l .control) (l .step) (t .words) n words))
       (cons last nil)
 
+  -- what holds of those, and of the writes of the U-Box where something is asked, holds of every write of the list
+  pub writes-all : (P : Write → Type 0) → (asked s ≡ true → P (uboxAt, 0) × P (uboxAt, uboxValue s)) → All P (boxWrites s t) → All P (writesFor s t)
+  unfolding writesFor
+  writes-all P frame inner = all-append (all-append (row-all P (asked s) uboxAt 0 (λ h. frame h .0)) inner) (row-all P (asked s) uboxAt (uboxValue s) (λ h. frame h .1))
+
+  -- a register other than the U-Box has what the device's own writes leave in it
+  pub inside-after : (a x : ℕ) → (uboxAt ≡ a → ⊥) → after (writesFor s t) a x ≡ after (boxWrites s t) a x
+  unfolding writesFor
+  inside-after a x other =
+      let none : (v y : ℕ) → after (row (asked s) uboxAt v) a y ≡ y =
+      λ v y. after-other a y (row-all (λ w. w .0 ≡ a → ⊥) (asked s) uboxAt v (λ h. other)) in
+      simp (after-append, none)
+
   -- no filter register is another one
   filters-apart : (a : ℕ) → All (λ (b : ℕ). b ≡ a → ⊥) (filtersAt d) → All (λ (w : Write). w .0 ≡ a → ⊥) (filterWrites d t)
   filters-apart a h = all-imp (λ w m. all-member h m) (filter-addresses d t)
 
-  pub control-after : (k x : ℕ) → k < n → after (writesFor s t) (controlAt d k) x ≡ pick (has (t .used) k) (getD (t .words) k 0) (pick (has (s .usable) k) 0 x)
-  unfolding writesFor controlAt counterAt zeros
-  control-after k x l =
+  control-inside : (k x : ℕ) → k < n → after (boxWrites s t) (controlAt d k) x ≡ pick (has (t .used) k) (getD (t .words) k 0) (pick (has (s .usable) k) 0 x)
+  unfolding boxWrites controlAt counterAt zeros
+  control-inside k x l =
       let a = controlAt d k in
       let lay = layoutOf d in
       let apart-d = apart d in
@@ -151,14 +171,20 @@ module _ (s : Setup) (t : Settings) where
       let words = rows-at (t .used) (lay .control) (lay .step) (t .words) (apart-d .control-control) n k (pick (has (s .usable) k) 0 x) l in
       simp (after-append, globals, off, zero-at capacity k, filters, counts, words)
 
+  pub control-after : (k x : ℕ) → k < n → after (writesFor s t) (controlAt d k) x ≡ pick (has (t .used) k) (getD (t .words) k 0) (pick (has (s .usable) k) 0 x)
+  control-after k x l = inside-after (controlAt d k) x (apart d .ubox-control k (in-room d k l)) ∙ control-inside k x l
+
+  global-inside : (x : ℕ) → after (boxWrites s t) (layoutOf d .global) x ≡ lastGlobal s (t .used .0)
+  unfolding boxWrites
+  global-inside x = simp (after-append, after-last)
+
   pub global-after : (x : ℕ) → after (writesFor s t) (layoutOf d .global) x ≡ lastGlobal s (t .used .0)
-  unfolding writesFor
-  global-after x = simp (after-append, after-last)
+  global-after x = inside-after (layoutOf d .global) x (apart d .ubox-global) ∙ global-inside x
 
   -- a filter register has what its own writes leave
-  pub filter-after : (a x : ℕ) → List·Memᴰ a (filtersAt d) → after (writesFor s t) a x ≡ after (filterWrites d t) a x
-  unfolding writesFor controlAt counterAt
-  filter-after a x m =
+  filter-inside : (a x : ℕ) → List·Memᴰ a (filtersAt d) → after (boxWrites s t) a x ≡ after (filterWrites d t) a x
+  unfolding boxWrites controlAt counterAt
+  filter-inside a x m =
       let lay = layoutOf d in
       let apart-d = apart d in
       let globals : (v : ℕ) (y : ℕ) → after ((lay .global, v) ∷ []) a y ≡ y = λ v y. after-other a y (cons (λ e. all-member (apart-d .filter-global) m (sym e)) nil) in
@@ -167,3 +193,33 @@ module _ (s : Setup) (t : Settings) where
       let counts : (u : CounterSet) (vs : List ℕ) (y : ℕ) → after (rows n u (lay .counter) (lay .step) vs) a y ≡ y =
       λ u vs y. after-other a y (rows-all (λ w. w .0 ≡ a → ⊥) u (lay .counter) (lay .step) vs n (λ k b h e. all-member (apart-d .filter-counter k (in-room d k b)) m (sym e))) in
       simp (after-append, globals, controls, counts)
+
+  pub filter-after : (a x : ℕ) → List·Memᴰ a (filtersAt d) → after (writesFor s t) a x ≡ after (filterWrites d t) a x
+  filter-after a x m =
+      inside-after a x (λ e. all-member (apart d .ubox-filter) m (sym e)) ∙ filter-inside a x m
+
+  -- no write of the device's own registers is to the U-Box
+  pub box-other : All (λ (w : Write). w .0 ≡ uboxAt → ⊥) (boxWrites s t)
+  box-other =
+      let u = apart d in
+      box-all (λ w. w .0 ≡ uboxAt → ⊥)
+      (λ e. u .ubox-global (sym e))
+      (λ k l g e. u .ubox-control k (in-room d k l) (sym e))
+      (all-imp (λ w m. all-member (u .ubox-filter) m) (filter-addresses d t))
+      (λ k l g e. u .ubox-counter k (in-room d k l) (sym e))
+      (λ k l g e. u .ubox-control k (in-room d k l) (sym e))
+      (λ e. u .ubox-global (sym e))
+
+  -- where nothing is asked the list is that of the device's own registers
+  pub unasked-writes : asked s ≡ false → writesFor s t ≡ boxWrites s t
+  unfolding writesFor
+  unasked-writes h = rw h (append-nil (boxWrites s t))
+
+  -- what the list leaves in it where something is asked
+  pub ubox-after : (x : ℕ) → asked s ≡ true → after (writesFor s t) uboxAt x ≡ uboxValue s
+  unfolding writesFor
+  ubox-after x h = rw h (simp (after-append, after-last))
+
+  -- and where nothing is
+  pub ubox-kept : (x : ℕ) → asked s ≡ false → after (writesFor s t) uboxAt x ≡ x
+  ubox-kept x h = rw (unasked-writes h) (after-other uboxAt x box-other)

@@ -13,21 +13,22 @@ use Rattle.requests.specs.declared.Device.{Device}
 use Rattle.requests.specs.declared.Device.the-variants.{G, S, C}
 use Rattle.requests.specs.declared.Setup.{Setup}
 use Rattle.requests.specs.declared.Request.{Request}
+use Rattle.requests.specs.Askings.{asked}
 use Rattle.requests.specs.Bits.{bit, inList}
 use Rattle.requests.specs.Devices.{has, counterCount, capacity}
 use Rattle.plans.specs.declared.Place.{Place}
-use Rattle.plans.specs.Lists.{nil, cons}
+use Rattle.plans.specs.Lists.{All, nil, cons}
 use Rattle.plans.specs.Legal.{Usable, Legal, packetsOf, counters}
 use Rattle.plans.proofs.Sets.{all-append, all-imp}
 use Rattle.layouts.specs.Layout.{layoutOf, controlAt, counterAt, filtersAt, rsp0At, rsp1At, mmCfgAt, matchAt, maskAt, mmEnable}
 use Rattle.layouts.specs.Settings.{headOr, nonempty, settingsOf}
-use Rattle.layouts.specs.Writes.{Write, rows, zeros, firstGlobal, lastGlobal, offcoreWrites, packetWrites, filterWrites, writesFor, writes}
-use Rattle.layouts.specs.RestWhileWritten.{LastWritten, EnablesNone, Disabled, Cleared, Quiet, Matching, AtRest, StoppedFirst, EnabledLast, RestWhileWritten}
+use Rattle.layouts.specs.Writes.{Write, rows, zeros, firstGlobal, lastGlobal, offcoreWrites, packetWrites, filterWrites, uboxValue, boxWrites, writesFor, writes}
+use Rattle.layouts.specs.RestWhileWritten.{LastWritten, EnablesNone, Disabled, Cleared, Quiet, Matching, AtRest, StoppedFirst, EnabledLast, Framed, RestWhileWritten}
 use Rattle.layouts.specs.declared.Settings.{Settings}
 use Rattle.layouts.proofs.ListLaws.{all-member, zero-at}
 use Rattle.layouts.proofs.UsableSets.{on}
 use Rattle.layouts.proofs.DeviceFacts.{in-room, apart}
-use Rattle.layouts.proofs.RegistersAfter.{rows-all, filter-addresses}
+use Rattle.layouts.proofs.RegistersAfter.{rows-all, filter-addresses, box-other, unasked-writes}
 use Rattle.layouts.proofs.WriteByWrite.{Along, last-here, last-other, last-member, member-other, along-then, along-at, rows-along}
 use Rattle.layouts.proofs.WritesAtRest.{global-rests, control-rests, count-rests, filter-rests}
 use Rattle.layouts.proofs.GlobalValues.{used-has, used-usable, first-bit, last-bit}
@@ -91,10 +92,10 @@ packets-rest u rs true x y is b q =
 packets-rest u rs false x y is b q = filter-along (on S u) rs b q mmCfgAt 0 (List·Memᴰ·head refl) (λ g m. absurd (no-match m)) (λ g e some. absurd (some refl))
 
 filters-rest : (d : Device) (u : Setup) (rs : List Request) (ps : List Place) (b : List Write) → AllQuiet (on d u) b
-    → Along (AtRest (on d u) rs) b (filterWrites d (settingsOf d rs ps)) × AllQuiet (on d u) (b ++ filterWrites d (settingsOf d rs ps))
+    → Along (AtRest (on d u) rs) b (filterWrites d (settingsOf (on d u) rs ps)) × AllQuiet (on d u) (b ++ filterWrites d (settingsOf (on d u) rs ps))
 unfolding filterWrites offcoreWrites filtersAt settingsOf
 filters-rest G u rs ps b q =
-    let t = settingsOf G rs ps in
+    let t = settingsOf (on G u) rs ps in
     let s : Setup = on G u in
     along-then (AtRest s rs) (AllQuiet s) (AllQuiet s) b ((rsp0At, t .rsp0) ∷ []) ((rsp1At, t .rsp1) ∷ [])
     (filter-along s rs b q rsp0At (t .rsp0) (List·Memᴰ·head refl) (λ g. absurd (devices-differ g)) (λ g. absurd (devices-differ g)))
@@ -110,11 +111,11 @@ first-none s k u = first-bit s k (u .0) ∙ ap not (u .1)
 
 -- the last one only those that are used
 enabled-used : (s : Setup) (rs : List Request) (ps : List Place) → Legal s rs ps → (k : ℕ) → Usable s k
-    → bit k (lastGlobal s (settingsOf (s .device) rs ps .used .0)) ≡ true → has (settingsOf (s .device) rs ps .used) k ≡ true
+    → bit k (lastGlobal s (settingsOf s rs ps .used .0)) ≡ true → has (settingsOf s rs ps .used) k ≡ true
 unfolding either
 enabled-used s rs ps legal k u h =
     let used : either (not (has (s .usable) k)) (inList (counters ps) k) ≡ true = sym (last-bit s rs ps legal k (u .0)) ∙ h in
-    used-has (s .device) rs ps k (u .0) ∙ (rw (u .1) at used)
+    used-has s rs ps k (u .0) ∙ (rw (u .1) at used)
 
 -- a 0 that is written to a counter's register
 zero-here : (b : List Write) (a k : ℕ) → LastWritten (b ++ (a, getD zeros k 0) ∷ []) a 0
@@ -126,7 +127,7 @@ module _ (s : Setup) (rs : List Request) (ps : List Place) (legal : Legal s rs p
   n = counterCount (s .device)
 
   abbrev t : Settings
-  t = settingsOf (s .device) rs ps
+  t = settingsOf s rs ps
 
   abbrev clear : List Write
   clear = rows n (s .usable) (layoutOf (s .device) .control) (layoutOf (s .device) .step) zeros
@@ -221,8 +222,8 @@ module _ (s : Setup) (rs : List Request) (ps : List Place) (legal : Legal s rs p
       (λ k off c i. (i .0, i .1, λ j p u. i .2 j (omega arith) u, i .3))
       b ready
 
-  list-rests : Along (AtRest s rs) [] (writes s rs ps)
-  unfolding writes writesFor
+  list-rests : Along (AtRest s rs) [] (boxWrites s t)
+  unfolding boxWrites
   list-rests =
       let d = s .device in
       let g = layoutOf d .global in
@@ -242,17 +243,16 @@ module _ (s : Setup) (rs : List Request) (ps : List Place) (legal : Legal s rs p
       (λ b ready. ((global-rests s rs b v (λ k u h. ready .3 k (u .0) (enabled-used s rs ps legal k u h)), tt), tt))
       .0
 
-stopped-first : (s : Setup) (rs : List Request) (ps : List Place) → StoppedFirst s (writes s rs ps)
-unfolding writes writesFor
-stopped-first s rs ps = record { value = firstGlobal s; later = _; list = refl; enables-none = first-none s }
+stopped-first : (s : Setup) (t : Settings) → StoppedFirst s (boxWrites s t)
+unfolding boxWrites
+stopped-first s t = record { value = firstGlobal s; later = _; list = refl; enables-none = first-none s }
 
-enabled-last : (s : Setup) (rs : List Request) (ps : List Place) → EnabledLast s (writes s rs ps)
-unfolding writes writesFor controlAt counterAt
-enabled-last s rs ps =
+enabled-last : (s : Setup) (t : Settings) → EnabledLast s (boxWrites s t)
+unfolding boxWrites controlAt counterAt
+enabled-last s t =
     let d = s .device in
     let n = counterCount d in
     let l = layoutOf d in
-    let t = settingsOf d rs ps in
     let P : Write → Type 0 = λ w. w .0 ≡ layoutOf (s .device) .global → EnablesNone s (w .1) in
     record {
       before = _;
@@ -269,10 +269,36 @@ enabled-last s rs ps =
           (rows-all P (t .used) (l .control) (l .step) (t .words) n (λ k b h e. absurd (apart d .global-control k (in-room d k b) (sym e))));
     }
 
-pub rest-while-written : RestWhileWritten
-rest-while-written s rs ps legal =
+-- ---- the frame of the U-Box
+
+-- the writes before a place of the list are among its writes
+before-all : {P : Write → Type 0} (before : List Write) (w : Write) (later ws : List Write) → All P ws → ws ≡ before ++ w ∷ later → All P before
+before-all {P} before w later ws h e = all-before before (w ∷ later) (subst (All P) e h)
+  where
+    all-before : (xs ys : List Write) → All P (xs ++ ys) → All P xs
+    all-before [] ys h = nil
+    all-before (x ∷ xs) ys (cons h hs) = cons h (all-before xs ys hs)
+
+framed : (s : Setup) (t : Settings) → asked s ≡ true → Framed (boxWrites s t) (writesFor s t)
+unfolding writesFor
+framed s t h =
     record {
-      stopped-first = stopped-first s rs ps;
-      at-rest = λ before w later e. along-at (AtRest s rs) before w later (subst (Along (AtRest s rs) []) e (list-rests s rs ps legal));
-      enabled-last = enabled-last s rs ps;
+      value = uboxValue s;
+      list = rw h;
+      stopped = λ before w later e. record { earlier = []; since = before; list = refl; no-other = before-all before w later (boxWrites s t) (box-other s t) e };
+    }
+
+pub rest-while-written : RestWhileWritten
+unfolding writes
+rest-while-written s rs ps legal =
+    let t = settingsOf s rs ps in
+    record {
+      inner = boxWrites s t;
+      rests = record {
+        stopped-first = stopped-first s t;
+        at-rest = λ before w later e. along-at (AtRest s rs) before w later (subst (Along (AtRest s rs) []) e (list-rests s rs ps legal));
+        enabled-last = enabled-last s t;
+      };
+      alone = unasked-writes s t;
+      framed = framed s t;
     }

@@ -36,6 +36,7 @@ values-show d r =
       control = λ k l. getD-tabulate capacity (λ j. pick (ltb j (counterCount d)) (r (controlAt d j)) 0) k 0 (in-room d k l) ∙ rw (lt-ltb k (counterCount d) l);
       filters = filters-show d r;
       global = refl;
+      ubox = refl;
     }
 
 answer-accepted : (s : Setup) → (v : _) → readingOf s v .answer ≡ Accepted

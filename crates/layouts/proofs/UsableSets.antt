@@ -15,7 +15,7 @@ use Rattle.layouts.proofs.WordBits.{bit-above}
 
 -- the setup with another device; with its own it is the same
 abbrev pub on : Device → Setup → Setup
-on d s = record { device = d; usable = s .usable; fixed = s .fixed }
+on d s = record { device = d; usable = s .usable; fixed = s .fixed; overflow = s .overflow }
 
 -- the counters of the usable set are the device's
 abbrev pub Within : Setup → Type 0

@@ -15,7 +15,7 @@ use Rattle.requests.specs.Checks.{Formed}
 use Rattle.plans.specs.declared.Place.{Place}
 use Rattle.plans.specs.Lists.{All}
 use Rattle.plans.specs.Legal.{Legal}
-use Rattle.layouts.specs.Layout.{layoutOf, controlAt, rsp0At, rsp1At, mmCfgAt, matchAt, maskAt}
+use Rattle.layouts.specs.Layout.{layoutOf, controlAt, rsp0At, rsp1At, mmCfgAt, matchAt, maskAt, uboxAt}
 use Rattle.layouts.specs.Writes.{writes, apply}
 use Rattle.layouts.specs.Read.{readOf}
 use Rattle.layouts.specs.Told.{toldBy, notOurs, toldPlan}
@@ -34,6 +34,7 @@ pub record Shows (d : Device) (v : RegisterValues) (r : ℕ → ℕ) : Type 0 wh
   pub control : (k : ℕ) → k < counterCount d → getD (v .control) k 0 ≡ r (controlAt d k)
   pub filters : FiltersShow d (v .filters) r
   pub global : v .global ≡ r (layoutOf d .global)
+  pub ubox : v .ubox ≡ r uboxAt
 
 -- a legal plan of well-formed requests whose writes leave the values, from some registers
 pub record LeavesValues (s : Setup) (v : RegisterValues) : Type 0 where
@@ -49,7 +50,7 @@ abbrev pub RefusedWith : ℕ → Reading → Type 0
 RefusedWith n reading = (answerNumber (reading .answer) ≡ some n) × (toldBy reading ≡ replicate capacity notOurs)
 
 pub record ExactReader : Type 0 where
-  -- "the reader gives only 3 and 15, 3 first": 3 where open would refuse
+  -- "the reader gives only 3 and 15, 3 first": 3 where open would refuse, with 3, 7 or 10
   pub opening : (o : Opening) (v : RegisterValues) → setupOf o ≡ none → RefusedWith 3 (readOf o v)
   -- values that some plan leaves are accepted, and told as that plan
   pub accepted : (o : Opening) (s : Setup) (v : RegisterValues) → setupOf o ≡ some s → (plan : LeavesValues s v)

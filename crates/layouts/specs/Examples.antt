@@ -5,9 +5,12 @@ use Prim.Native.Nat.{ℕ}
 use Rattle.requests.specs.declared.CounterSet.{CounterSet}
 use Rattle.requests.specs.declared.Device.{Device}
 use Rattle.requests.specs.declared.Device.the-variants.{G, S, C}
+use Rattle.requests.specs.declared.Core.{Core}
+use Rattle.requests.specs.declared.Core.the-variants.{At}
 use Rattle.requests.specs.declared.Setup.{Setup}
 use Rattle.requests.specs.declared.Request.{Request}
 use Rattle.requests.specs.declared.Request.the-variants.{Event, Packet, Offcore, Latency}
+use Rattle.requests.specs.Askings.{unasked}
 use Rattle.plans.specs.declared.Place.{Place}
 use Rattle.plans.specs.declared.Place.the-variants.{Counter, WithRsp, Pair}
 use Rattle.layouts.specs.Writes.{Write, writes}
@@ -22,7 +25,11 @@ set n = record { 0 = n }
 
 -- a device with a usable set and fixed enables
 abbrev opened : Device → ℕ → ℕ → Setup
-opened d usable fixed = record { device = d; usable = set usable; fixed = fixed }
+opened d usable fixed = record { device = d; usable = set usable; fixed = fixed; overflow = unasked }
+
+-- a device with a usable set, a freeze and a core
+abbrev asking : Device → ℕ → ℕ → Core → Setup
+asking d usable freeze core = record { device = d; usable = set usable; fixed = 0; overflow = record { freeze = freeze; core = core } }
 
 -- a plan, and its whole write list
 pub record Plan : Type 0 where
@@ -178,6 +185,70 @@ plans =
           ∷ (0x0D99, 0x0000000000000000)
           ∷ (0x0D98, 0x000000000040001F)
           ∷ (0x0D80, 0x000000000000001F)
+          ∷ [];
+    }
+    -- order 7: S with freeze 1 and core 2
+    ∷ record {
+      setup = asking S 15 1 (At 2);
+      requests = Event 0x52 0x00 all ∷ [];
+      places = Counter 0 ∷ [];
+      written =
+          (0x0C00, 0x0000000000000000)
+          ∷ (0x0C40, 0x0000000000000000)
+          ∷ (0x0C50, 0x0000000000000000)
+          ∷ (0x0C52, 0x0000000000000000)
+          ∷ (0x0C54, 0x0000000000000000)
+          ∷ (0x0C56, 0x0000000000000000)
+          ∷ (0x0E48, 0x0000000000000000)
+          ∷ (0x0C51, 0x0000000000000000)
+          ∷ (0x0C50, 0x0000000000500052)
+          ∷ (0x0C40, 0x0000000000000001)
+          ∷ (0x0C00, 0x0000000090000008)
+          ∷ [];
+    }
+    -- S with core 0 alone: a packet on counter 1
+    ∷ record {
+      setup = asking S 2 0 (At 0);
+      requests = Packet 0x0123456789ABCDEF 0x0000007F00000000 all ∷ [];
+      places = Counter 1 ∷ [];
+      written =
+          (0x0C00, 0x0000000000000000)
+          ∷ (0x0C40, 0x000000000000000D)
+          ∷ (0x0C52, 0x0000000000000000)
+          ∷ (0x0E48, 0x0000000000000000)
+          ∷ (0x0E49, 0x0123456789ABCDEF)
+          ∷ (0x0E4A, 0x0000007F00000000)
+          ∷ (0x0E48, 0x8000000000000000)
+          ∷ (0x0C53, 0x0000000000000000)
+          ∷ (0x0C52, 0x0000000000500000)
+          ∷ (0x0C40, 0x000000000000000F)
+          ∷ (0x0C00, 0x0000000010000002)
+          ∷ [];
+    }
+    -- C-Box 0 with usable 1 and core 7: the empty plan
+    ∷ record {
+      setup = asking (C 0) 1 0 (At 7);
+      requests = [];
+      places = [];
+      written =
+          (0x0C00, 0x0000000000000000)
+          ∷ (0x0D00, 0x000000000000003E)
+          ∷ (0x0D10, 0x0000000000000000)
+          ∷ (0x0D00, 0x000000000000003E)
+          ∷ (0x0C00, 0x0000000010000100)
+          ∷ [];
+    }
+    -- freeze alone, and a core that open refuses: no bit of it
+    ∷ record {
+      setup = asking (C 7) 1 1 (At 8);
+      requests = [];
+      places = [];
+      written =
+          (0x0C00, 0x0000000000000000)
+          ∷ (0x0DE0, 0x000000000000003E)
+          ∷ (0x0DF0, 0x0000000000000000)
+          ∷ (0x0DE0, 0x000000000000003E)
+          ∷ (0x0C00, 0x0000000090000000)
           ∷ [];
     }
     ∷ []

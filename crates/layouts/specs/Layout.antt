@@ -1,14 +1,17 @@
 -- Register tables: addresses, and the bits of each layout. G: SDM volume 3, documents 001, 002. S: document 004, section 2.5, but for
 -- the addresses of MM_CFG, MATCH and MASK, which our extract of 004 lacks: they are the kernel driver's (docs/DECISIONS.md, 1).
 -- C: document 004, section 2.3, where our extract has GLOBAL_CTL and EVT_SEL0 of box 0; the rest is the kernel driver's.
+-- U-Box, which S and C share: document 004, section 2.1, and for the places of en_all and pmi_core_sel the kernel driver.
 use mathlib.Core.List.{List, [], _∷_, _++_}
-use Prim.Native.Nat.{ℕ, zero, suc, _+_, _*_, _-_, _/_, _%_}
+use Prim.Native.Nat.{ℕ, zero, suc, _+_, _*_, _-_, _/_, _%_, _^_}
 use lib.Dec.{eqb}
 use lib.ListN.{getD}
 use Rattle.requests.specs.Choice.{pick}
 use Rattle.requests.specs.declared.Device.{Device}
 use Rattle.requests.specs.declared.Device.the-variants.{G, S, C}
+use Rattle.requests.specs.declared.Setup.{Setup}
 use Rattle.requests.specs.Bits.{rsp0Bits, rsp1Bits, field, matchBits, maskBits}
+use Rattle.requests.specs.Askings.{asked}
 use Rattle.requests.specs.Devices.{counterCount}
 use Rattle.layouts.specs.declared.Layout.{Layout}
 
@@ -71,6 +74,10 @@ matchAt = 0x0E49
 unfoldable pub maskAt : ℕ
 maskAt = 0x0E4A
 
+-- U_MSR_PMON_GLOBAL_CTL (document 004, table 2-1)
+unfoldable pub uboxAt : ℕ
+uboxAt = 0x0C00
+
 -- the filter registers of the device
 unfoldable pub filtersAt : Device → List ℕ
 filtersAt G = rsp0At ∷ rsp1At ∷ []
@@ -97,17 +104,41 @@ globalBits (C b) = field 5 0
 unfoldable pub mmEnable : ℕ
 mmEnable = 63
 
+-- U_MSR_PMON_GLOBAL_CTL: frz_all (004, table 2-2), en_all (kernel driver)
+unfoldable pub frzAll : ℕ
+frzAll = 31
+
+unfoldable pub enAll : ℕ
+enAll = 28
+
+-- pmi_core_sel: "00000001 is core 0, 10000000 core 7"; its lowest bit is the kernel driver's
+unfoldable pub coreSel : ℕ
+coreSel = 1
+
+-- what a session may write of it: frz_all 31, en_all 28, pmi_core_sel 8:1; rst_all and the enable of the U-Box's own counter are never asked
+unfoldable pub uboxBits : List ℕ
+uboxBits = field 31 31 ++ field 28 28 ++ field 8 1
+
 -- ---- control words
 
--- the bits that every event word has. G: USR 16, OS 17, EN 22. S: enable 22. C: en 22
-unfoldable pub enabled : Device → ℕ
-enabled G = 0x430000
-enabled S = 0x400000
-enabled (C b) = 0x400000
+-- the bits that every event word of a device has. G: USR 16, OS 17, EN 22. S: enable 22. C: en 22
+unfoldable pub enabledOn : Device → ℕ
+enabledOn G = 0x430000
+enabledOn S = 0x400000
+enabledOn (C b) = 0x400000
 
--- "The event word is 430000 + 100 × mask + code (all hex: user, OS and enable bits)", on S and C 400000 + 100 × mask + code
-unfoldable pub eventWord : Device → ℕ → ℕ → ℕ
-eventWord d c m = enabled d + 0x100 * m + c
+-- pmi_en of a control register (004, tables 2-13 and 2-30)
+unfoldable pub pmiEnable : ℕ
+pmiEnable = 20
+
+-- the bits that every event word of a session has: "pmi_en in the counter's control register" where something is asked
+unfoldable pub enabled : Setup → ℕ
+enabled s = enabledOn (s .device) + pick (asked s) (2 ^ pmiEnable) 0
+
+-- "The event word is 430000 + 100 × mask + code (all hex: user, OS and enable bits)", on S and C 400000 + 100 × mask + code,
+-- and 500000 + .. where something is asked
+unfoldable pub eventWord : Setup → ℕ → ℕ → ℕ
+eventWord s c m = enabled s + 0x100 * m + c
 
 -- the code in a control word
 unfoldable pub codeOf : ℕ → ℕ
@@ -126,12 +157,12 @@ unfoldable pub rspMask : ℕ → ℕ
 rspMask i = pick (eqb i 0) 1 2
 
 -- the control word of a counter on RSP register i
-unfoldable pub rspWord : Device → ℕ → ℕ
-rspWord d i = eventWord d offcoreCode (rspMask i)
+unfoldable pub rspWord : Setup → ℕ → ℕ
+rspWord s i = eventWord s offcoreCode (rspMask i)
 
 -- packet: "Event code 0, unit mask 0"
-unfoldable pub packetWord : Device → ℕ
-packetWord d = eventWord d 0 0
+unfoldable pub packetWord : Setup → ℕ
+packetWord s = eventWord s 0 0
 
 -- ---- reserved bits
 
@@ -148,5 +179,7 @@ registersOf S =
     ∷ (mmCfgAt, mmEnable ∷ [])
     ∷ (matchAt, matchBits)
     ∷ (maskAt, maskBits)
+    ∷ (uboxAt, uboxBits)
     ∷ tabulate (counterCount S) (λ k. (controlAt S k, controlBits S))
-registersOf (C b) = (layoutOf (C b) .global, globalBits (C b)) ∷ tabulate (counterCount (C b)) (λ k. (controlAt (C b) k, controlBits (C b)))
+registersOf (C b) =
+    (layoutOf (C b) .global, globalBits (C b)) ∷ (uboxAt, uboxBits) ∷ tabulate (counterCount (C b)) (λ k. (controlAt (C b) k, controlBits (C b)))

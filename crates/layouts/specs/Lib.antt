@@ -11,6 +11,7 @@ pub mod NoReservedBit
 pub mod OthersUntouched
 pub mod FixedEnables
 pub mod UsedEnabled
+pub mod UBox
 pub mod RestWhileWritten
 pub mod WriteCount
 pub mod EmptyPlan

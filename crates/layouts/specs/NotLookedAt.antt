@@ -1,13 +1,16 @@
--- "Control values of unusable counters are not looked at, nor are MATCH and MASK where MM_CFG is 0."
+-- "Control values of unusable counters are not looked at, nor are MATCH and MASK where MM_CFG is 0." Order 7: "the U-Box value, which it checks
+-- only where something is asked".
 use mathlib.Core.Path.{_≡_}
 use mathlib.Core.Logic.{_⊎_}
 use mathlib.Core.Option.{some}
+use mathlib.Core.Bool.{true}
 use Prim.Native.Nat.{ℕ}
 use lib.ListN.{getD}
 use Rattle.requests.specs.declared.Device.{Device}
 use Rattle.requests.specs.declared.Device.the-variants.{G, S, C}
 use Rattle.requests.specs.declared.Opening.{Opening}
 use Rattle.requests.specs.declared.Setup.{Setup}
+use Rattle.requests.specs.Askings.{asked}
 use Rattle.requests.specs.Devices.{setupOf}
 use Rattle.plans.specs.Legal.{Usable}
 use Rattle.layouts.specs.Read.{readOf}
@@ -25,6 +28,7 @@ pub record SameLookedAt (s : Setup) (v w : RegisterValues) : Type 0 where
   pub control : (k : ℕ) → Usable s k → getD (v .control) k 0 ≡ getD (w .control) k 0
   pub filters : SameFilters (s .device) (v .filters) (w .filters)
   pub global : v .global ≡ w .global
+  pub ubox : asked s ≡ true → v .ubox ≡ w .ubox
 
 -- the answer depends on nothing else
 abbrev pub NotLookedAt : Type 0

@@ -9,10 +9,11 @@ use Rattle.requests.specs.Choice.{both}
 use Rattle.requests.specs.declared.Setup.{Setup}
 use Rattle.requests.specs.declared.Request.{Request}
 use Rattle.requests.specs.Bits.{bit}
+use Rattle.requests.specs.Askings.{asked}
 use Rattle.requests.specs.Devices.{has, counterCount, fixedCount}
 use Rattle.plans.specs.declared.Place.{Place}
 use Rattle.plans.specs.Legal.{Legal, Usable}
-use Rattle.layouts.specs.Layout.{layoutOf, controlAt, counterAt, filtersAt}
+use Rattle.layouts.specs.Layout.{layoutOf, controlAt, counterAt, filtersAt, uboxAt}
 use Rattle.layouts.specs.Writes.{writes, apply}
 
 -- the registers that the session may write
@@ -21,6 +22,8 @@ pub data Ours (s : Setup) : ℕ → Type 0 where
   filter : {a : ℕ} → List·Memᴰ a (filtersAt (s .device)) → Ours s a
   control : {k : ℕ} → Usable s k → Ours s (controlAt (s .device) k)
   counter : {k : ℕ} → Usable s k → Ours s (counterAt (s .device) k)
+  -- "only there the U-Box's enable stays with the host": where nothing is asked
+  ubox : asked s ≡ true → Ours s uboxAt
 
 pub record OthersUntouched : Type 0 where
   -- every other register keeps its value

@@ -31,6 +31,8 @@ permittedOf S =
     ∷ (0x0E49, 0xFFFFFFFFFFFFFFFF)
     -- 004, table 2-35: addr 38:1, hnid 0
     ∷ (0x0E4A, 0x0000007FFFFFFFFF)
+    -- U-Box: frz_all 31 (004, table 2-2), en_all 28 (kernel driver), pmi_core_sel 8:1 (eight cores, from the kernel driver's bit on)
+    ∷ (0x0C00, 0x00000000900001FE)
     -- 004, table 2-30: 31:0 without the ignored bits 16, 19 and 21
     ∷ (0x0C50, 0x00000000FFD6FFFF)
     ∷ (0x0C52, 0x00000000FFD6FFFF)
@@ -41,6 +43,8 @@ permittedOf (C b) =
     -- 004, table 2-10: ctr_en 5:0
     let global = cboxGlobal b in
     (global, 0x000000000000003F)
+    -- U-Box
+    ∷ (0x0C00, 0x00000000900001FE)
     -- 004, table 2-13: 31:0 without the ignored bits 16, 17, 19 and 21
     ∷ (global + 0x10, 0x00000000FFD4FFFF)
     ∷ (global + 0x12, 0x00000000FFD4FFFF)

@@ -5,7 +5,6 @@ use Prim.Native.Nat.{ℕ, zero, suc, _+_, _%_, _^_}
 use lib.Dec.{leb, eqb}
 use lib.ListN.{getD, replicate}
 use Rattle.requests.specs.declared.CounterSet.{CounterSet}
-use Rattle.requests.specs.declared.Device.{Device}
 use Rattle.requests.specs.declared.Device.the-variants.{G, S, C}
 use Rattle.requests.specs.declared.Opening.{Opening}
 use Rattle.requests.specs.declared.Setup.{Setup}
@@ -16,10 +15,11 @@ use Rattle.requests.specs.declared.Answer.the-variants.{Accepted, Refused}
 use Rattle.requests.specs.Choice.{both, either, every, pick}
 use Rattle.requests.specs.Bits.{outstanding, latencyWord}
 use Rattle.requests.specs.Devices.{has, counterCount, capacity, setupOf}
+use Rattle.requests.specs.Askings.{asked}
 use Rattle.requests.specs.Checks.{formed}
 use Rattle.layouts.specs.Layout.{tabulate, mmEnable, eventWord, rspWord, packetWord, codeOf, maskOf}
 use Rattle.layouts.specs.Settings.{setFrom}
-use Rattle.layouts.specs.Writes.{lastGlobal}
+use Rattle.layouts.specs.Writes.{lastGlobal, uboxValue}
 use Rattle.layouts.specs.declared.FilterValues.{FilterValues}
 use Rattle.layouts.specs.declared.RegisterValues.{RegisterValues}
 use Rattle.layouts.specs.declared.FilterRead.{FilterRead}
@@ -45,17 +45,20 @@ noCounter = record { 0 = 0 }
 -- ---- which values some plan leaves
 
 -- the control word of a filter event: of an RSP register on G, of the match/mask register on S; C has none
-unfoldable pub filterWord : Device → ℕ → Bool
-filterWord G w = either (eqb w (rspWord G 0)) (eqb w (rspWord G 1))
-filterWord S w = eqb w (packetWord S)
-filterWord (C b) w = false
+unfoldable pub filterWord : Setup → ℕ → Bool
+filterWord s w =
+    elim (s .device) [
+      | G ↦ either (eqb w (rspWord s 0)) (eqb w (rspWord s 1))
+      | S ↦ eqb w (packetWord s)
+      | C b ↦ false
+    ]
 
 -- a control value: 0, or the word of a well-formed event or of a filter event
 unfoldable pub controlFits : Setup → ℕ → Bool
 controlFits s w =
     either (eqb w 0)
-    (either (filterWord (s .device) w)
-    (both (eqb w (eventWord (s .device) (codeOf w) (maskOf w))) (formed s (Event (codeOf w) (maskOf w) noCounter))))
+    (either (filterWord s w)
+    (both (eqb w (eventWord s (codeOf w) (maskOf w))) (formed s (Event (codeOf w) (maskOf w) noCounter))))
 
 -- RSP1 with n1 counters on it: "an unused RSP must be 0"
 unfoldable pub rsp1Fits : Setup → ℕ → ℕ → Bool
@@ -82,12 +85,16 @@ unfoldable pub filtersFit : Setup → (ℕ → ℕ) → FilterValues → Bool
 filtersFit s f v =
     let n = counterCount (s .device) in
     elim (s .device) [
-      | G ↦ let n0 = count n f (rspWord G 0) in
-          let n1 = count n f (rspWord G 1) in
+      | G ↦ let n0 = count n f (rspWord s 0) in
+          let n1 = count n f (rspWord s 1) in
           both (rsp1Fits s n1 (v .rsp1)) (rsp0Fits s n0 n1 (v .rsp0) (v .rsp1))
-      | S ↦ packetsFit s (count n f (packetWord S)) v
+      | S ↦ packetsFit s (count n f (packetWord s)) v
       | C b ↦ true
     ]
+
+-- the value of the U-Box, which is checked "only where something is asked"
+unfoldable pub uboxFits : Setup → ℕ → Bool
+uboxFits s v = either (not (asked s)) (eqb v (uboxValue s))
 
 -- whether some plan leaves the values
 unfoldable pub accepts : Setup → RegisterValues → Bool
@@ -95,19 +102,23 @@ accepts s v =
     let n = counterCount (s .device) in
     both (every n (λ k. controlFits s (ours s v k)))
     (both (eqb (v .global) (lastGlobal s (setFrom n 0 (λ k. not (eqb (ours s v k) 0)))))
-    (filtersFit s (ours s v) (v .filters)))
+    (both (filtersFit s (ours s v) (v .filters))
+    (uboxFits s (v .ubox))))
 
 -- ---- what is told
 
 -- the filter of a control word
-unfoldable pub filterOf : Device → FilterValues → ℕ → FilterRead
-filterOf G v w = pick (eqb w (rspWord G 0)) (Rsp 0 (v .rsp0)) (pick (eqb w (rspWord G 1)) (Rsp 1 (v .rsp1)) NoFilter)
-filterOf S v w = pick (eqb w (packetWord S)) (MatchMask (v .«match_word») (v .«mask_word»)) NoFilter
-filterOf (C b) v w = NoFilter
+unfoldable pub filterOf : Setup → FilterValues → ℕ → FilterRead
+filterOf s v w =
+    elim (s .device) [
+      | G ↦ pick (eqb w (rspWord s 0)) (Rsp 0 (v .rsp0)) (pick (eqb w (rspWord s 1)) (Rsp 1 (v .rsp1)) NoFilter)
+      | S ↦ pick (eqb w (packetWord s)) (MatchMask (v .«match_word») (v .«mask_word»)) NoFilter
+      | C b ↦ NoFilter
+    ]
 
 -- "off, or event with its filter register and words"
-unfoldable pub tell : Device → FilterValues → ℕ → CounterState
-tell d v w = pick (eqb w 0) Off (Counts (codeOf w) (maskOf w) (filterOf d v w))
+unfoldable pub tell : Setup → FilterValues → ℕ → CounterState
+tell s v w = pick (eqb w 0) Off (Counts (codeOf w) (maskOf w) (filterOf s v w))
 
 -- a counter's place in the answer
 abbrev pub cell : CounterState → CounterRead
@@ -118,7 +129,7 @@ unfoldable pub readingOf : Setup → RegisterValues → Reading
 readingOf s v =
     record {
       answer = Accepted;
-      counters = tabulate capacity (λ k. cell (pick (has (s .usable) k) (tell (s .device) (v .filters) (ours s v k)) NotOurs));
+      counters = tabulate capacity (λ k. cell (pick (has (s .usable) k) (tell s (v .filters) (ours s v k)) NotOurs));
     }
 
 -- a refused reader tells nothing of any counter

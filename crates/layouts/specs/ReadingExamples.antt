@@ -6,6 +6,9 @@ use Prim.Native.Nat.{ℕ, _-_}
 use lib.ListN.{length, replicate}
 use Rattle.requests.specs.Refusals.{answerNumber}
 use Rattle.requests.specs.Devices.{capacity}
+use Rattle.requests.specs.Askings.{unasked}
+use Rattle.requests.specs.declared.Core.{Core}
+use Rattle.requests.specs.declared.Core.the-variants.{NoCore, At}
 use Rattle.requests.specs.declared.Opening.{Opening}
 use Rattle.layouts.specs.Read.{readOf}
 use Rattle.layouts.specs.Told.{Told, notOurs, off, counting, toldBy}
@@ -16,16 +19,16 @@ use Rattle.layouts.specs.declared.Reading.{Reading}
 -- values on G: control values, RSP0 and RSP1, global control
 abbrev onG : List ℕ → ℕ → ℕ → ℕ → RegisterValues
 onG control w0 w1 g =
-    record { control = control ++ 0 ∷ 0 ∷ 0 ∷ 0 ∷ []; filters = record { rsp0 = w0; rsp1 = w1; «mm_cfg» = 0; «match_word» = 0; «mask_word» = 0 }; global = g }
+    record { control = control ++ 0 ∷ 0 ∷ 0 ∷ 0 ∷ []; filters = record { rsp0 = w0; rsp1 = w1; «mm_cfg» = 0; «match_word» = 0; «mask_word» = 0 }; global = g; ubox = 0 }
 
 -- values on S: control values, MM_CFG, MATCH and MASK, global control
 abbrev onS : List ℕ → ℕ → ℕ → ℕ → ℕ → RegisterValues
 onS control c x y g =
-    record { control = control ++ 0 ∷ 0 ∷ 0 ∷ 0 ∷ []; filters = record { rsp0 = 0; rsp1 = 0; «mm_cfg» = c; «match_word» = x; «mask_word» = y }; global = g }
+    record { control = control ++ 0 ∷ 0 ∷ 0 ∷ 0 ∷ []; filters = record { rsp0 = 0; rsp1 = 0; «mm_cfg» = c; «match_word» = x; «mask_word» = y }; global = g; ubox = 0 }
 
 -- values on C: control values, global control
 abbrev onC : List ℕ → ℕ → RegisterValues
-onC control g = record { control = control ++ 0 ∷ 0 ∷ []; filters = record { rsp0 = 0; rsp1 = 0; «mm_cfg» = 0; «match_word» = 0; «mask_word» = 0 }; global = g }
+onC control g = record { control = control ++ 0 ∷ 0 ∷ []; filters = record { rsp0 = 0; rsp1 = 0; «mm_cfg» = 0; «match_word» = 0; «mask_word» = 0 }; global = g; ubox = 0 }
 
 -- an opening, with register values
 pub record Given : Type 0 where
@@ -34,11 +37,24 @@ pub record Given : Type 0 where
 
 -- the letter of a device, a usable set and fixed enables
 abbrev given : ℕ → ℕ → ℕ → RegisterValues → Given
-given letter usable fixed v = record { opening = record { device = letter; usable = set usable; fixed = fixed; cbox = 0 }; values = v }
+given letter usable fixed v = record { opening = record { device = letter; usable = set usable; fixed = fixed; cbox = 0; overflow = unasked }; values = v }
 
 -- a C-Box and a usable set
 abbrev givenBox : ℕ → ℕ → RegisterValues → Given
-givenBox box usable v = record { opening = record { device = 67; usable = set usable; fixed = 0; cbox = box }; values = v }
+givenBox box usable v = record { opening = record { device = 67; usable = set usable; fixed = 0; cbox = box; overflow = unasked }; values = v }
+
+-- the letter of a device whose first four counters are usable, a freeze and a core; control and global values, and that of the U-Box
+abbrev asked : ℕ → ℕ → Core → ℕ → ℕ → ℕ → Given
+asked letter freeze core first global ubox =
+    record {
+      opening = record { device = letter; usable = set 15; fixed = 0; cbox = 0; overflow = record { freeze = freeze; core = core } };
+      values = record {
+        control = first ∷ 0 ∷ 0 ∷ 0 ∷ 0 ∷ 0 ∷ 0 ∷ 0 ∷ [];
+        filters = record { rsp0 = 0; rsp1 = 0; «mm_cfg» = 0; «match_word» = 0; «mask_word» = 0 };
+        global = global;
+        ubox = ubox;
+      };
+    }
 
 -- what the reader answers
 unfoldable pub readingFor : Given → Reading
@@ -82,6 +98,10 @@ acceptances =
       tells = counting 0x0B 0x18 none [] ∷ counting 0x19 0x00 none [] ∷ off ∷ off ∷ off ∷ counting 0x28 0xFF none [] ∷ [];
     }
     ∷ record { given = givenBox 1 48 (onC (0xFFFF ∷ 0 ∷ 0 ∷ 0 ∷ 0x40001F ∷ 0 ∷ []) 0x1F); tells = notOurs ∷ notOurs ∷ notOurs ∷ notOurs ∷ counting 0x1F 0x00 none [] ∷ off ∷ [] }
+    -- order 7: the value of the U-Box where a freeze is asked, and any value where nothing is
+    ∷ record { given = asked 83 1 NoCore 0x500052 1 0x90000000; tells = counting 0x52 0x00 none [] ∷ off ∷ off ∷ off ∷ [] }
+    ∷ record { given = asked 83 0 NoCore 0x400052 1 0xFFFFFFFF; tells = counting 0x52 0x00 none [] ∷ off ∷ off ∷ off ∷ [] }
+    ∷ record { given = asked 71 0 NoCore 0x4300C0 1 0x90000000; tells = counting 0xC0 0x00 none [] ∷ off ∷ off ∷ off ∷ [] }
     ∷ []
 
 -- what is told of an example; the counters past the device's are not ours
@@ -133,12 +153,20 @@ refusals =
     -- order 3: a box that document 004 does not have, a set above 63, a box on S; packets are not on C, and 0B has no mask 05
     ∷ refusedAs 3 (givenBox 8 63 (onC (0 ∷ 0 ∷ 0 ∷ 0 ∷ 0 ∷ 0 ∷ []) 0))
     ∷ refusedAs 3 (givenBox 0 64 (onC (0 ∷ 0 ∷ 0 ∷ 0 ∷ 0 ∷ 0 ∷ []) 0))
-    ∷ refusedAs 3 (record { opening = record { device = 83; usable = set 15; fixed = 0; cbox = 1 }; values = onS (0 ∷ 0 ∷ 0 ∷ 0 ∷ []) 0 0 0 0 })
+    ∷ refusedAs 3 (record { opening = record { device = 83; usable = set 15; fixed = 0; cbox = 1; overflow = unasked }; values = onS (0 ∷ 0 ∷ 0 ∷ 0 ∷ []) 0 0 0 0 })
     ∷ refusedAs 15 (givenBox 0 63 (onC (0x400000 ∷ 0 ∷ 0 ∷ 0 ∷ 0 ∷ 0 ∷ []) 1))
     ∷ refusedAs 15 (givenBox 0 63 (onC (0x40050B ∷ 0 ∷ 0 ∷ 0 ∷ 0 ∷ 0 ∷ []) 1))
     ∷ refusedAs 15 (givenBox 0 63 (onC (0 ∷ 0 ∷ 0 ∷ 0 ∷ 0 ∷ 0 ∷ []) 0x40))
     -- order 5: a bit outside the fields of the mask register
     ∷ refusedAs 15 (given 83 15 0 (onS (0x400000 ∷ 0 ∷ 0 ∷ 0 ∷ []) 0x8000000000000000 0 0x8000000000 1))
+    -- order 7: another value of the U-Box; pmi_en left out, and where nothing is asked; "3 where opening would refuse them"
+    ∷ refusedAs 15 (asked 83 1 NoCore 0x500052 1 0x10000000)
+    ∷ refusedAs 15 (asked 83 0 (At 2) 0x500052 1 0x10000004)
+    ∷ refusedAs 15 (asked 83 1 NoCore 0x400052 1 0x90000000)
+    ∷ refusedAs 15 (asked 83 0 NoCore 0x500052 1 0)
+    ∷ refusedAs 3 (asked 83 2 NoCore 0x500052 1 0x90000000)
+    ∷ refusedAs 3 (asked 83 1 (At 8) 0x500052 1 0x90000000)
+    ∷ refusedAs 3 (asked 71 1 NoCore 0x4300C0 1 0x90000000)
     ∷ []
 
 pub record ReadingExamples : Type 0 where

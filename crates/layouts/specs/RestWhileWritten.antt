@@ -7,11 +7,12 @@ use Prim.Native.Nat.{ℕ}
 use Rattle.requests.specs.declared.Setup.{Setup}
 use Rattle.requests.specs.declared.Device.the-variants.{S}
 use Rattle.requests.specs.declared.Request.{Request}
+use Rattle.requests.specs.Askings.{asked}
 use Rattle.requests.specs.Bits.{bit}
 use Rattle.plans.specs.declared.Place.{Place}
 use Rattle.plans.specs.Lists.{All}
 use Rattle.plans.specs.Legal.{Legal, Usable, packetsOf}
-use Rattle.layouts.specs.Layout.{layoutOf, controlAt, counterAt, filtersAt, mmCfgAt, matchAt, maskAt}
+use Rattle.layouts.specs.Layout.{layoutOf, controlAt, counterAt, filtersAt, mmCfgAt, matchAt, maskAt, uboxAt}
 use Rattle.layouts.specs.Writes.{Write, writes, apply}
 
 -- the last of the writes to the address has the value
@@ -87,9 +88,22 @@ pub record Rests (s : Setup) (rs : List Request) (ws : List Write) : Type 0 wher
   pub at-rest : (before : List Write) (w : Write) (later : List Write) → ws ≡ before ++ w ∷ later → AtRest s rs before w
   pub enabled-last : EnabledLast s ws
 
+-- where something is asked, two writes of the U-Box frame the list, and the U-Box holds 0 at every write between them
+pub record Framed (inner ws : List Write) : Type 0 where
+  pub value : ℕ
+  pub list : ws ≡ (uboxAt, 0) ∷ inner ++ (uboxAt, value) ∷ []
+  pub stopped : (before : List Write) (w : Write) (later : List Write) → inner ≡ before ++ w ∷ later → LastWritten ((uboxAt, 0) ∷ before) uboxAt 0
+
+-- the counters rest while the list of the device's own registers is written, which is all of it where nothing is asked
+pub record RestsInside (s : Setup) (rs : List Request) (ws : List Write) : Type 0 where
+  pub inner : List Write
+  pub rests : Rests s rs inner
+  pub alone : asked s ≡ false → ws ≡ inner
+  pub framed : asked s ≡ true → Framed inner ws
+
 -- the writes of every legal plan
 abbrev pub RestWhileWritten : Type 0
-RestWhileWritten = (s : Setup) (rs : List Request) (ps : List Place) → Legal s rs ps → Rests s rs (writes s rs ps)
+RestWhileWritten = (s : Setup) (rs : List Request) (ps : List Place) → Legal s rs ps → RestsInside s rs (writes s rs ps)
 
 -- the last value written to a register is what it then holds, whatever the registers held before
 abbrev pub LastIsHeld : Type 0

@@ -3,7 +3,7 @@ use mathlib.Core.List.{List, [], _∷_, flatMap}
 use mathlib.Core.Bool.{Bool, true, false}
 use Prim.Native.Nat.{ℕ, zero, suc, _+_, _*_}
 use lib.Dec.{eqb}
-use Rattle.requests.specs.declared.Device.{Device}
+use Rattle.requests.specs.declared.Setup.{Setup}
 use Rattle.requests.specs.declared.Request.{Request}
 use Rattle.requests.specs.declared.Request.the-variants.{Event, Packet, Offcore, Latency}
 use Rattle.requests.specs.Choice.{pick}
@@ -16,11 +16,11 @@ use Rattle.layouts.specs.Layout.{tabulate, eventWord, rspWord, packetWor
 use Rattle.layouts.specs.declared.Settings.{Settings}
 
 -- the counters of a placed request, with their control words
-unfoldable pub usesOf : Device → Request → Place → List (ℕ × ℕ)
-usesOf d (Event c m a) p = (first p, eventWord d c m) ∷ []
-usesOf d (Packet x y a) p = (first p, packetWord d) ∷ []
-usesOf d (Offcore w a) p = (first p, rspWord d (second p)) ∷ []
-usesOf d (Latency t a b) p = (first p, rspWord d 0) ∷ (second p, rspWord d 1) ∷ []
+unfoldable pub usesOf : Setup → Request → Place → List (ℕ × ℕ)
+usesOf s (Event c m a) p = (first p, eventWord s c m) ∷ []
+usesOf s (Packet x y a) p = (first p, packetWord s) ∷ []
+usesOf s (Offcore w a) p = (first p, rspWord s (second p)) ∷ []
+usesOf s (Latency t a b) p = (first p, rspWord s 0) ∷ (second p, rspWord s 1) ∷ []
 
 -- the control word of counter k, 0 where it has no use
 unfoldable pub wordAt : List (ℕ × ℕ) → ℕ → ℕ
@@ -43,11 +43,11 @@ nonempty [] = false
 nonempty (x ∷ xs) = true
 
 -- "each RSP register holds the one word that all its users asked for", "0 where unused"
-unfoldable pub settingsOf : Device → List Request → List Place → Settings
-settingsOf d rs ps =
+unfoldable pub settingsOf : Setup → List Request → List Place → Settings
+settingsOf s rs ps =
     record {
-      used = record { 0 = setFrom (counterCount d) 0 (inList (counters ps)) };
-      words = tabulate capacity (wordAt (ofAll (usesOf d) rs ps));
+      used = record { 0 = setFrom (counterCount (s .device)) 0 (inList (counters ps)) };
+      words = tabulate capacity (wordAt (ofAll (usesOf s) rs ps));
       rsp0 = headOr 0 (ofAll (wordsOf 0) rs ps);
       rsp1 = headOr 0 (ofAll (wordsOf 1) rs ps);
       packets = nonempty (flatMap packetsOf rs);

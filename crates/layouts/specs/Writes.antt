@@ -1,18 +1,21 @@
--- Document 01, 'Writes, in order'.
+-- Document 01, 'Writes, in order', and order 7's frame.
 use mathlib.Core.List.{List, [], _∷_, _++_}
 use mathlib.Core.Bool.{Bool, true, false}
 use Prim.Native.Nat.{ℕ, zero, suc, _+_, _*_, _-_, _%_, _^_}
-use lib.Dec.{eqb}
+use lib.Dec.{ltb, eqb}
 use lib.ListN.{length, getD, drop, replicate}
 use Rattle.requests.specs.declared.CounterSet.{CounterSet}
 use Rattle.requests.specs.declared.Device.{Device}
 use Rattle.requests.specs.declared.Device.the-variants.{G, S, C}
+use Rattle.requests.specs.declared.Core.{Core}
+use Rattle.requests.specs.declared.Core.the-variants.{NoCore, At}
 use Rattle.requests.specs.declared.Setup.{Setup}
 use Rattle.requests.specs.declared.Request.{Request}
 use Rattle.requests.specs.Choice.{pick}
+use Rattle.requests.specs.Askings.{coreCount, asked}
 use Rattle.requests.specs.Devices.{has, counterCount, allCounters, fixedCount, capacity}
 use Rattle.plans.specs.declared.Place.{Place}
-use Rattle.layouts.specs.Layout.{layoutOf, rsp0At, rsp1At, mmCfgAt, matchAt, maskAt, mmEnable}
+use Rattle.layouts.specs.Layout.{layoutOf, rsp0At, rsp1At, mmCfgAt, matchAt, maskAt, uboxAt, mmEnable, frzAll, enAll, coreSel}
 use Rattle.layouts.specs.Settings.{settingsOf}
 use Rattle.layouts.specs.declared.Settings.{Settings}
 
@@ -69,10 +72,19 @@ filterWrites G t = offcoreWrites (t .rsp0) (t .rsp1)
 filterWrites S t = packetWrites (t .packets) (t .«match_word») (t .«mask_word»)
 filterWrites (C b) t = []
 
--- the list for register values: global control with its first value; control 0 for usable k; the filter registers;
+-- the bit of a core in pmi_core_sel
+unfoldable pub coreBit : Core → ℕ
+coreBit NoCore = 0
+coreBit (At c) = pick (ltb c coreCount) (2 ^ (coreSel + c)) 0
+
+-- the last value of the U-Box: "en_all and what was asked there"
+unfoldable pub uboxValue : Setup → ℕ
+uboxValue s = 2 ^ enAll + pick (eqb (s .overflow .freeze) 0) 0 (2 ^ frzAll) + coreBit (s .overflow .core)
+
+-- the list of the device's own registers: global control with its first value; control 0 for usable k; the filter registers;
 -- count 0 for used k; control for used k; global control with its last value
-unfoldable pub writesFor : Setup → Settings → List Write
-writesFor s t =
+unfoldable pub boxWrites : Setup → Settings → List Write
+boxWrites s t =
     let n = counterCount (s .device) in
     let l = layoutOf (s .device) in
     ((l .global, firstGlobal s) ∷ [])
@@ -82,9 +94,13 @@ writesFor s t =
     ++ rows n (t .used) (l .control) (l .step) (t .words)
     ++ ((l .global, lastGlobal s (t .used .0)) ∷ [])
 
+-- the list for register values: where something is asked it "begins with U_MSR_PMON_GLOBAL_CTL = 0 and ends with en_all and what was asked there"
+unfoldable pub writesFor : Setup → Settings → List Write
+writesFor s t = row (asked s) uboxAt 0 ++ boxWrites s t ++ row (asked s) uboxAt (uboxValue s)
+
 -- the write list of a plan
 unfoldable pub writes : Setup → List Request → List Place → List Write
-writes s rs ps = writesFor s (settingsOf (s .device) rs ps)
+writes s rs ps = writesFor s (settingsOf s rs ps)
 
 -- "address then value"
 unfoldable pub flat : List Write → List ℕ

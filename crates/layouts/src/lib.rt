@@ -37,11 +37,13 @@ pub struct FilterValues {
     pub mask_word: u64,
 }
 
-// What the reader is given. Control values at and past the device's number of counters are not looked at.
+// What the reader is given. Control values at and past the device's number of counters are not looked at, nor is the value of the U-Box
+// where nothing is asked of it.
 pub struct RegisterValues {
     pub control: [u64; CAPACITY],
     pub filters: FilterValues,
     pub global: u64,
+    pub ubox: u64,
 }
 
 // The filter of an event that is counted.
