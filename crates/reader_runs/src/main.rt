@@ -15,9 +15,19 @@ use crate::asked::offcore;
 use crate::asked::packet;
 use crate::asked::six;
 use crate::run::run;
+use requests::Core;
 use requests::CounterSet;
 use requests::Device;
+use requests::Overflow;
 use requests::Setup;
+
+// An overflow that does nothing.
+fn unasked() -> Overflow {
+    Overflow {
+        freeze: 0,
+        core: Core::NoCore,
+    }
+}
 
 // Device G with a usable set and the enables of its fixed counters.
 fn g(usable: u64, fixed: u64) -> Setup {
@@ -25,6 +35,7 @@ fn g(usable: u64, fixed: u64) -> Setup {
         device: Device::G,
         usable: CounterSet(usable),
         fixed: fixed,
+        overflow: unasked(),
     }
 }
 
@@ -34,6 +45,7 @@ fn s(usable: u64) -> Setup {
         device: Device::S,
         usable: CounterSet(usable),
         fixed: 0,
+        overflow: unasked(),
     }
 }
 
@@ -43,6 +55,22 @@ fn c(usable: u64, cbox: u64) -> Setup {
         device: Device::C(cbox),
         usable: CounterSet(usable),
         fixed: 0,
+        overflow: unasked(),
+    }
+}
+
+// The same, where an overflow does something.
+fn asking(setup: Setup, freeze: u64, core: Core) -> Setup {
+    let device = setup.device;
+    let usable = setup.usable;
+    Setup {
+        device: device,
+        usable: usable,
+        fixed: setup.fixed,
+        overflow: Overflow {
+            freeze: freeze,
+            core: core,
+        },
     }
 }
 
@@ -84,6 +112,9 @@ fn on_s() {
     run(s(15), events, 4);
     run(s(15), packets, 3);
     run(s(14), one, 2);
+    run(asking(s(9), 1, Core::NoCore), events, 0);
+    run(asking(s(15), 0, Core::At(0)), events, 4);
+    run(asking(s(14), 1, Core::At(7)), one, 2);
 }
 
 fn on_c() {
@@ -106,6 +137,13 @@ fn on_c() {
     run(c(63, 0), listed, 6);
     run(c(48, 1), four(maf, maf, maf, maf), 1);
     run(c(62, 7), masked, 3);
+    run(asking(c(63, 0), 1, Core::At(2)), listed, 6);
+    run(
+        asking(c(48, 1), 0, Core::At(5)),
+        four(maf, maf, maf, maf),
+        1,
+    );
+    run(asking(c(62, 7), 1, Core::NoCore), masked, 0);
 }
 
 fn main() {

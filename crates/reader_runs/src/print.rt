@@ -2,7 +2,9 @@
 use layouts::CounterState;
 use layouts::FilterRead;
 use layouts::Reading;
+use requests::Core;
 use requests::Device;
+use requests::Overflow;
 use requests::Setup;
 use requests::devices::counter_count;
 
@@ -43,10 +45,32 @@ fn cbox(d: Device) {
     }
 }
 
+// The core that an overflow interrupts.
+fn core(c: Core) {
+    match c {
+        Core::NoCore => {}
+        Core::At(number) => {
+            text(b" core ");
+            decimal(number);
+        }
+    }
+}
+
+// What an overflow does.
+fn overflow(o: Overflow) {
+    let interrupted = o.core;
+    if o.freeze != 0 {
+        text(b" freeze ");
+        decimal(o.freeze);
+    }
+    core(interrupted);
+}
+
 // What a plan is for; fixed counters are told where they are on.
 pub fn setup(s: Setup) {
     let on = s.device;
     let usable = s.usable;
+    let asked = s.overflow;
     device(on);
     text(b" ");
     decimal(usable.0);
@@ -55,6 +79,7 @@ pub fn setup(s: Setup) {
         decimal(s.fixed);
     }
     cbox(on);
+    overflow(asked);
 }
 
 // The filter register and its words.

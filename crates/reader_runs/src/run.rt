@@ -12,10 +12,9 @@ use requests::Setup;
 
 // The write list of the first plan, and the number of its writes.
 fn planned(setup: Setup, requests: [Request; 8], count: usize, list: &mut [u64; 44]) -> usize {
-    let device = setup.device;
     let found = first_plan(setup, requests, count);
     let places = found.places;
-    let settings = settings_of(device, requests, places, count);
+    let settings = settings_of(setup, requests, places, count);
     match write_list(list, setup, settings) {
         WriteAnswer::Written(writes) => writes,
         WriteAnswer::TooShort => 0,
@@ -23,7 +22,7 @@ fn planned(setup: Setup, requests: [Request; 8], count: usize, list: &mut [u64; 
 }
 
 // What comes of one bit changed.
-fn one_bit_changed(setup: Setup, values: [u64; 12], told: Reading) {
+fn one_bit_changed(setup: Setup, values: [u64; 13], told: Reading) {
     let same = changes::count(setup, values, told, changes::SAME);
     let another = changes::count(setup, values, told, changes::ANOTHER);
     print::text(b"one bit changed: accepted ");

@@ -3,6 +3,7 @@ use layouts::FilterValues;
 use layouts::RegisterValues;
 use requests::Device;
 use requests::Setup;
+use requests::askings::asked;
 use requests::devices::counter_count;
 use requests::set::has;
 ghost use Prim.Native.Nat.{_<_};
@@ -21,8 +22,10 @@ const MATCH: usize = 10;
 
 const MASK: usize = 11;
 
+const UBOX: usize = 12;
+
 // The place of any register that the reader is not given.
-const OTHER: usize = 12;
+const OTHER: usize = 13;
 
 // The place of the register at an address: of G, of S, and of C-Boxes 0, 1 and 7.
 fn place_of(address: u64) -> usize {
@@ -40,18 +43,19 @@ fn place_of(address: u64) -> usize {
         0x0E48 => MM_CFG, // S_MSR_MM_CFG
         0x0E49 => MATCH, // S_MSR_MATCH
         0x0E4A => MASK, // S_MSR_MASK
+        0x0C00 => UBOX, // U_MSR_PMON_GLOBAL_CTL
         _ => OTHER,
     }
 }
 
 // The values after a list of `count` writes, from registers with all bits set.
-pub fn after(list: &[u64; 44], count: usize) -> [u64; 12] {
-    let mut values = [ALL; 12];
+pub fn after(list: &[u64; 44], count: usize) -> [u64; 13] {
+    let mut values = [ALL; 13];
     let mut i: usize = 0;
     while i < 22 {
         let register = place_of(list[2 * i]);
         if i < count {
-            if register < 12 {
+            if register < 13 {
                 values[register] = list[2 * i + 1];
             }
         }
@@ -61,8 +65,8 @@ pub fn after(list: &[u64; 44], count: usize) -> [u64; 12] {
 }
 
 // The values with a bit of one of them changed.
-pub fn changed(values: [u64; 12], register: usize, bit: u64) -> [u64; 12]
-    requires { ⌜ (register < 12) × (bit < 64) ⌝ }
+pub fn changed(values: [u64; 13], register: usize, bit: u64) -> [u64; 13]
+    requires { ⌜ (register < 13) × (bit < 64) ⌝ }
 {
     let mut others = values;
     others[register] = values[register] ^ (1 << bit);
@@ -70,7 +74,7 @@ pub fn changed(values: [u64; 12], register: usize, bit: u64) -> [u64; 12]
 }
 
 // What the reader is given. The control values past the device's counters are not looked at.
-pub fn given(values: [u64; 12]) -> RegisterValues {
+pub fn given(values: [u64; 13]) -> RegisterValues {
     let control = [
         values[0],
         values[1],
@@ -92,6 +96,7 @@ pub fn given(values: [u64; 12]) -> RegisterValues {
         control: control,
         filters: filters,
         global: values[GLOBAL],
+        ubox: values[UBOX],
     }
 }
 
@@ -118,7 +123,7 @@ fn looked_at_on_s(register: usize, mm_cfg: u64) -> bool {
 }
 
 // Whether the reader looks at the value of a register.
-pub fn looked_at(setup: Setup, values: [u64; 12], register: usize) -> bool {
+pub fn looked_at(setup: Setup, values: [u64; 13], register: usize) -> bool {
     let device = setup.device;
     let usable = setup.usable;
     if register < GLOBAL {
@@ -126,6 +131,9 @@ pub fn looked_at(setup: Setup, values: [u64; 12], register: usize) -> bool {
     }
     if register == GLOBAL {
         return true;
+    }
+    if register == UBOX {
+        return asked(setup);
     }
     match device {
         Device::G => on_g(register),

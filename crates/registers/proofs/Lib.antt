@@ -1,4 +1,5 @@
 pub mod GlobalControl
+pub mod UBoxValues
 pub mod Appending
 pub mod WriteLengths
 pub mod UsedCounters

@@ -5,7 +5,7 @@ use mathlib.Core.Bool.{Bool, false}
 use Prim.Native.Nat.{ℕ, zero, suc, _+_, _-_, _<_, _≤_, min}
 use native.Mathlib.Omega.{arith}
 use lib.ListN.{length, getD, take, drop, set, replicate}
-use Rattle.requests.specs.declared.Device.{Device}
+use Rattle.requests.specs.declared.Setup.{Setup}
 use Rattle.requests.specs.declared.Request.{Request}
 use Rattle.requests.specs.Choice.{either}
 use Rattle.requests.specs.Bits.{inList}
@@ -42,13 +42,13 @@ words-more (x ∷ xs) us =
     tabulate-set capacity (x .0) (x .1) (wordAt (xs ++ us)) ∙ ap (λ (ws : List ℕ). set ws (x .0) (x .1)) (words-more xs us)
 
 -- a plan with one request more in front
-pub settings-add : (d : Device) (r : Request) (p : Place) (rs : List Request) (ps : List Place)
-    → settingsWith d r p (settingsOf d rs ps) ≡ settingsOf d (r ∷ rs) (p ∷ ps)
+pub settings-add : (s : Setup) (r : Request) (p : Place) (rs : List Request) (ps : List Place)
+    → settingsWith s r p (settingsOf s rs ps) ≡ settingsOf s (r ∷ rs) (p ∷ ps)
 unfolding settingsOf settingsWith withPackets ofAll counters flatMap
-settings-add d r p rs ps =
+settings-add s r p rs ps =
     rw (
-      used-more d (countersOf p) (counters ps),
-      words-more (usesOf d r p) (ofAll (usesOf d) rs ps),
+      used-more (s .device) (countersOf p) (counters ps),
+      words-more (usesOf s r p) (ofAll (usesOf s) rs ps),
       head-more 0 (wordsOf 0 r p) (ofAll (wordsOf 0) rs ps),
       head-more 0 (wordsOf 1 r p) (ofAll (wordsOf 1) rs ps),
       nonempty-more (packetsOf r) (flatMap packetsOf rs),
@@ -62,10 +62,10 @@ set-none zero k on h = refl
 set-none (suc n) k on h = rw (h k, set-none n (suc k) on h)
 
 -- the register values of no request
-pub settings-none : (d : Device)
-    → record { used = setOf 0; words = replicate 8 0; rsp0 = 0; rsp1 = 0; packets = false; «match_word» = 0; «mask_word» = 0 } ≡ settingsOf d [] []
+pub settings-none : (s : Setup)
+    → record { used = setOf 0; words = replicate 8 0; rsp0 = 0; rsp1 = 0; packets = false; «match_word» = 0; «mask_word» = 0 } ≡ settingsOf s [] []
 unfolding settingsOf ofAll counters flatMap inList wordAt tabulate capacity
-settings-none d = rw (set-none (counterCount d) 0 (inList []) (λ j. refl))
+settings-none s = rw (set-none (counterCount (s .device)) 0 (inList []) (λ j. refl))
 
 -- ---- requests and places in their arrays, of which the first count are in use
 
@@ -73,38 +73,38 @@ settings-none d = rw (set-none (counterCount d) 0 (inList []) (λ j. refl))
 abbrev placesAfter : ℕ → ℕ → List Given → List Place
 placesAfter count i gs = map (λ (g : Given). g .place) (drop i (take count gs))
 
-module _ (d : Device) (count : ℕ) (rs : List Request) (gs : List Given) where
+module _ (s : Setup) (count : ℕ) (rs : List Request) (gs : List Given) where
   -- past the last request
-  pub settings-past : (i : ℕ) → min count (length rs) ≤ i → min count (length gs) ≤ i → settingsOf d [] [] ≡ settingsOf d (drop i (take count rs)) (placesAfter count i gs)
+  pub settings-past : (i : ℕ) → min count (length rs) ≤ i → min count (length gs) ≤ i → settingsOf s [] [] ≡ settingsOf s (drop i (take count rs)) (placesAfter count i gs)
   settings-past i requests places = rw (window-past rs count i requests, window-past gs count i places)
 
   -- the request before
   pub settings-before : (left : ℕ) (r : Request) (g : Given) → 0 < left → left ≤ count → left ≤ length rs → left ≤ length gs
-      → settingsWith d (getD rs (left - 1) r) (getD gs (left - 1) g .place) (settingsOf d (drop left (take count rs)) (placesAfter count left gs))
-      ≡ settingsOf d (drop (left - 1) (take count rs)) (placesAfter count (left - 1) gs)
+      → settingsWith s (getD rs (left - 1) r) (getD gs (left - 1) g .place) (settingsOf s (drop left (take count rs)) (placesAfter count left gs))
+      ≡ settingsOf s (drop (left - 1) (take count rs)) (placesAfter count (left - 1) gs)
   settings-before left r g some within ofRequests ofPlaces =
       let e : left - 1 + 1 ≡ left = omega arith in
       let requests = rw e at (window-step rs count (left - 1) r (omega arith) (omega arith)) in
       let places = rw e at (window-step gs count (left - 1) g (omega arith) (omega arith)) in
-      rw (requests, places) (settings-add d (getD rs (left - 1) r) (getD gs (left - 1) g .place) (drop left (take count rs)) (placesAfter count left gs))
+      rw (requests, places) (settings-add s (getD rs (left - 1) r) (getD gs (left - 1) g .place) (drop left (take count rs)) (placesAfter count left gs))
 
 -- ---- requests in rows, and places in a packed plan
 
-module _ (d : Device) (code : ℕ) (rows : List ℕ) (count : ℕ) where
+module _ (s : Setup) (code : ℕ) (rows : List ℕ) (count : ℕ) where
   -- the register values of the rows from number i on
   abbrev pub settingsFrom : ℕ → Settings
-  settingsFrom i = settingsOf d (rowsFrom rows i (count - i)) (placesFrom code i (rowsFrom rows i (count - i)))
+  settingsFrom i = settingsOf s (rowsFrom rows i (count - i)) (placesFrom code i (rowsFrom rows i (count - i)))
 
   -- past the last row
-  pub rows-past : settingsOf d [] [] ≡ settingsFrom count
+  pub rows-past : settingsOf s [] [] ≡ settingsFrom count
   unfolding rowsFrom placesFrom
   rows-past = let e : count - count ≡ 0 = omega arith in rw e
 
   -- the row before
   pub rows-before : (left : ℕ) → 0 < left → left ≤ count
-      → settingsWith d (requestAt rows (left - 1)) (placeAt code (left - 1) (requestAt rows (left - 1))) (settingsFrom left) ≡ settingsFrom (left - 1)
+      → settingsWith s (requestAt rows (left - 1)) (placeAt code (left - 1) (requestAt rows (left - 1))) (settingsFrom left) ≡ settingsFrom (left - 1)
   unfolding placesFrom
   rows-before left some within =
       let e : left - 1 + 1 ≡ left = omega arith in
       let next = rw e at (rows-next rows (left - 1) count (omega arith)) in
-      rw (next, e) (settings-add d (requestAt rows (left - 1)) _ (rowsFrom rows left (count - left)) _)
+      rw (next, e) (settings-add s (requestAt rows (left - 1)) _ (rowsFrom rows left (count - left)) _)

@@ -15,7 +15,7 @@ use Rattle.requests.specs.Devices.{counterCount}
 use Rattle.layouts.specs.Layout.{rspWord, packetWord}
 use Rattle.layouts.specs.Settings.{setFrom}
 use Rattle.layouts.specs.Writes.{lastGlobal}
-use Rattle.layouts.specs.Read.{ours, count, controlFits, rsp1Fits, rsp0Fits, packetsFit, filtersFit, accepts}
+use Rattle.layouts.specs.Read.{ours, count, controlFits, rsp1Fits, rsp0Fits, packetsFit, filtersFit, uboxFits, accepts}
 use Rattle.layouts.specs.declared.FilterValues.{FilterValues}
 use Rattle.layouts.specs.declared.RegisterValues.{RegisterValues}
 use Rattle.layouts.proofs.UsableSets.{on}
@@ -23,14 +23,14 @@ use Rattle.layouts.proofs.UsableSets.{on}
 -- ---- the filter registers
 
 module _ (f : ℕ → ℕ) (v : FilterValues) where
-  pub filters-G : (d : Device) (u : Setup) (n0 n1 : ℕ) → d ≡ G → n0 ≡ count (counterCount d) f (rspWord G 0) → n1 ≡ count (counterCount d) f (rspWord G 1)
+  pub filters-G : (d : Device) (u : Setup) (n0 n1 : ℕ) → d ≡ G → n0 ≡ count (counterCount d) f (rspWord (on d u) 0) → n1 ≡ count (counterCount d) f (rspWord (on d u) 1)
       → both (rsp1Fits (on d u) n1 (v .rsp1)) (rsp0Fits (on d u) n0 n1 (v .rsp0) (v .rsp1)) ≡ filtersFit (on d u) f v
   unfolding filtersFit
   filters-G G u n0 n1 e e0 e1 = rw (e0, e1)
   filters-G S u n0 n1 e e0 e1 = let z : _≡_ {A = ℕ} 0 1 = cc in absurd (omega arith)
   filters-G (C b) u n0 n1 e e0 e1 = let z : _≡_ {A = ℕ} 0 1 = cc in absurd (omega arith)
 
-  pub filters-S : (d : Device) (u : Setup) (n : ℕ) → d ≡ S → n ≡ count (counterCount d) f (packetWord S)
+  pub filters-S : (d : Device) (u : Setup) (n : ℕ) → d ≡ S → n ≡ count (counterCount d) f (packetWord (on d u))
       → packetsFit (on d u) n v ≡ filtersFit (on d u) f v
   unfolding filtersFit
   filters-S S u n e en = rw en
@@ -59,12 +59,22 @@ module _ (s : Setup) (v : RegisterValues) (words : List ℕ) (same : (λ k. getD
   counting : lastGlobal s used ≡ lastGlobal s (setFrom limit 0 (λ k. not (eqb (ours s v k) 0)))
   counting = ap (λ (f : ℕ → ℕ). lastGlobal s (setFrom limit 0 (λ k. not (eqb (f k) 0)))) same
 
-  pub accepts-by-filters : every limit (λ k. controlFits s (getD words k 0)) ≡ true → v .global ≡ lastGlobal s used
-      → filtersFit s (λ k. getD words k 0) (v .filters) ≡ accepts s v
-  unfolding accepts both
-  accepts-by-filters fit global =
-      rw (sym controls ∙ fit, eq-eqb (v .global) (lastGlobal s (setFrom limit 0 (λ k. not (eqb (ours s v k) 0)))) (global ∙ counting))
-      (ap (λ (f : ℕ → ℕ). filtersFit s f (v .filters)) same)
+  filters : filtersFit s (λ k. getD words k 0) (v .filters) ≡ filtersFit s (ours s v) (v .filters)
+  filters = ap (λ (f : ℕ → ℕ). filtersFit s f (v .filters)) same
+
+  -- the words and the global value fit
+  module _ (fit : every limit (λ k. controlFits s (getD words k 0)) ≡ true) (global : v .global ≡ lastGlobal s used) where
+    by-filters : both (filtersFit s (ours s v) (v .filters)) (uboxFits s (v .ubox)) ≡ accepts s v
+    unfolding accepts both
+    by-filters = rw (sym controls ∙ fit, eq-eqb (v .global) (lastGlobal s (setFrom limit 0 (λ k. not (eqb (ours s v k) 0)))) (global ∙ counting))
+
+    pub accepts-by-ubox : filtersFit s (λ k. getD words k 0) (v .filters) ≡ true → uboxFits s (v .ubox) ≡ accepts s v
+    unfolding both
+    accepts-by-ubox h = rw (← by-filters, sym filters ∙ h)
+
+    pub filters-refused : filtersFit s (λ k. getD words k 0) (v .filters) ≡ false → false ≡ accepts s v
+    unfolding both
+    filters-refused h = rw (← by-filters, sym filters ∙ h)
 
   pub global-refused : every limit (λ k. controlFits s (getD words k 0)) ≡ true → (v .global ≡ lastGlobal s used → ⊥) → false ≡ accepts s v
   unfolding accepts both

@@ -13,19 +13,20 @@ use Rattle.requests.specs.declared.Device.{Device}
 use Rattle.requests.specs.declared.Setup.{Setup}
 use Rattle.requests.specs.Choice.{pick}
 use Rattle.requests.specs.Refusals.{numberOf, answerNumber}
+use Rattle.requests.specs.Askings.{asked}
 use Rattle.requests.specs.Devices.{size, counterCount, capacity}
 use Rattle.plans.proofs.Members.{size-at-most}
 use Rattle.plans.proofs.PlanLengthHolds.{plan-length}
 use Rattle.layouts.proofs.DeviceFacts.{facts}
 use Rattle.layouts.proofs.WriteCount.{filter-length}
-use Rattle.layouts.specs.Layout.{layoutOf}
-use Rattle.layouts.specs.Writes.{Write, row, rows, zeros, flat, filled, firstGlobal, lastGlobal, packetWrites, filterWrites, writesFor}
+use Rattle.layouts.specs.Layout.{layoutOf, uboxAt}
+use Rattle.layouts.specs.Writes.{Write, row, rows, zeros, flat, filled, firstGlobal, lastGlobal, packetWrites, filterWrites, uboxValue, boxWrites, writesFor}
 use Rattle.layouts.specs.Slices.{Appended, Wrote, tooShort, writeAnswer, writtenAnswer, writtenCount, writeSlice}
 use Rattle.layouts.specs.declared.Layout.{Layout}
 use Rattle.layouts.specs.declared.Settings.{Settings}
 use Rattle.layouts.specs.declared.WriteAnswer.the-variants.{Written, TooShort}
 use Rattle.layouts.proofs.FilledSlices.{length-flat}
-use Rattle.registers.proofs.Appending.{appended-then, length-rows}
+use Rattle.registers.proofs.Appending.{appended-then, length-row, length-rows}
 
 -- a test counts at most once
 pub pick-small : (b : Bool) → pick b 1 0 ≤ 1
@@ -54,26 +55,26 @@ module _ (s : Setup) (t : Settings) (n : ℕ) (l : Layout) (count : n ≡ counte
       ++ rows n (t .used) (l .counter) (l .step) zeros
       ++ rows n (t .used) (l .control) (l .step) (t .words)
       ++ ((l .global, lastGlobal s (t .used .0)) ∷ [])
-      ≡ writesFor s t
-  unfolding writesFor
+      ≡ boxWrites s t
+  unfolding boxWrites
   writes-parts = rw (count, layout)
 
   -- the parts one after another in a slice
-  pub list-appended : {start first second third fourth fifth end : List ℕ} {a b c d e f others value : ℕ}
+  pub box-appended : {start first second third fourth fifth end : List ℕ} {at a b c d e f others value : ℕ}
       → others ≡ firstGlobal s
       → value ≡ lastGlobal s (t .used .0)
-      → Appended start 0 (row true (l .global) others) first a
+      → Appended start at (row true (l .global) others) first a
       → Appended first a (rows n (s .usable) (l .control) (l .step) zeros) second b
       → Appended second b (filterWrites (s .device) t) third c
       → Appended third c (rows n (t .used) (l .counter) (l .step) zeros) fourth d
       → Appended fourth d (rows n (t .used) (l .control) (l .step) (t .words)) fifth e
       → Appended fifth e (row true (l .global) value) end f
-      → Appended start 0 (writesFor s t) end f
-  list-appended stopping counting stopped cleared filtered zeroed selected started =
+      → Appended start at (boxWrites s t) end f
+  box-appended stopping counting stopped cleared filtered zeroed selected started =
       rw (← writes-parts)
       (appended-then (appended-then (appended-then (appended-then (appended-then (rw stopping at stopped) cleared) filtered) zeroed) selected) (rw counting at started))
 
-  pub length-parts : length (writesFor s t) ≡ 2 + size n (s .usable) + length (filterWrites (s .device) t) + 2 * size n (t .used)
+  pub length-parts : length (boxWrites s t) ≡ 2 + size n (s .usable) + length (filterWrites (s .device) t) + 2 * size n (t .used)
   length-parts =
       let parts = simp length-append at (ap length writes-parts) in
       omega (
@@ -91,12 +92,28 @@ module _ (s : Setup) (t : Settings) (n : ℕ) (l : Layout) (count : n ≡ counte
       rw (count, layout) (plan-length .device-at-most (s .device), f .control-small, f .counter-small, f .step-small)
 
 module _ (s : Setup) (t : Settings) where
+  -- between the two writes of the U-Box, where something is asked
+  pub length-framed : length (writesFor s t) ≡ length (boxWrites s t) + 2 * pick (asked s) 1 0
+  unfolding writesFor
+  length-framed = simp length-append (omega (arith, length-row (asked s) uboxAt 0, length-row (asked s) uboxAt (uboxValue s)))
+
+  pub list-appended : {start first second end : List ℕ} {a b c value : ℕ} {framed : Bool}
+      → framed ≡ asked s
+      → value ≡ uboxValue s
+      → Appended start 0 (row framed uboxAt 0) first a
+      → Appended first a (boxWrites s t) second b
+      → Appended second b (row framed uboxAt value) end c
+      → Appended start 0 (writesFor s t) end c
+  unfolding writesFor
+  list-appended asks last frozen written started = appended-then (appended-then (rw asks at frozen) written) (rw (asks, last) at started)
+
   pub length-writes :
-      length (writesFor s t) ≡ 2 + size (counterCount (s .device)) (s .usable) + length (filterWrites (s .device) t) + 2 * size (counterCount (s .device)) (t .used)
-  length-writes = length-parts s t (counterCount (s .device)) (layoutOf (s .device)) refl refl
+      length (writesFor s t)
+      ≡ 2 + size (counterCount (s .device)) (s .usable) + length (filterWrites (s .device) t) + 2 * size (counterCount (s .device)) (t .used) + 2 * pick (asked s) 1 0
+  length-writes = omega (arith, length-framed, length-parts s t (counterCount (s .device)) (layoutOf (s .device)) refl refl)
 
   -- twice the number of writes fits a number of the code
-  pub writes-small : length (writesFor s t) ≤ 30
+  pub writes-small : length (writesFor s t) ≤ 32
   writes-small =
       omega (
         arith,
@@ -104,6 +121,7 @@ module _ (s : Setup) (t : Settings) where
         device-size (s .device) (s .usable),
         filters-small (s .device) t,
         device-size (s .device) (t .used),
+        pick-small (asked s),
       )
 
 -- the two answers of the writer

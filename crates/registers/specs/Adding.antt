@@ -6,6 +6,7 @@ use lib.Dec.{ltb}
 use lib.ListN.{set}
 use Rattle.requests.specs.declared.CounterSet.{CounterSet}
 use Rattle.requests.specs.declared.Device.{Device}
+use Rattle.requests.specs.declared.Setup.{Setup}
 use Rattle.requests.specs.declared.Request.{Request}
 use Rattle.requests.specs.Choice.{both, either, pick}
 use Rattle.requests.specs.Devices.{has, counterCount}
@@ -43,11 +44,11 @@ withPackets r t =
     }
 
 -- the register values with one more request in front
-unfoldable pub settingsWith : Device → Request → Place → Settings → Settings
-settingsWith d r p t =
+unfoldable pub settingsWith : Setup → Request → Place → Settings → Settings
+settingsWith s r p t =
     record {
-      used = withCounters d (countersOf p) (t .used);
-      words = withUses (usesOf d r p) (t .words);
+      used = withCounters (s .device) (countersOf p) (t .used);
+      words = withUses (usesOf s r p) (t .words);
       rsp0 = headOr (t .rsp0) (wordsOf 0 r p);
       rsp1 = headOr (t .rsp1) (wordsOf 1 r p);
       packets = withPackets r t .packets;

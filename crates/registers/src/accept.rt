@@ -6,6 +6,7 @@ use crate::tables::event_word;
 use crate::tables::mask_of;
 use crate::tables::packet_word;
 use crate::tables::rsp_word;
+use crate::ubox::ubox_fits;
 use layouts::FilterValues;
 use layouts::RegisterValues;
 use requests::Answer;
@@ -43,17 +44,18 @@ fn formed(setup: Setup, request: Request) -> bool
 }
 
 // Whether a control word is that of a filter event.
-fn filter_word(device: Device, word: u64) -> bool
-    ensures { λ r. ⌜ r ≡ filterWord device word ⌝ }
+fn filter_word(setup: Setup, word: u64) -> bool
+    ensures { λ r. ⌜ r ≡ filterWord setup word ⌝ }
 {
+    let device = setup.device;
     match device {
         Device::G => {
-            if word == rsp_word(Device::G, 0) {
+            if word == rsp_word(setup, 0) {
                 return true;
             }
-            word == rsp_word(Device::G, 1)
+            word == rsp_word(setup, 1)
         }
-        Device::S => word == packet_word(Device::S),
+        Device::S => word == packet_word(setup),
         Device::C(_) => false,
     }
 }
@@ -62,16 +64,15 @@ fn filter_word(device: Device, word: u64) -> bool
 fn control_fits(setup: Setup, word: u64) -> bool
     ensures { λ r. ⌜ r ≡ controlFits setup word ⌝ }
 {
-    let device = setup.device;
     if word == 0 {
         return true;
     }
-    if filter_word(device, word) {
+    if filter_word(setup, word) {
         return true;
     }
     let code = code_of(word);
     let mask = mask_of(word);
-    if word == event_word(device, code, mask) {
+    if word == event_word(setup, code, mask) {
         return formed(
             setup,
             Request::Event {
@@ -188,15 +189,15 @@ fn filters_fit(setup: Setup, words: [u64; CAPACITY], filters: FilterValues) -> b
     let limit = counter_count(device);
     match device {
         Device::G => {
-            let counters0 = count_of(limit, words, rsp_word(Device::G, 0));
-            let counters1 = count_of(limit, words, rsp_word(Device::G, 1));
+            let counters0 = count_of(limit, words, rsp_word(setup, 0));
+            let counters1 = count_of(limit, words, rsp_word(setup, 1));
             if rsp1_fits(setup, counters1, filters.rsp1) {
                 return rsp0_fits(setup, counters0, counters1, filters.rsp0, filters.rsp1);
             }
             false
         }
         Device::S => {
-            let counters = count_of(limit, words, packet_word(Device::S));
+            let counters = count_of(limit, words, packet_word(setup));
             packets_fit(setup, counters, filters)
         }
         Device::C(_) => true,
@@ -274,7 +275,9 @@ pub fn accepts(setup: Setup, values: RegisterValues) -> bool
     if controls_fit(setup, limit, words) {
         let used = used_by(limit, words);
         if values.global == last_global(setup, used) {
-            return filters_fit(setup, words, filters);
+            if filters_fit(setup, words, filters) {
+                return ubox_fits(setup, values.ubox);
+            }
         }
     }
     false

@@ -4,4 +4,5 @@ pub mod global;
 pub mod plan_settings;
 pub mod reader;
 pub mod tables;
+pub mod ubox;
 pub mod writer;

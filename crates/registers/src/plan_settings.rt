@@ -11,6 +11,7 @@ use plans::rows::request_at;
 use requests::CounterSet;
 use requests::Device;
 use requests::Request;
+use requests::Setup;
 use requests::bits::latency_word;
 use requests::devices::CAPACITY;
 use requests::devices::counter_count;
@@ -90,25 +91,25 @@ fn with_word(words: [u64; CAPACITY], counter: u64, word: u64) -> [u64; CAPACITY]
 
 // The control words with those of a request at its place.
 fn with_uses(
-    device: Device,
+    setup: Setup,
     request: Request,
     place: Place,
     words: [u64; CAPACITY],
 ) -> [u64; CAPACITY]
-    ensures { λ r. ⌜ r ≡ withUses (usesOf device request place) words ⌝ }
+    ensures { λ r. ⌜ r ≡ withUses (usesOf setup request place) words ⌝ }
 {
     let counter = first_of(place);
     match request {
         Request::Event { code, mask, .. } => with_word(
             words,
             counter,
-            event_word(device, code, mask),
+            event_word(setup, code, mask),
         ),
-        Request::Packet { .. } => with_word(words, counter, packet_word(device)),
-        Request::Offcore { .. } => with_word(words, counter, rsp_word(device, second_of(place))),
+        Request::Packet { .. } => with_word(words, counter, packet_word(setup)),
+        Request::Offcore { .. } => with_word(words, counter, rsp_word(setup, second_of(place))),
         Request::Latency { .. } => {
-            let paired = with_word(words, second_of(place), rsp_word(device, 1));
-            with_word(paired, counter, rsp_word(device, 0))
+            let paired = with_word(words, second_of(place), rsp_word(setup, 1));
+            with_word(paired, counter, rsp_word(setup, 0))
         }
     }
 }
@@ -159,13 +160,14 @@ fn with_packets(request: Request, settings: Settings) -> Settings
 }
 
 // The register values with one more request in front.
-pub fn settings_with(device: Device, request: Request, place: Place, settings: Settings) -> Settings
-    ensures { λ r. ⌜ r ≡ settingsWith device request place settings ⌝ }
+pub fn settings_with(setup: Setup, request: Request, place: Place, settings: Settings) -> Settings
+    ensures { λ r. ⌜ r ≡ settingsWith setup request place settings ⌝ }
 {
+    let device = setup.device;
     let before = settings.used;
     let old = settings.words;
     let used = with_counters(device, place, before);
-    let words = with_uses(device, request, place, old);
+    let words = with_uses(setup, request, place, old);
     let filter = with_packets(request, settings);
     Settings {
         used: used,
@@ -187,7 +189,7 @@ fn bounded(count: usize) -> usize
 
 // The register values of no request.
 fn no_settings() -> Settings
-    ensures { λ r. ⌜ ((d : Device) → r ≡ settingsOf d [] []) ⌝ }
+    ensures { λ r. ⌜ ((s : Setup) → r ≡ settingsOf s [] []) ⌝ }
 {
     Settings {
         used: CounterSet(0),
@@ -202,12 +204,12 @@ fn no_settings() -> Settings
 
 // The register values of the first requests of the array, each at the place with its number.
 pub fn settings_of(
-    device: Device,
+    setup: Setup,
     requests: [Request; CAPACITY],
     places: [Given; CAPACITY],
     count: usize,
 ) -> Settings
-    ensures { λ r. ⌜ r ≡ settingsOf device (take count requests) (map (λ (g : Given). g .place) (take count places)) ⌝ }
+    ensures { λ r. ⌜ r ≡ settingsOf setup (take count requests) (map (λ (g : Given). g .place) (take count places)) ⌝ }
 {
     let mut settings = no_settings();
     let mut left = bounded(count);
@@ -216,14 +218,14 @@ pub fn settings_of(
         let request = requests[left];
         let given = places[left];
         let place = given.place;
-        settings = settings_with(device, request, place, settings);
+        settings = settings_with(setup, request, place, settings);
     }
     settings
 }
 
 // The register values of the requests in the first rows, each at its place in a packed plan.
-pub fn settings_in(device: Device, code: u64, rows: &[u64; ROW_NUMBERS], count: usize) -> Settings
-    ensures { λ r. ⌜ r ≡ settingsOf device (rowsFrom (now (rows .entry)) 0 (min count capacity)) (placesFrom code 0 (rowsFrom (now (rows .entry)) 0 (min count capacity))) ⌝ }
+pub fn settings_in(setup: Setup, code: u64, rows: &[u64; ROW_NUMBERS], count: usize) -> Settings
+    ensures { λ r. ⌜ r ≡ settingsOf setup (rowsFrom (now (rows .entry)) 0 (min count capacity)) (placesFrom code 0 (rowsFrom (now (rows .entry)) 0 (min count capacity))) ⌝ }
 {
     let mut settings = no_settings();
     let mut left = bounded(count);
@@ -231,7 +233,7 @@ pub fn settings_in(device: Device, code: u64, rows: &[u64; ROW_NUMBERS], count: 
         left -= 1;
         let request = request_at(rows, left);
         let place = place_at(code, left, request);
-        settings = settings_with(device, request, place, settings);
+        settings = settings_with(setup, request, place, settings);
     }
     settings
 }

@@ -25,21 +25,22 @@ ghost use Rattle.requests.specs.Choice.{pick};
 ghost use Rattle.layouts.specs.Read.{filterOf, tell, cell, readingOf, refusedReading, readOf};
 
 // The filter of a control word.
-fn filter_of(device: Device, filters: FilterValues, word: u64) -> FilterRead
-    ensures { λ r. ⌜ r ≡ filterOf device filters word ⌝ }
+fn filter_of(setup: Setup, filters: FilterValues, word: u64) -> FilterRead
+    ensures { λ r. ⌜ r ≡ filterOf setup filters word ⌝ }
 {
+    let device = setup.device;
     match device {
         Device::G => {
-            if word == rsp_word(Device::G, 0) {
+            if word == rsp_word(setup, 0) {
                 return FilterRead::Rsp(0, filters.rsp0);
             }
-            if word == rsp_word(Device::G, 1) {
+            if word == rsp_word(setup, 1) {
                 return FilterRead::Rsp(1, filters.rsp1);
             }
             FilterRead::NoFilter
         }
         Device::S => {
-            if word == packet_word(Device::S) {
+            if word == packet_word(setup) {
                 return FilterRead::MatchMask(filters.match_word, filters.mask_word);
             }
             FilterRead::NoFilter
@@ -49,13 +50,13 @@ fn filter_of(device: Device, filters: FilterValues, word: u64) -> FilterRead
 }
 
 // What a usable counter with the control word does.
-fn tell_word(device: Device, filters: FilterValues, word: u64) -> CounterState
-    ensures { λ r. ⌜ r ≡ tell device filters word ⌝ }
+fn tell_word(setup: Setup, filters: FilterValues, word: u64) -> CounterState
+    ensures { λ r. ⌜ r ≡ tell setup filters word ⌝ }
 {
     if word == 0 {
         return CounterState::Off;
     }
-    let filter = filter_of(device, filters, word);
+    let filter = filter_of(setup, filters, word);
     CounterState::Counts {
         code: code_of(word),
         mask: mask_of(word),
@@ -64,11 +65,11 @@ fn tell_word(device: Device, filters: FilterValues, word: u64) -> CounterState
 }
 
 // What is told of a counter.
-fn tell_counter(usable: bool, device: Device, filters: FilterValues, word: u64) -> CounterRead
-    ensures { λ r. ⌜ r ≡ cell (pick usable (tell device filters word) CounterState.NotOurs) ⌝ }
+fn tell_counter(usable: bool, setup: Setup, filters: FilterValues, word: u64) -> CounterRead
+    ensures { λ r. ⌜ r ≡ cell (pick usable (tell setup filters word) CounterState.NotOurs) ⌝ }
 {
     if usable {
-        let state = tell_word(device, filters, word);
+        let state = tell_word(setup, filters, word);
         return CounterRead { state: state };
     }
     CounterRead {
@@ -80,7 +81,6 @@ fn tell_counter(usable: bool, device: Device, filters: FilterValues, word: u64) 
 fn reading_of(setup: Setup, values: RegisterValues) -> Reading
     ensures { λ r. ⌜ r ≡ readingOf setup values ⌝ }
 {
-    let device = setup.device;
     let usable = setup.usable;
     let filters = values.filters;
     let words = looked_at(setup, values);
@@ -92,7 +92,7 @@ fn reading_of(setup: Setup, values: RegisterValues) -> Reading
     while counter < CAPACITY as u64 {
         counters[counter as usize] = tell_counter(
             has(usable, counter),
-            device,
+            setup,
             filters,
             words[counter as usize],
         );
@@ -117,7 +117,7 @@ fn refused_reading(refusal: Refusal) -> Reading
     }
 }
 
-// The reader: refused where nothing opens, or where no plan leaves the values.
+// The reader: a bad opening wherever nothing opens, and refused where no plan leaves the values.
 pub fn read(opening: Opening, values: RegisterValues) -> Reading
     ensures { λ r. ⌜ r ≡ readOf opening values ⌝ }
 {
@@ -128,6 +128,6 @@ pub fn read(opening: Opening, values: RegisterValues) -> Reading
             }
             refused_reading(Refusal::NotLeftByPlan)
         }
-        Opened::Refused(refusal) => refused_reading(refusal),
+        Opened::Refused(_) => refused_reading(Refusal::BadOpening),
     }
 }

@@ -1,9 +1,12 @@
 // The register tables as data: addresses and field places, each with its name in the manual.
 // G: SDM volume 3 (IA32_*) and documents 001, 002 (MSR_OFFCORE_RSP*). S and C: document 004, sections 2.5 and 2.3, and the kernel driver.
+// The U-Box, which S and C share, is in ubox.rt.
 use layouts::Layout;
 use requests::Device;
+use requests::Setup;
+use requests::askings::asked;
 ghost use mathlib.Core.Path.{_≡_};
-ghost use Rattle.layouts.specs.Layout.{cboxGlobal, layoutOf, enabled, eventWord, rspWord, packetWord, codeOf, maskOf};
+ghost use Rattle.layouts.specs.Layout.{cboxGlobal, layoutOf, enabledOn, enabled, eventWord, rspWord, packetWord, codeOf, maskOf};
 
 // ---- addresses, G (SDM volume 3, architectural MSRs; document 001 for the RSP registers)
 
@@ -65,6 +68,8 @@ const PMON_CTL_ENABLED: u64 = 0x0040_0000; // S, table 2-30, S_MSR_PMON_CTLk: en
 
 const EVT_SEL_ENABLED: u64 = 0x0040_0000; // C, table 2-13, C_MSR_PMON_EVT_SELk: en 22
 
+const PMI_EN: u64 = 0x0010_0000; // S, C, tables 2-30, 2-13: pmi_en 20
+
 const UMASK: u64 = 0x0100; // G: event select 7:0, unit mask 15:8; S, C, tables 2-30, 2-13: ev_sel 7:0, umask 15:8
 
 const OFFCORE_RESPONSE: u8 = 0xB7; // G, document 001: the event of the RSP registers
@@ -124,8 +129,8 @@ pub fn layout_of(device: Device) -> Layout
 }
 
 // The bits that every event word of the device has.
-fn enabled_bits(device: Device) -> u64
-    ensures { λ r. ⌜ r ≡ enabled device ⌝ }
+fn enabled_on(device: Device) -> u64
+    ensures { λ r. ⌜ r ≡ enabledOn device ⌝ }
 {
     match device {
         Device::G => PERFEVTSEL_ENABLED,
@@ -134,28 +139,40 @@ fn enabled_bits(device: Device) -> u64
     }
 }
 
-// The control word of an event.
-pub fn event_word(device: Device, code: u8, mask: u8) -> u64
-    ensures { λ r. ⌜ r ≡ eventWord device code mask ⌝ }
+// The bits that every event word of the session has.
+fn enabled_bits(setup: Setup) -> u64
+    ensures { λ r. ⌜ r ≡ enabled setup ⌝ }
 {
-    enabled_bits(device) + UMASK * (mask as u64) + code as u64
+    let device = setup.device;
+    let bits = enabled_on(device);
+    if asked(setup) {
+        return bits + PMI_EN;
+    }
+    bits
+}
+
+// The control word of an event.
+pub fn event_word(setup: Setup, code: u8, mask: u8) -> u64
+    ensures { λ r. ⌜ r ≡ eventWord setup code mask ⌝ }
+{
+    enabled_bits(setup) + UMASK * (mask as u64) + code as u64
 }
 
 // The control word of a counter on an RSP register.
-pub fn rsp_word(device: Device, register: u64) -> u64
-    ensures { λ r. ⌜ r ≡ rspWord device register ⌝ }
+pub fn rsp_word(setup: Setup, register: u64) -> u64
+    ensures { λ r. ⌜ r ≡ rspWord setup register ⌝ }
 {
     if register == 0 {
-        return event_word(device, OFFCORE_RESPONSE, RSP0_UMASK);
+        return event_word(setup, OFFCORE_RESPONSE, RSP0_UMASK);
     }
-    event_word(device, OFFCORE_RESPONSE, RSP1_UMASK)
+    event_word(setup, OFFCORE_RESPONSE, RSP1_UMASK)
 }
 
 // The control word of a counter on the match/mask register.
-pub fn packet_word(device: Device) -> u64
-    ensures { λ r. ⌜ r ≡ packetWord device ⌝ }
+pub fn packet_word(setup: Setup) -> u64
+    ensures { λ r. ⌜ r ≡ packetWord setup ⌝ }
 {
-    event_word(device, PACKET, PACKET_UMASK)
+    event_word(setup, PACKET, PACKET_UMASK)
 }
 
 // The event code in a control word.

@@ -8,11 +8,14 @@ use crate::tables::MM_CFG_ENABLE;
 use crate::tables::OFFCORE_RSP0;
 use crate::tables::OFFCORE_RSP1;
 use crate::tables::layout_of;
+use crate::ubox::U_GLOBAL_CTL;
+use crate::ubox::ubox_value;
 use layouts::Settings;
 use layouts::WriteAnswer;
 use requests::CounterSet;
 use requests::Device;
 use requests::Setup;
+use requests::askings::asked;
 use requests::devices::CAPACITY;
 use requests::devices::counter_count;
 use requests::set::has;
@@ -20,8 +23,10 @@ use requests::set::size_of;
 ghost use mathlib.Core.Path.{_≡_};
 ghost use Prim.Native.Nat.{_+_, _*_, _≤_};
 ghost use lib.ListN.{length};
+ghost use Rattle.requests.specs.Choice.{pick};
+ghost use Rattle.requests.specs.Askings.{asked};
 ghost use Rattle.requests.specs.Devices.{size, capacity};
-ghost use Rattle.layouts.specs.Writes.{row, rows, offcoreWrites, packetWrites, filterWrites, writesFor};
+ghost use Rattle.layouts.specs.Writes.{row, rows, offcoreWrites, packetWrites, filterWrites, boxWrites, writesFor};
 ghost use Rattle.layouts.specs.Slices.{Appended, Wrote};
 
 // How many writes the filter registers take.
@@ -35,6 +40,13 @@ fn filter_count(device: Device, settings: Settings) -> usize
     }
 }
 
+// How many writes the U-Box takes.
+fn ubox_count(setup: Setup) -> usize
+    ensures { λ r. ⌜ r ≡ 2 * pick (asked setup) 1 0 ⌝ }
+{
+    if asked(setup) { 2 } else { 0 }
+}
+
 // How many writes the list has.
 pub fn write_count(setup: Setup, settings: Settings) -> usize
     ensures { λ r. ⌜ r ≡ length (writesFor setup settings) ⌝ }
@@ -43,7 +55,11 @@ pub fn write_count(setup: Setup, settings: Settings) -> usize
     let usable = setup.usable;
     let used = settings.used;
     let count = counter_count(device);
-    2 + size_of(count, usable) + filter_count(device, settings) + 2 * size_of(count, used)
+    2
+        + size_of(count, usable)
+        + filter_count(device, settings)
+        + 2 * size_of(count, used)
+        + ubox_count(setup)
 }
 
 // One write at a place of the slice, if it is wanted; the place past it.
@@ -130,10 +146,10 @@ fn put_filters(out: &mut [u64], at: usize, device: Device, settings: Settings) -
     }
 }
 
-// The whole list, where it has room.
-fn put_list(out: &mut [u64], setup: Setup, settings: Settings) -> usize
-    requires { ⌜ 2 * length (writesFor setup settings) ≤ length (now out) ⌝ }
-    ensures { λ r. ⌜ Appended (now (out .entry)) 0 (writesFor setup settings) (now (out .exit)) r ⌝ }
+// The list of the device's own registers.
+fn put_box(out: &mut [u64], at: usize, setup: Setup, settings: Settings) -> usize
+    requires { ⌜ at + 2 * length (boxWrites setup settings) ≤ length (now out) ⌝ }
+    ensures { λ r. ⌜ Appended (now (out .entry)) at (boxWrites setup settings) (now (out .exit)) r ⌝ }
 {
     let device = setup.device;
     let usable = setup.usable;
@@ -145,12 +161,23 @@ fn put_list(out: &mut [u64], setup: Setup, settings: Settings) -> usize
     let counts = layout.counter;
     let step = layout.step;
     let zeros = [0; CAPACITY];
-    let stopped = put(out, 0, true, layout.global, first_global(setup));
+    let stopped = put(out, at, true, layout.global, first_global(setup));
     let cleared = put_rows(out, stopped, count, usable, controls, step, zeros);
     let filtered = put_filters(out, cleared, device, settings);
     let zeroed = put_rows(out, filtered, count, used, counts, step, zeros);
     let selected = put_rows(out, zeroed, count, used, controls, step, words);
     put(out, selected, true, layout.global, last_global(setup, used))
+}
+
+// The whole list, where it has room: between two writes of the U-Box where something is asked.
+fn put_list(out: &mut [u64], setup: Setup, settings: Settings) -> usize
+    requires { ⌜ 2 * length (writesFor setup settings) ≤ length (now out) ⌝ }
+    ensures { λ r. ⌜ Appended (now (out .entry)) 0 (writesFor setup settings) (now (out .exit)) r ⌝ }
+{
+    let framed = asked(setup);
+    let frozen = put(out, 0, framed, U_GLOBAL_CTL, 0);
+    let written = put_box(out, frozen, setup, settings);
+    put(out, written, framed, U_GLOBAL_CTL, ubox_value(setup))
 }
 
 // The write list of the register values at the start of the slice; where it has no room, nothing.

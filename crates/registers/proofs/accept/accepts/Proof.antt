@@ -9,7 +9,7 @@ use Rattle.layouts.specs.Writes.{lastGlobal}
 use Rattle.layouts.specs.Read.{ours}
 use Rattle.plans.proofs.PlanLengthHolds.{plan-length}
 use Rattle.registers.proofs.Accepting.{looked}
-use Rattle.registers.proofs.ReaderSteps.{accepts-by-filters, global-refused, controls-refused}
+use Rattle.registers.proofs.ReaderSteps.{accepts-by-ubox, filters-refused, global-refused, controls-refused}
 use Rattle.registers.proofs.accept.accepts.Statement.{statement}
 use Rattle.registers.proofs.accept.accepts.Tie as tie
 
@@ -30,16 +30,27 @@ used-by-requires c κs = rw (c .before .before .before .counter-count .ensures) 
 
 returns : tie.Need-returns
 returns c =
-    let a = c .before .before .before .before .before .before .before .before .before .before .args in
-    let words = c .before .before .before .before .before .before .before .looked-at .result in
-    let fit = rw (c .before .before .before .before .before .before .before .before .counter-count .ensures) at (sym (c .before .before .before .before .before .before .controls-fit .ensures) ∙ c .before .before .before .before .before .if1 .taken) in
-    let used = rw (c .before .before .before .before .before .before .before .before .counter-count .ensures) at (c .before .before .before .before .used-by .ensures) in
-    let value = c .before .before .before .last-global .ensures ∙ ap (lastGlobal (a .setup)) used in
-    c .filters-fit .ensures
-    ∙ accepts-by-filters (a .setup) (a .values) words (same (c .before .before .before .before .before .before .before)) fit (c .before .if2 .taken ∙ value)
+    let counting = c .before .before .before .before .before in
+    let a = counting .before .before .before .before .before .before .before .args in
+    let words = counting .before .before .before .before .looked-at .result in
+    let fit = rw (counting .before .before .before .before .before .counter-count .ensures) at (sym (counting .before .before .before .controls-fit .ensures) ∙ counting .before .before .if1 .taken) in
+    let used = rw (counting .before .before .before .before .before .counter-count .ensures) at (counting .before .used-by .ensures) in
+    let value = counting .last-global .ensures ∙ ap (lastGlobal (a .setup)) used in
+    c .ubox-fits .ensures
+    ∙ accepts-by-ubox (a .setup) (a .values) words (same (counting .before .before .before .before)) fit (c .before .before .before .if2 .taken ∙ value) (sym (c .before .before .filters-fit .ensures) ∙ c .before .if3 .taken)
 
 returns-2 : tie.Need-returns-2
 returns-2 c =
+    let counting = c .before .before .before .before in
+    let a = counting .before .before .before .before .before .before .before .args in
+    let words = counting .before .before .before .before .looked-at .result in
+    let fit = rw (counting .before .before .before .before .before .counter-count .ensures) at (sym (counting .before .before .before .controls-fit .ensures) ∙ counting .before .before .if1 .taken) in
+    let used = rw (counting .before .before .before .before .before .counter-count .ensures) at (counting .before .used-by .ensures) in
+    let value = counting .last-global .ensures ∙ ap (lastGlobal (a .setup)) used in
+    filters-refused (a .setup) (a .values) words (same (counting .before .before .before .before)) fit (c .before .before .if2 .taken ∙ value) (sym (c .before .filters-fit .ensures) ∙ c .if3 .left)
+
+returns-3 : tie.Need-returns-3
+returns-3 c =
     let a = c .before .before .before .before .before .before .before .before .before .args in
     let words = c .before .before .before .before .before .before .looked-at .result in
     let fit = rw (c .before .before .before .before .before .before .before .counter-count .ensures) at (sym (c .before .before .before .before .before .controls-fit .ensures) ∙ c .before .before .before .before .if1 .taken) in
@@ -47,8 +58,8 @@ returns-2 c =
     let value = c .before .before .last-global .ensures ∙ ap (lastGlobal (a .setup)) used in
     global-refused (a .setup) (a .values) words (same (c .before .before .before .before .before .before)) fit (λ e. c .if2 .left (e ∙ sym value))
 
-returns-3 : tie.Need-returns-3
-returns-3 c =
+returns-4 : tie.Need-returns-4
+returns-4 c =
     let a = c .before .before .before .before .before .args in
     let fails = rw (c .before .before .before .counter-count .ensures) at (sym (c .before .controls-fit .ensures) ∙ c .if1 .left) in
     controls-refused (a .setup) (a .values) (c .before .before .looked-at .result) (same (c .before .before)) fails
@@ -63,6 +74,8 @@ accepts-spec =
     used-by-requires
     (λ c κs. search needs)
     (λ c κs. search needs)
+    (λ c κs. search needs)
     returns
     returns-2
-    returns-3)
+    returns-3
+    returns-4)

@@ -20,21 +20,21 @@ returns-3 : tie.Need-returns-3
 unfolding controlFits either both
 returns-3 c =
     let w = c .before .before .before .before .before .before .before .before .args .word in
-    let d = c .before .before .before .before .before .before .before .before .args .setup .device in
-    let e : w ≡ eventWord d (codeOf w) (maskOf w) = rw (c .before .before .before .mask-of .ensures, c .before .before .before .before .code-of .ensures) at (c .before .if3 .taken ∙ c .before .before .event-word .ensures) in
-    rw (ne-eqb w 0 (c .before .before .before .before .before .before .before .if1 .left), sym (c .before .before .before .before .before .before .filter-word .ensures) ∙ c .before .before .before .before .before .if2 .left, eq-eqb w (eventWord d (codeOf w) (maskOf w)) e)
+    let s = c .before .before .before .before .before .before .before .before .args .setup in
+    let e : w ≡ eventWord s (codeOf w) (maskOf w) = rw (c .before .before .before .mask-of .ensures, c .before .before .before .before .code-of .ensures) at (c .before .if3 .taken ∙ c .before .before .event-word .ensures) in
+    rw (ne-eqb w 0 (c .before .before .before .before .before .before .before .if1 .left), sym (c .before .before .before .before .before .before .filter-word .ensures) ∙ c .before .before .before .before .before .if2 .left, eq-eqb w (eventWord s (codeOf w) (maskOf w)) e)
     (rw (c .before .before .before .mask-of .ensures, c .before .before .before .before .code-of .ensures) at (c .formed .ensures))
 
 returns-4 : tie.Need-returns-4
 unfolding controlFits either both
 returns-4 c =
     let w = c .before .before .before .before .before .before .before .args .word in
-    let d = c .before .before .before .before .before .before .before .args .setup .device in
+    let s = c .before .before .before .before .before .before .before .args .setup in
     let word = rw (c .before .before .mask-of .ensures, c .before .before .before .code-of .ensures) at (c .before .event-word .ensures) in
     rw (
       ne-eqb w 0 (c .before .before .before .before .before .before .if1 .left),
       sym (c .before .before .before .before .before .filter-word .ensures) ∙ c .before .before .before .before .if2 .left,
-      ne-eqb w (eventWord d (codeOf w) (maskOf w)) (λ e. c .if3 .left (e ∙ sym word)),
+      ne-eqb w (eventWord s (codeOf w) (maskOf w)) (λ e. c .if3 .left (e ∙ sym word)),
     )
 
 pub control-fits-spec : {M : Type 1} → statement M

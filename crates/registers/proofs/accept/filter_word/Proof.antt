@@ -2,7 +2,6 @@
 use mathlib.Core.Path.{sym, _∙_}
 use borrow.Author.Needs.{needs}
 use borrow.Author.Tests.{eq-eqb, ne-eqb}
-use Rattle.requests.specs.declared.Device.the-variants.{G}
 use Rattle.requests.specs.Choice.{either}
 use Rattle.layouts.specs.Layout.{rspWord}
 use Rattle.layouts.specs.Read.{filterWord}
@@ -11,14 +10,14 @@ use Rattle.registers.proofs.accept.filter_word.Tie as tie
 
 returns : tie.Need-returns
 unfolding filterWord either
-returns c = rw (c .before .before .enum-told .given .1, eq-eqb (c .before .before .before .before .args .word) (rspWord G 0) (c .if1 .taken ∙ c .before .rsp-word .ensures))
+returns c = rw (c .before .before .enum-told .given .1, eq-eqb (c .before .before .before .before .args .word) (rspWord (c .before .before .before .before .args .setup) 0) (c .if1 .taken ∙ c .before .rsp-word .ensures))
 
 returns-2 : tie.Need-returns-2
 unfolding filterWord either
 returns-2 c =
     rw (
       c .before .before .before .enum-told .given .1,
-      ne-eqb (c .before .before .before .before .before .args .word) (rspWord G 0) (λ e. c .before .if1 .left (e ∙ sym (c .before .before .rsp-word .ensures))),
+      ne-eqb (c .before .before .before .before .before .args .word) (rspWord (c .before .before .before .before .before .args .setup) 0) (λ e. c .before .if1 .left (e ∙ sym (c .before .before .rsp-word .ensures))),
       c .rsp-word2 .ensures,
     )
 

@@ -10,16 +10,16 @@ use Rattle.registers.proofs.plan_settings.settings_in.Statement.{statem
 use Rattle.registers.proofs.plan_settings.settings_in.Tie as tie
 
 abbrev Inv-loop : tie.InvT-loop
-Inv-loop device code rows count settings₀ left₀ settings left =
-    (left ≤ min count capacity) × (settings ≡ settingsFrom device code rows (min count capacity) left)
+Inv-loop setup code rows count settings₀ left₀ settings left =
+    (left ≤ min count capacity) × (settings ≡ settingsFrom setup code rows (min count capacity) left)
 
 abbrev μ-loop : tie.MeasureT-loop
-μ-loop device code rows count settings₀ left₀ settings left = left
+μ-loop setup code rows count settings₀ left₀ settings left = left
 
 loop-holds : tie.Need-loop-holds Inv-loop μ-loop
 loop-holds c =
     let a = c .before .before .args in
-    (omega arith, rw (c .bounded .ensures) (c .before .no-settings .ensures (a .device) ∙ rows-past (a .device) (a .code) (a .rows .now) (min (a .count) capacity)))
+    (omega arith, rw (c .bounded .ensures) (c .before .no-settings .ensures (a .setup) ∙ rows-past (a .setup) (a .code) (a .rows .now) (min (a .count) capacity)))
 
 sub-left : tie.Need-sub-left Inv-loop μ-loop
 sub-left c = omega arith
@@ -43,7 +43,7 @@ loop-again c =
     let a = l .before .before .before .args in (
       omega arith,
       rw (c .settings-with .ensures, p .place-at .ensures, r .request-at .ensures, l .loop .inv .1)
-          (rows-before (a .device) (a .code) (a .rows .now) (min (a .count) capacity) (l .loop .left) (r .before .loop-test .taken) (l .loop .inv .0)),
+          (rows-before (a .setup) (a .code) (a .rows .now) (min (a .count) capacity) (l .loop .left) (r .before .loop-test .taken) (l .loop .inv .0)),
     )
 
 returns : tie.Need-returns Inv-loop μ-loop

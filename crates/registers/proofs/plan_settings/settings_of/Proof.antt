@@ -14,15 +14,15 @@ use Rattle.registers.proofs.plan_settings.settings_of.Statement.{statem
 use Rattle.registers.proofs.plan_settings.settings_of.Tie as tie
 
 abbrev Inv-loop : tie.InvT-loop
-Inv-loop device count requests places settings₀ left₀ settings left =
+Inv-loop setup count requests places settings₀ left₀ settings left =
     (length requests ≡ 8)
     × (length places ≡ 8)
     × (left ≤ count)
     × (left ≤ 8)
-    × (settings ≡ settingsOf device (drop left (take count requests)) (map (λ (g : Given). g .place) (drop left (take count places))))
+    × (settings ≡ settingsOf setup (drop left (take count requests)) (map (λ (g : Given). g .place) (drop left (take count places))))
 
 abbrev μ-loop : tie.MeasureT-loop
-μ-loop device count requests places settings₀ left₀ settings left = left
+μ-loop setup count requests places settings₀ left₀ settings left = left
 
 loop-holds : tie.Need-loop-holds Inv-loop μ-loop
 unfolding capacity
@@ -30,7 +30,7 @@ loop-holds c =
     let a = c .before .before .args in
     let m : length (a .t2) ≡ 8 = search needs in
     let n : length (a .t3) ≡ 8 = search needs in
-    (m, n, omega arith, omega arith, c .before .no-settings .ensures (a .device) ∙ settings-past (a .device) (a .count) (a .t2) (a .t3) (c .bounded .result) (omega arith) (omega arith))
+    (m, n, omega arith, omega arith, c .before .no-settings .ensures (a .setup) ∙ settings-past (a .setup) (a .count) (a .t2) (a .t3) (c .bounded .result) (omega arith) (omega arith))
 
 sub-left : tie.Need-sub-left Inv-loop μ-loop
 sub-left c = omega arith
@@ -59,8 +59,8 @@ loop-again c =
       omega arith,
       omega arith,
       c .settings-with .ensures
-          ∙ ap (settingsWith (a .device) _ _) (l .inv .4)
-          ∙ settings-before (a .device) (a .count) (a .t2) (a .t3) (l .left) _ _ (c .before .before .before .loop-test .taken) (l .inv .2) (omega arith) (omega arith),
+          ∙ ap (settingsWith (a .setup) _ _) (l .inv .4)
+          ∙ settings-before (a .setup) (a .count) (a .t2) (a .t3) (l .left) _ _ (c .before .before .before .loop-test .taken) (l .inv .2) (omega arith) (omega arith),
     )
 
 returns : tie.Need-returns Inv-loop μ-loop

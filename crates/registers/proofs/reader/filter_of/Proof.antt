@@ -2,7 +2,6 @@
 use mathlib.Core.Path.{sym, _∙_}
 use borrow.Author.Needs.{needs}
 use borrow.Author.Tests.{eq-eqb, ne-eqb}
-use Rattle.requests.specs.declared.Device.the-variants.{G, S}
 use Rattle.layouts.specs.Layout.{rspWord, packetWord}
 use Rattle.layouts.specs.Read.{filterOf}
 use Rattle.registers.proofs.reader.filter_of.Statement.{statement}
@@ -10,7 +9,7 @@ use Rattle.registers.proofs.reader.filter_of.Tie as tie
 
 returns : tie.Need-returns
 unfolding filterOf
-returns c = rw (c .before .before .enum-told .given .1, eq-eqb (c .before .before .before .before .args .word) (rspWord G 0) (c .if1 .taken ∙ c .before .rsp-word .ensures))
+returns c = rw (c .before .before .enum-told .given .1, eq-eqb (c .before .before .before .before .args .word) (rspWord (c .before .before .before .before .args .setup) 0) (c .if1 .taken ∙ c .before .rsp-word .ensures))
 
 returns-2 : tie.Need-returns-2
 unfolding filterOf
@@ -18,13 +17,13 @@ returns-2 c =
     let w = c .before .before .before .before .before .before .args .word in
     rw (
       c .before .before .before .before .enum-told .given .1,
-      ne-eqb w (rspWord G 0) (λ e. c .before .before .if1 .left (e ∙ sym (c .before .before .before .rsp-word .ensures))),
-      eq-eqb w (rspWord G 1) (c .if2 .taken ∙ c .before .rsp-word2 .ensures),
+      ne-eqb w (rspWord (c .before .before .before .before .before .before .args .setup) 0) (λ e. c .before .before .if1 .left (e ∙ sym (c .before .before .before .rsp-word .ensures))),
+      eq-eqb w (rspWord (c .before .before .before .before .before .before .args .setup) 1) (c .if2 .taken ∙ c .before .rsp-word2 .ensures),
     )
 
 returns-3 : tie.Need-returns-3
 unfolding filterOf
-returns-3 c = rw (c .before .before .enum-told2 .given .1, eq-eqb (c .before .before .before .before .args .word) (packetWord S) (c .if3 .taken ∙ c .before .packet-word .ensures))
+returns-3 c = rw (c .before .before .enum-told2 .given .1, eq-eqb (c .before .before .before .before .args .word) (packetWord (c .before .before .before .before .args .setup)) (c .if3 .taken ∙ c .before .packet-word .ensures))
 
 returns-4 : tie.Need-returns-4
 unfolding filterOf
@@ -32,14 +31,14 @@ returns-4 c =
     let w = c .before .before .before .before .before .before .args .word in
     rw (
       c .before .before .before .before .enum-told .given .1,
-      ne-eqb w (rspWord G 0) (λ e. c .before .before .if1 .left (e ∙ sym (c .before .before .before .rsp-word .ensures))),
-      ne-eqb w (rspWord G 1) (λ e. c .if2 .left (e ∙ sym (c .before .rsp-word2 .ensures))),
+      ne-eqb w (rspWord (c .before .before .before .before .before .before .args .setup) 0) (λ e. c .before .before .if1 .left (e ∙ sym (c .before .before .before .rsp-word .ensures))),
+      ne-eqb w (rspWord (c .before .before .before .before .before .before .args .setup) 1) (λ e. c .if2 .left (e ∙ sym (c .before .rsp-word2 .ensures))),
     )
 
 returns-5 : tie.Need-returns-5
 unfolding filterOf
 returns-5 c =
-    rw (c .before .before .enum-told2 .given .1, ne-eqb (c .before .before .before .before .args .word) (packetWord S) (λ e. c .if3 .left (e ∙ sym (c .before .packet-word .ensures))))
+    rw (c .before .before .enum-told2 .given .1, ne-eqb (c .before .before .before .before .args .word) (packetWord (c .before .before .before .before .args .setup)) (λ e. c .if3 .left (e ∙ sym (c .before .packet-word .ensures))))
 
 returns-6 : tie.Need-returns-6
 unfolding filterOf

@@ -16,12 +16,12 @@ use Rattle.registers.proofs.reader.reading_of.Statement.{statement}
 use Rattle.registers.proofs.reader.reading_of.Tie as tie
 
 abbrev Inv-loop : tie.InvT-loop
-Inv-loop device usable filters words counters₀ counter₀ counters counter =
+Inv-loop setup usable filters words counters₀ counter₀ counters counter =
     (counter ≤ 8)
-    × (counters ≡ tabulate counter (λ k. cell (pick (has usable k) (tell device filters (getD words k 0)) NotOurs)) ++ replicate (8 - counter) (cell NotOurs))
+    × (counters ≡ tabulate counter (λ k. cell (pick (has usable k) (tell setup filters (getD words k 0)) NotOurs)) ++ replicate (8 - counter) (cell NotOurs))
 
 abbrev μ-loop : tie.MeasureT-loop
-μ-loop device usable filters words counters₀ counter₀ counters counter = 8 - counter
+μ-loop setup usable filters words counters₀ counter₀ counters counter = 8 - counter
 
 whole : (c : tie.Start Inv-loop μ-loop) → length (c .args .values .control) ≡ capacity
 unfolding capacity
@@ -57,7 +57,7 @@ loop-again c =
     let told = rw (c .before .has .ensures) at (c .tell-counter .ensures) in (
       omega arith,
       rw (l .inv .1, told)
-          (fill-next 8 (l .counter) (λ k. cell (pick (has (a .setup .usable) k) (tell (a .setup .device) (a .values .filters) (getD words k 0)) NotOurs)) (cell NotOurs) (c .before .before .loop-test .taken)),
+          (fill-next 8 (l .counter) (λ k. cell (pick (has (a .setup .usable) k) (tell (a .setup) (a .values .filters) (getD words k 0)) NotOurs)) (cell NotOurs) (c .before .before .loop-test .taken)),
     )
 
 returns : tie.Need-returns Inv-loop μ-loop
@@ -67,7 +67,7 @@ returns c =
     let a = c .before .before .before .before .before .args in
     let e : l .counter ≡ 8 = omega arith in
     let same = ap (λ (words : List ℕ). λ (k : ℕ). getD words k 0) (c .before .before .looked-at .ensures) ∙ looked (a .setup) (a .values) (whole (c .before .before .before .before .before)) in
-    let told = ap (λ (f : ℕ → ℕ). tabulate capacity (λ k. cell (pick (has (a .setup .usable) k) (tell (a .setup .device) (a .values .filters) (f k)) NotOurs))) same in
+    let told = ap (λ (f : ℕ → ℕ). tabulate capacity (λ k. cell (pick (has (a .setup .usable) k) (tell (a .setup) (a .values .filters) (f k)) NotOurs))) same in
     rw ((rw e at (l .inv .1)) ∙ fill-end 8 _ (cell NotOurs) ∙ told)
 
 pub reading-of-spec : {M : Type 1} → statement M

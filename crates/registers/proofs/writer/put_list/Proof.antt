@@ -1,193 +1,67 @@
--- `put_list` appends the parts of the list in their order, by `list-appended`, each with room by `length-parts`.
-use mathlib.Core.Path.{_≡_}
-use Prim.Native.Nat.{ℕ, _+_, _*_, _≤_}
+-- `put_list` appends the device's own list between the writes of the U-Box, by `list-appended`, each with room by `length-framed`.
 use native.Mathlib.Omega.{arith}
-use lib.ListN.{length}
 use borrow.Author.Needs.{needs}
-use Rattle.requests.specs.declared.Setup.{Setup}
-use Rattle.requests.specs.Devices.{size, capacity}
-use Rattle.layouts.specs.declared.Settings.{Settings}
-use Rattle.layouts.specs.declared.Layout.{Layout}
-use Rattle.layouts.specs.Writes.{filterWrites, writesFor, zeros}
-use Rattle.registers.proofs.Appending.{length-rows}
-use Rattle.registers.proofs.WriteLengths.{list-appended, length-parts, parts-small}
+use Rattle.requests.specs.Askings.{asked}
+use Rattle.layouts.specs.Layout.{uboxAt}
+use Rattle.layouts.specs.Writes.{uboxValue}
+use Rattle.registers.proofs.Appending.{length-row}
+use Rattle.registers.proofs.WriteLengths.{length-framed, list-appended}
 use Rattle.registers.proofs.writer.put_list.Statement.{statement}
 use Rattle.registers.proofs.writer.put_list.Tie as tie
 
--- what is known once the layout is
-module _ (c : tie.After-layout-of) where
-  abbrev start : tie.Start
-  start = c .before .before .before .before .before .before
-
-  abbrev setup : Setup
-  setup = start .args .setup
-
-  abbrev settings : Settings
-  settings = start .args .settings
-
-  abbrev n : ℕ
-  n = c .before .counter-count .result
-
-  abbrev layout : Layout
-  layout = c .layout-of .result
-
-  parts : length (writesFor setup settings) ≡ 2 + size n (setup .usable) + length (filterWrites (setup .device) settings) + 2 * size n (settings .used)
-  parts = length-parts setup settings n layout (c .before .counter-count .ensures) (c .layout-of .ensures)
-
-  small : (n ≤ capacity) × (layout .control ≤ 0xFFFF) × (layout .counter ≤ 0xFFFF) × (layout .step ≤ 2)
-  small = parts-small setup settings n layout (c .before .counter-count .ensures) (c .layout-of .ensures)
-
 put-requires : tie.Need-put-requires
+unfolding uboxAt
 put-requires c κs =
-    let laid = c .before .before in
-    omega (arith, parts laid, start laid .pre)
+    let start = c .before .before .before in
+    let a = start .args in
+    rw (c .before .asked .ensures) (omega (arith, start .pre, length-framed (a .setup) (a .settings), length-row (asked (a .setup)) uboxAt 0))
 
-put-rows-requires : tie.Need-put-rows-requires
-unfolding zeros capacity
-put-rows-requires c κs =
-    let stopped = c .before .before .before in
-    let laid = stopped .before .before .before in (
-      omega (
-        arith,
-        parts laid,
-        start laid .pre,
-        stopped .put .ensures .end,
-        stopped .put .ensures .kept,
-      ),
-      small laid .0,
-      small laid .1,
-      small laid .3,
-    )
-
-put-filters-requires : tie.Need-put-filters-requires
-unfolding zeros capacity
-put-filters-requires c κs =
-    let cleared = c .before .before .before in
-    let stopped = cleared .before .before .before .before in
-    let laid = stopped .before .before .before in
-    omega (
-      arith,
-      parts laid,
-      start laid .pre,
-      stopped .put .ensures .end,
-      stopped .put .ensures .kept,
-      rw length-rows at (cleared .put-rows .ensures .end),
-      cleared .put-rows .ensures .kept,
-    )
-
-put-rows-requires-2 : tie.Need-put-rows-requires-2
-unfolding zeros capacity
-put-rows-requires-2 c κs =
-    let filtered = c .before .before .before in
-    let cleared = filtered .before .before .before .before in
-    let stopped = cleared .before .before .before .before in
-    let laid = stopped .before .before .before in (
-      omega (
-        arith,
-        parts laid,
-        start laid .pre,
-        stopped .put .ensures .end,
-        stopped .put .ensures .kept,
-        rw length-rows at (cleared .put-rows .ensures .end),
-        cleared .put-rows .ensures .kept,
-        filtered .put-filters .ensures .end,
-        filtered .put-filters .ensures .kept,
-      ),
-      small laid .0,
-      small laid .2,
-      small laid .3,
-    )
-
-put-rows-requires-3 : tie.Need-put-rows-requires-3
-unfolding zeros capacity
-put-rows-requires-3 c κs =
-    let zeroed = c .before .before .before in
-    let filtered = zeroed .before .before .before .before in
-    let cleared = filtered .before .before .before .before in
-    let stopped = cleared .before .before .before .before in
-    let laid = stopped .before .before .before in (
-      omega (
-        arith,
-        parts laid,
-        start laid .pre,
-        stopped .put .ensures .end,
-        stopped .put .ensures .kept,
-        rw length-rows at (cleared .put-rows .ensures .end),
-        cleared .put-rows .ensures .kept,
-        filtered .put-filters .ensures .end,
-        filtered .put-filters .ensures .kept,
-        rw length-rows at (zeroed .put-rows2 .ensures .end),
-        zeroed .put-rows2 .ensures .kept,
-      ),
-      small laid .0,
-      small laid .1,
-      small laid .3,
-    )
+put-box-requires : tie.Need-put-box-requires
+unfolding uboxAt
+put-box-requires c κs =
+    let frozen = c .before .before .before in
+    let start = frozen .before .before .before .before in
+    let a = start .args in
+    let end = rw (frozen .before .before .asked .ensures) at (frozen .put .ensures .end) in
+    omega (arith, start .pre, length-framed (a .setup) (a .settings), length-row (asked (a .setup)) uboxAt 0, end, frozen .put .ensures .kept)
 
 put-requires-2 : tie.Need-put-requires-2
-unfolding zeros capacity
+unfolding uboxAt
 put-requires-2 c κs =
-    let selected = c .before .before .before .before in
-    let zeroed = selected .before .before .before .before in
-    let filtered = zeroed .before .before .before .before in
-    let cleared = filtered .before .before .before .before in
-    let stopped = cleared .before .before .before .before in
-    let laid = stopped .before .before .before in
-    omega (
+    let written = c .before .before .before .before in
+    let frozen = written .before .before .before .before in
+    let start = frozen .before .before .before .before in
+    let a = start .args in
+    let end = rw (frozen .before .before .asked .ensures) at (frozen .put .ensures .end) in
+    rw (frozen .before .before .asked .ensures)
+    (omega (
       arith,
-      parts laid,
-      start laid .pre,
-      stopped .put .ensures .end,
-      stopped .put .ensures .kept,
-      rw length-rows at (cleared .put-rows .ensures .end),
-      cleared .put-rows .ensures .kept,
-      filtered .put-filters .ensures .end,
-      filtered .put-filters .ensures .kept,
-      rw length-rows at (zeroed .put-rows2 .ensures .end),
-      zeroed .put-rows2 .ensures .kept,
-      rw length-rows at (selected .put-rows3 .ensures .end),
-      selected .put-rows3 .ensures .kept,
-    )
+      start .pre,
+      length-framed (a .setup) (a .settings),
+      length-row (asked (a .setup)) uboxAt 0,
+      length-row (asked (a .setup)) uboxAt (c .ubox-value .result),
+      end,
+      frozen .put .ensures .kept,
+      written .put-box .ensures .end,
+      written .put-box .ensures .kept,
+    ))
 
 returns : tie.Need-returns
-unfolding zeros capacity
+unfolding uboxAt
 returns c =
     let started = c .before .before in
-    let selected = started .before .before .before .before .before in
-    let zeroed = selected .before .before .before .before in
-    let filtered = zeroed .before .before .before .before in
-    let cleared = filtered .before .before .before .before in
-    let stopped = cleared .before .before .before .before in
-    let laid = stopped .before .before .before in
+    let written = started .before .before .before .before .before in
+    let frozen = written .before .before .before .before in
+    let a = frozen .before .before .before .before .args in
     list-appended
-    (setup laid)
-    (settings laid)
-    _
-    _
-    (laid .before .counter-count .ensures)
-    (laid .layout-of .ensures)
-    (stopped .before .first-global .ensures)
-    (started .before .last-global .ensures)
-    (stopped .put .ensures)
-    (cleared .put-rows .ensures)
-    (filtered .put-filters .ensures)
-    (zeroed .put-rows2 .ensures)
-    (selected .put-rows3 .ensures)
+    (a .setup)
+    (a .settings)
+    (frozen .before .before .asked .ensures)
+    (started .before .ubox-value .ensures)
+    (frozen .put .ensures)
+    (written .put-box .ensures)
     (started .put2 .ensures)
 
 pub put-list-spec : {M : Type 1} → statement M
 put-list-spec =
-    tie.close
-    (tie.spec
-    (λ c κs. search needs)
-    (λ c κs. search needs)
-    (λ c κs. search needs)
-    put-requires
-    put-rows-requires
-    put-filters-requires
-    put-rows-requires-2
-    put-rows-requires-3
-    (λ c κs. search needs)
-    put-requires-2
-    (λ c. search needs)
-    returns)
+    tie.close (tie.spec (λ c κs. search needs) put-requires put-box-requires (λ c κs. search needs) put-requires-2 (λ c. search needs) returns)

@@ -1,7 +1,8 @@
 -- `write_count` adds the lengths of the list's parts, by `length-writes`.
 use native.Mathlib.Omega.{arith}
 use borrow.Author.Needs.{needs}
-use Rattle.registers.proofs.WriteLengths.{device-size, filters-small, length-writes}
+use Rattle.requests.specs.Askings.{asked}
+use Rattle.registers.proofs.WriteLengths.{pick-small, device-size, filters-small, length-writes}
 use Rattle.registers.proofs.writer.write_count.Statement.{statement}
 use Rattle.registers.proofs.writer.write_count.Tie as tie
 
@@ -38,12 +39,31 @@ add-result-3 c =
       filters-small (a .setup .device) (a .settings),
     )
 
+add-result-4 : tie.Need-add-result-4
+add-result-4 c =
+    let own = c .before in
+    let a = own .before .before .before .before .before .before .args in
+    let sized = rw (own .before .before .before .counter-count .ensures) at (own .before .before .size-of .ensures) in
+    let used = rw (own .before .before .before .counter-count .ensures) at (own .size-of2 .ensures) in
+    omega (
+      arith,
+      sized,
+      used,
+      device-size (a .setup .device) (a .setup .usable),
+      device-size (a .setup .device) (a .settings .used),
+      own .before .filter-count .ensures,
+      filters-small (a .setup .device) (a .settings),
+      c .ubox-count .ensures,
+      pick-small (asked (a .setup)),
+    )
+
 returns : tie.Need-returns
 returns c =
-    let a = c .before .before .before .before .before .before .args in
-    let sized = rw (c .before .before .before .counter-count .ensures) at (c .before .before .size-of .ensures) in
-    let used = rw (c .before .before .before .counter-count .ensures) at (c .size-of2 .ensures) in
-    omega (arith, sized, used, c .before .filter-count .ensures, length-writes (a .setup) (a .settings))
+    let own = c .before in
+    let a = own .before .before .before .before .before .before .args in
+    let sized = rw (own .before .before .before .counter-count .ensures) at (own .before .before .size-of .ensures) in
+    let used = rw (own .before .before .before .counter-count .ensures) at (own .size-of2 .ensures) in
+    omega (arith, sized, used, own .before .filter-count .ensures, c .ubox-count .ensures, length-writes (a .setup) (a .settings))
 
 pub write-count-spec : {M : Type 1} → statement M
 write-count-spec =
@@ -57,4 +77,6 @@ write-count-spec =
     (λ c κs. search needs)
     mul-result
     add-result-3
+    (λ c κs. search needs)
+    add-result-4
     returns)
