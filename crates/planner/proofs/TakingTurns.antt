@@ -25,7 +25,8 @@ use Rattle.sessions.specs.Calls.{Turns}
 use Rattle.sessions.specs.Sessions.{queued, refusedBy, turnOf, turnSlice, turnedSession, turnsAnswer, turnsSlice, turnsEnds}
 use Rattle.sessions.specs.declared.Session.{Session}
 use Rattle.sessions.specs.declared.TurnAnswered.{TurnAnswered}
-use Rattle.sessions.proofs.TableAnswers.{answer-none, answer-some, answered-refused, answered-accepted}
+use Rattle.requests.proofs.AnswerTests.{answer-none, answer-some}
+use Rattle.sessions.proofs.TableAnswers.{answered-refused, answered-accepted}
 use Rattle.sessions.proofs.TurnByTurn.{listsFor, nextList, nextTurned, single-session, single-writes, single-slice, turned-open, turned-lists, joined-lists}
 
 -- every list is short, so that their numbers can be added
@@ -33,7 +34,7 @@ list-small : (s : Session) → length (nextList s) ≤ 100
 unfolding writesOf writes
 list-small s =
     let es : List Entry = taken (s .setup) (queued s) in
-    omega (arith, writes-small (s .setup) (settingsOf (s .setup .device) (requestsOf es) (placesOf (s .setup) es)))
+    omega (arith, writes-small (s .setup) (settingsOf (s .setup) (requestsOf es) (placesOf (s .setup) es)))
 
 -- the numbers of n lists, by those of the next and of the others
 total-next : (n : ℕ) (s : Session) → 2 * length (joined (listsFor (suc n) s)) ≡ 2 * length (nextList s) + 2 * length (joined (listsFor n (nextTurned s)))

@@ -43,7 +43,7 @@ takenBy s = taken (s .setup) (queued s)
 
 module _ (s : Session) {rows ts ps : List ℕ} {c : Chosen} (all : Selected (s .setup) (s .queue) (queued s) rows ts ps c) where
   -- its writes are those of the entries taken
-  pub chosen-writes : (t : Settings) (n : ℕ) → n ≡ c .count → t ≡ settingsOf (s .setup .device) (rowsFrom rows 0 n) (placesFrom (c .code) 0 (rowsFrom rows 0 n))
+  pub chosen-writes : (t : Settings) (n : ℕ) → n ≡ c .count → t ≡ settingsOf (s .setup) (rowsFrom rows 0 n) (placesFrom (c .code) 0 (rowsFrom rows 0 n))
       → writesFor (s .setup) t ≡ writesOf (s .setup) (takenBy s)
   unfolding writesOf writes
   chosen-writes t n m e = ap (writesFor (s .setup)) (e ∙ rw (m, all .rows-taken, selected-places all))

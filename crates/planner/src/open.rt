@@ -7,6 +7,7 @@ use requests::Opened;
 use requests::Opening;
 use requests::Refusal;
 use requests::Setup;
+use requests::askings::unasked;
 use requests::devices::setup_of;
 use sessions::Answered;
 use sessions::QUEUE_LIMIT;
@@ -24,6 +25,7 @@ pub fn new_session() -> Session
         device: Device::G,
         usable: usable,
         fixed: 0,
+        overflow: unasked(),
     };
     let places = [vacant(); QUEUE_LIMIT];
     Session {

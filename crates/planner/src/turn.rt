@@ -68,8 +68,7 @@ fn outcome_of(
     let setup = session.setup;
     let mut rows: [u64; ROW_NUMBERS] = [0; ROW_NUMBERS];
     let chosen = select(session, &mut rows, taken, passed);
-    let device = setup.device;
-    let settings = settings_in(device, chosen.code, &rows, chosen.count);
+    let settings = settings_in(setup, chosen.code, &rows, chosen.count);
     match write_list(out, setup, settings) {
         WriteAnswer::TooShort => refused(Refusal::SliceTooShort),
         WriteAnswer::Written(writes) => Outcome {

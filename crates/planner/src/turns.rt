@@ -40,8 +40,7 @@ fn numbers_of(session: Session, n: usize) -> usize
         let mut taken: [usize; CAPACITY] = [0; CAPACITY];
         let mut passed: [usize; QUEUE_LIMIT] = [0; QUEUE_LIMIT];
         let chosen = select(next, &mut rows, &mut taken, &mut passed);
-        let device = setup.device;
-        let settings = settings_in(device, chosen.code, &rows, chosen.count);
+        let settings = settings_in(setup, chosen.code, &rows, chosen.count);
         next = requeued(next, &taken, &passed, chosen);
         numbers += 2 * write_count(setup, settings);
         i += 1;

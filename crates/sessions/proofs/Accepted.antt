@@ -20,10 +20,11 @@ use Rattle.requests.specs.Checks.{Formed}
 use Rattle.requests.proofs.Passes.{formed-by}
 use Rattle.plans.specs.Legal.{HasPlan}
 use Rattle.layouts.specs.Writes.{writes}
+use Rattle.requests.proofs.Openings.{table-taken}
 use Rattle.sessions.specs.Turns.{requestsOf, taken, placesOf}
 use Rattle.sessions.specs.Calls.{Open, Add, Turn, notOpen, opened, waits}
-use Rattle.sessions.specs.Table.{refusal}
-use Rattle.sessions.specs.RefusalTable.{IsId, Applies, no-setup, add-id, id-waits, kind, not-listed, lacks, range, conflict, alone, full, short}
+use Rattle.sessions.specs.Table.{refusal, table, beforeOpen}
+use Rattle.sessions.specs.RefusalTable.{IsId, Applies, add-id, id-waits, kind, not-listed, lacks, range, conflict, alone, full, short}
 use Rattle.plans.proofs.PlanTestHolds.{plan-test}
 use Rattle.sessions.proofs.TakenPlan.{taken-first}
 use Rattle.sessions.proofs.Conditions.{id-test, inside, waits-test}
@@ -35,11 +36,8 @@ le-of-not-lt h = omega (arith, lt-of-not-le h)
 -- ---- open
 
 pub accepted-open : (limit : ℕ) (o : Opening) → refusal limit notOpen (Open o) ≡ none → (s : Setup) × (setupOf o ≡ some s)
-accepted-open limit o e = go (setupOf o) refl
-  where
-    go : (x : Option Setup) → setupOf o ≡ x → (s : Setup) × (setupOf o ≡ some s)
-    go none h = absurd (refusal-table .accepted limit notOpen (Open o) e 3 (no-setup h))
-    go (some s) h = (s, h)
+unfolding refusal table beforeOpen
+accepted-open limit o e = table-taken o e
 
 -- ---- add
 

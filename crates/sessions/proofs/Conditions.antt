@@ -17,7 +17,6 @@ use Rattle.requests.specs.declared.Setup.{Setup}
 use Rattle.requests.specs.declared.Request.{Request}
 use Rattle.requests.specs.declared.Entry.{Entry}
 use Rattle.requests.specs.Choice.{either, isSome}
-use Rattle.requests.specs.Devices.{setupOf}
 use Rattle.requests.proofs.Tests.{either-true, either-parts, either-cases}
 use Rattle.plans.specs.declared.Place.{Place}
 use Rattle.plans.specs.Legal.{HasPlan}
@@ -36,14 +35,6 @@ use Rattle.sessions.proofs.TurnLists.{lists-hold, lists-are}
 -- a test of the contrary
 pub not-test : {b : Bool} {P : Type 0} → (b ≡ true) ↔ P → (not b ≡ true) ↔ (¬ P)
 not-test {b} e = (λ h p. false≢true (sym (not-true b h) ∙ e .1 p), λ n. ap not (eq-false-of-not-eq-true (λ h. n (e .0 h))))
-
--- 3: what open refuses
-pub setup-test : (o : Opening) → (not (isSome (setupOf o)) ≡ true) ↔ (setupOf o ≡ none)
-setup-test o = (to (setupOf o), λ h. ap (λ (x : Option Setup). not (isSome x)) h)
-  where
-    to : (x : Option Setup) → not (isSome x) ≡ true → x ≡ none
-    to none e = refl
-    to (some t) e = absurd (false≢true e)
 
 -- ---- 4: id 0 or above 65535
 

@@ -17,16 +17,18 @@ use Rattle.requests.specs.Choice.{both, either, Row}
 use Rattle.requests.specs.Checks.{requestRows}
 use Rattle.requests.proofs.ExactRows.{refused-requests}
 use Rattle.plans.specs.Lists.{nil, cons}
+use Rattle.requests.specs.Devices.{rowsWhere, openingTable}
+use Rattle.requests.proofs.OpeningsTaken.{device-row, kind-row, range-row}
 use Rattle.sessions.specs.Calls.{Call, Open, Add, Drop, Turn, Turns, Plain, notOpen, opened}
-use Rattle.sessions.specs.Table.{openRows, addRows, dropRows, turnRows, turnsRows, beforeOpen, onceOpen, table, refusal}
+use Rattle.sessions.specs.Table.{addRows, dropRows, turnRows, turnsRows, beforeOpen, onceOpen, table, refusal}
 use Rattle.sessions.specs.Sessions.{queueLimit}
-use Rattle.sessions.specs.RefusalTable.{Applies, add-before, drop-before, turn-before, turns-before, second-open, no-setup, add-id, drop-id, id-waits, id-not-waits, kind, not-listed, lacks, range, many, conflict, alone, full, short, lists-short, ends-short, RefusalTable}
+use Rattle.sessions.specs.RefusalTable.{Applies, add-before, drop-before, turn-before, turns-before, second-open, no-device, asked-elsewhere, asked-outside, add-id, drop-id, id-waits, id-not-waits, kind, not-listed, lacks, range, many, conflict, alone, full, short, lists-short, ends-short, RefusalTable}
 use Rattle.sessions.proofs.Fair.{numbers, Exact, inOrder, Fair, fair-some, fair-none}
-use Rattle.sessions.proofs.Conditions.{not-test, setup-test, id-test, waits-test, alone-test, full-test, short-test, many-test, turns-short-test}
+use Rattle.sessions.proofs.Conditions.{not-test, id-test, waits-test, alone-test, full-test, short-test, many-test, turns-short-test}
 
 -- "Checked in the order 1, 2, 3, .."
 in-order : (limit : ℕ) (p : Plain) (c : Call) → inOrder (numbers (table limit p c)) (numbers (table limit p c)) checkOrder ≡ true
-unfolding table beforeOpen onceOpen openRows addRows requestRows dropRows turnRows turnsRows numberOf checkOrder inOrder inList both either
+unfolding table beforeOpen onceOpen rowsWhere openingTable addRows requestRows dropRows turnRows turnsRows numberOf checkOrder inOrder inList both either
 in-order limit notOpen (Open o) = refl
 in-order limit notOpen (Add id r) = refl
 in-order limit notOpen (Drop id) = refl
@@ -48,8 +50,13 @@ row : (A : ℕ → Type 0) (x : Refusal) {condition : Bool} {P : Type 0} {rows :
 row A x test applies fact rest = cons (λ h. applies (test .0 h), λ a. test .1 (fact a)) rest
 
 exact : (limit : ℕ) (p : Plain) (c : Call) → Exact (Applies limit p c) (table limit p c)
-unfolding table beforeOpen onceOpen openRows addRows requestRows dropRows turnRows turnsRows numberOf
-exact limit notOpen (Open o) = row (Applies limit notOpen (Open o)) BadOpening (setup-test o) (λ h. no-setup h) (λ a. elim a [ no-setup h ↦ h ]) nil
+unfolding table beforeOpen onceOpen rowsWhere openingTable addRows requestRows dropRows turnRows turnsRows numberOf
+exact limit notOpen (Open o) =
+    let A : ℕ → Type 0 = Applies limit notOpen (Open o) in
+    row A BadOpening (device-row o) (λ h. no-device h) (λ a. elim a [ no-device h ↦ h ])
+    (row A KindNotOnDevice (kind-row o) (λ h. asked-elsewhere (h .0) (h .1)) (λ a. elim a [ asked-elsewhere h n ↦ (h, n) ])
+    (row A OutOfRange (range-row o) (λ h. asked-outside h) (λ a. elim a [ asked-outside h ↦ h ])
+    nil))
 exact limit notOpen (Add id r) = cons (always add-before) nil
 exact limit notOpen (Drop id) = cons (always drop-before) nil
 exact limit notOpen (Turn room) = cons (always turn-before) nil
@@ -82,13 +89,15 @@ exact limit (opened s q) (Turns n room places) =
     nil)
 
 numbered : {limit n : ℕ} {p : Plain} {c : Call} → Applies limit p c n → inList (numbers (table limit p c)) n ≡ true
-unfolding table beforeOpen onceOpen openRows addRows requestRows dropRows turnRows turnsRows numberOf inList either
+unfolding table beforeOpen onceOpen rowsWhere openingTable addRows requestRows dropRows turnRows turnsRows numberOf inList either
 numbered add-before = refl
 numbered drop-before = refl
 numbered turn-before = refl
 numbered turns-before = refl
 numbered second-open = refl
-numbered (no-setup e) = refl
+numbered (no-device e) = refl
+numbered (asked-elsewhere e n) = refl
+numbered (asked-outside e) = refl
 numbered (add-id e) = refl
 numbered (drop-id e) = refl
 numbered (id-waits e) = refl

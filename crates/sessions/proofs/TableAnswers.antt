@@ -23,13 +23,14 @@ use Rattle.requests.specs.declared.Answer.{Answer}
 use Rattle.requests.specs.declared.Answer.the-variants.{Accepted, Refused}
 use Rattle.requests.specs.Choice.{either, Row, firstHolding}
 use Rattle.requests.specs.Refusals.{answerFor}
-use Rattle.requests.specs.Devices.{setupOf, openedAs}
+use Rattle.requests.specs.Devices.{openedBy, setupOf}
 use Rattle.requests.specs.Checks.{requestRows, requestRefusal}
-use Rattle.requests.proofs.Openings.{opened-some, opened-none}
+use Rattle.requests.proofs.AnswerTests.{answer-none, answer-some}
+use Rattle.requests.proofs.Openings.{opened-some, opened-none, taken-table}
 use Rattle.plans.specs.Search.{hasPlan}
 use Rattle.sessions.specs.Turns.{taken, writesOf, listsOf, joined}
 use Rattle.sessions.specs.Calls.{Call, Open, Add, Drop, Turn, Turns, notOpen, opened, waits}
-use Rattle.sessions.specs.Table.{openRows, outsideIds, addRows, dropRows, turnRows, turnsLimit, turnsRows, beforeOpen, onceOpen, table, refusal}
+use Rattle.sessions.specs.Table.{outsideIds, addRows, dropRows, turnRows, turnsLimit, turnsRows, beforeOpen, onceOpen, table, refusal}
 use Rattle.sessions.specs.Sessions.{queueLimit, queued, plainOf, refusedBy, answered, sessionOf, openOf}
 use Rattle.sessions.specs.RefusalTable.{add-before, full}
 use Rattle.sessions.specs.declared.Session.{Session}
@@ -66,13 +67,13 @@ open-again : (limit : ℕ) (t : Setup) (q : List Entry) (o : Opening) → refusa
 unfolding refusal table firstHolding beforeOpen
 open-again limit t q o = refl
 
-open-bad : (limit : ℕ) (o : Opening) → setupOf o ≡ none → refusal limit notOpen (Open o) ≡ some BadOpening
-unfolding refusal table firstHolding beforeOpen openRows
-open-bad limit o h = rw h
+open-bad : (limit : ℕ) (o : Opening) (x : Refusal) → openedBy o ≡ Opened.Refused x → refusal limit notOpen (Open o) ≡ some x
+unfolding refusal table beforeOpen
+open-bad limit o x h = opened-none o x h .1
 
 open-accepted : (limit : ℕ) (o : Opening) (t : Setup) → setupOf o ≡ some t → refusal limit notOpen (Open o) ≡ none
-unfolding refusal table firstHolding beforeOpen openRows
-open-accepted limit o t h = rw h
+unfolding refusal table beforeOpen
+open-accepted limit o t h = taken-table o t h
 
 -- ---- calls before open
 
@@ -178,16 +179,6 @@ module _ (limit : ℕ) (t : Setup) (q : List Entry) where
 
 -- ---- the answer
 
-pub answer-none : (x : Option Refusal) → answerFor x ≡ Accepted → x ≡ none
-unfolding answerFor
-answer-none none h = refl
-answer-none (some y) h = let z : _≡_ {A = ℕ} 0 1 = cc in absurd (omega arith)
-
-pub answer-some : (x : Option Refusal) (y : Refusal) → answerFor x ≡ Refused y → x ≡ some y
-unfolding answerFor
-answer-some none y h = let z : _≡_ {A = ℕ} 0 1 = cc in absurd (omega arith)
-answer-some (some x) y h = cc
-
 -- of a session that is not opened
 pub answer-closed : (s : Session) (c : Call) (x : Option Refusal) → s .opened ≡ false → refusal queueLimit notOpen c ≡ x → answerFor x ≡ answerFor (refusedBy s c)
 unfolding refusedBy
@@ -230,10 +221,10 @@ module _ (s : Session) (o : Opening) where
   unfolding openOf answered answerFor refusedBy
   open-order h = rw (plain-opened s h, open-again queueLimit (s .setup) (queued s) o)
 
-  pub open-refused : (x : Refusal) → s .opened ≡ false → openedAs (setupOf o) ≡ Opened.Refused x → record { answer = Refused x; session = s } ≡ openOf s o
+  pub open-refused : (x : Refusal) → s .opened ≡ false → openedBy o ≡ Opened.Refused x → record { answer = Refused x; session = s } ≡ openOf s o
   unfolding openOf answered answerFor refusedBy
-  open-refused x h e = let n = opened-none (setupOf o) x e in rw (plain-closed s h, open-bad queueLimit o (n .0), n .1)
+  open-refused x h e = rw (plain-closed s h, open-bad queueLimit o x e)
 
-  pub open-with : (t : Setup) → s .opened ≡ false → openedAs (setupOf o) ≡ With t → record { answer = Accepted; session = sessionOf t [] } ≡ openOf s o
+  pub open-with : (t : Setup) → s .opened ≡ false → openedBy o ≡ With t → record { answer = Accepted; session = sessionOf t [] } ≡ openOf s o
   unfolding openOf answered answerFor refusedBy
-  open-with t h e = let n = opened-some (setupOf o) t e in rw (plain-closed s h, open-accepted queueLimit o t n, n)
+  open-with t h e = let n = opened-some o t e in rw (plain-closed s h, open-accepted queueLimit o t n, n)

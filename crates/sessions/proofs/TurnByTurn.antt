@@ -20,6 +20,7 @@ use Rattle.requests.specs.Refusals.{answerFor}
 use Rattle.plans.specs.Lists.{All, nil, cons}
 use Rattle.layouts.specs.Writes.{Write, flat, filled}
 use Rattle.layouts.proofs.FilledSlices.{length-flat, filled-none, filled-rest, filled-both, filled-more}
+use Rattle.requests.proofs.AnswerTests.{answer-none}
 use Rattle.sessions.specs.Turns.{taken, turned, writesOf, listsOf, joined, endsFrom}
 use Rattle.sessions.specs.Calls.{Turn, Turns, Plain, notOpen, opened}
 use Rattle.sessions.specs.RefusalTable.{turns-before, lists-short, ends-short}
@@ -31,7 +32,7 @@ use Rattle.sessions.specs.declared.Assigned.{Assigned}
 use Rattle.sessions.specs.declared.TurnAnswered.{TurnAnswered}
 use Rattle.sessions.proofs.Rows.{refusal-table}
 use Rattle.sessions.proofs.TurnLists.{lists-hold}
-use Rattle.sessions.proofs.TableAnswers.{plain-closed, plain-opened, turn-accepted, answer-none}
+use Rattle.sessions.proofs.TableAnswers.{plain-closed, plain-opened, turn-accepted}
 use Rattle.sessions.proofs.Accepted.{le-of-not-lt}
 use Rattle.sessions.proofs.Agreed.{stored, turn-by, answer-is}
 use Rattle.sessions.proofs.Answers.{turn-plan-is, turn-count-is, turn-slice-is}

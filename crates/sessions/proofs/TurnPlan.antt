@@ -15,6 +15,7 @@ use Rattle.layouts.proofs.NoReservedBit.{no-reserved-bit}
 use Rattle.layouts.proofs.OthersUntouched.{others-untouched}
 use Rattle.layouts.proofs.FixedEnables.{fixed-enables}
 use Rattle.layouts.proofs.UsedEnabled.{used-enabled}
+use Rattle.layouts.proofs.UBox.{ubox}
 use Rattle.layouts.proofs.RestWhileWritten.{rest-while-written}
 use Rattle.layouts.proofs.RoundTrip.{round-trip}
 use Rattle.sessions.specs.Turns.{requestsOf, taken, passed, turned, placesOf, writesOf}
@@ -54,6 +55,8 @@ turn-done s q session slice same sound accepted =
       fixed = fixed-enables .written (openingOf s) s (sound .setup) _ _ (first .legal);
       used = used-enabled s _ _ (first .legal);
       rests = rest-while-written s _ _ (first .legal);
+      with-host = λ n. ubox .with-host (openingOf s) s (sound .setup) n _ _;
+      framed = λ n. ubox .framed (openingOf s) s (sound .setup) n _ _ (first .legal);
       read = round-trip s _ _ (sound .setup) formed (first .legal);
       next = turn-next-is session s q same (length slice) accepted;
     }

@@ -4,13 +4,14 @@ use mathlib.Core.List.{List, [], _∷_, map, List·Memᴰ}
 use mathlib.Core.Option.{none, some}
 use Prim.Native.Nat.{ℕ, zero, suc, _*_, _≤_, _<_}
 use lib.ListN.{length}
+use Rattle.requests.specs.declared.Device.{Device}
 use Rattle.requests.specs.declared.Opening.{Opening}
 use Rattle.requests.specs.declared.Setup.{Setup}
 use Rattle.requests.specs.declared.Request.{Request}
 use Rattle.requests.specs.declared.Entry.{Entry}
 use Rattle.requests.specs.declared.Refusal.{Refusal}
 use Rattle.requests.specs.Refusals.{numberOf, checkedBefore}
-use Rattle.requests.specs.Devices.{setupOf}
+use Rattle.requests.specs.Openings.{NothingAsked, InRange, NotAsked, GivenFor}
 use Rattle.requests.specs.RefusedRequests.{KindNotOn, NotListed, Incomplete, OutOfRange, Conflicting}
 use Rattle.plans.specs.declared.Place.{Place}
 use Rattle.plans.specs.Lists.{All}
@@ -44,8 +45,8 @@ pub data Applies (limit : ℕ) : Plain → Call → ℕ → Type 0 where
   turn-before : {room : ℕ} → Applies limit notOpen (Turn room) 2
   turns-before : {n room places : ℕ} → Applies limit notOpen (Turns n room places) 2
   second-open : {s : Setup} {q : List Entry} {o : Opening} → Applies limit (opened s q) (Open o) 2
-  -- 3: device unknown, usable set 0 or above all counters, fixed enables or a box that the device has not: `Openings` in its own words
-  no-setup : {o : Opening} → setupOf o ≡ none → Applies limit notOpen (Open o) 3
+  -- 3: device unknown, usable set 0 or above all counters, fixed enables or a box that the device has not
+  no-device : {o : Opening} → ((d : Device) → ¬ GivenFor o d) → Applies limit notOpen (Open o) 3
   -- 4: id 0 or above 65535
   add-id : {s : Setup} {q : List Entry} {id : ℕ} {r : Request} → ¬ IsId id → Applies limit (opened s q) (Add id r) 4
   drop-id : {s : Setup} {q : List Entry} {id : ℕ} → ¬ IsId id → Applies limit (opened s q) (Drop id) 4
@@ -53,6 +54,9 @@ pub data Applies (limit : ℕ) : Plain → Call → ℕ → Type 0 where
   id-waits : {s : Setup} {q : List Entry} {id : ℕ} {r : Request} → Waits id q → Applies limit (opened s q) (Add id r) 5
   id-not-waits : {s : Setup} {q : List Entry} {id : ℕ} → ¬ Waits id q → Applies limit (opened s q) (Drop id) 6
   -- 7 to 11: the rows of the request, phrase by phrase in `RefusedRequests`
+  -- and of open, order 7: "asking on G (anything but 0 and `-`) with 7", "freeze 0 or 1 (else 10)", "A core number that does not fit the field"
+  asked-elsewhere : {o : Opening} → NotAsked o → ¬ NothingAsked (o .overflow) → Applies limit notOpen (Open o) 7
+  asked-outside : {o : Opening} → ¬ InRange (o .overflow) → Applies limit notOpen (Open o) 10
   kind : {s : Setup} {q : List Entry} {id : ℕ} {r : Request} → KindNotOn (s .device) r → Applies limit (opened s q) (Add id r) 7
   not-listed : {s : Setup} {q : List Entry} {id : ℕ} {r : Request} → NotListed (s .device) r → Applies limit (opened s q) (Add id r) 8
   lacks : {s : Setup} {q : List Entry} {id : ℕ} {r : Request} → Incomplete (s .device) r → Applies limit (opened s q) (Add id r) 9

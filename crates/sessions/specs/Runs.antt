@@ -5,6 +5,9 @@ use mathlib.Core.List.{List, [], _∷_, _++_, map}
 use mathlib.Core.Option.{Option, none, some}
 use Prim.Native.Nat.{ℕ, zero, suc, _-_, _^_}
 use lib.ListN.{replicate}
+use Rattle.requests.specs.Askings.{unasked}
+use Rattle.requests.specs.declared.Core.{Core}
+use Rattle.requests.specs.declared.Core.the-variants.{NoCore, At}
 use Rattle.requests.specs.declared.CounterSet.{CounterSet}
 use Rattle.requests.specs.declared.Request.{Request}
 use Rattle.requests.specs.declared.Request.the-variants.{Event, Latency}
@@ -54,11 +57,11 @@ gets id p = record { id = id; place = p }
 
 -- the letter of a device, a usable set and fixed enables
 abbrev opening : ℕ → ℕ → ℕ → Call
-opening letter usable fixed = Open (record { device = letter; usable = setOf usable; fixed = fixed; cbox = 0 })
+opening letter usable fixed = Open (record { device = letter; usable = setOf usable; fixed = fixed; cbox = 0; overflow = unasked })
 
 -- a usable set, fixed enables and a C-Box
 abbrev openingBox : ℕ → ℕ → ℕ → Call
-openingBox usable fixed box = Open (record { device = 67; usable = setOf usable; fixed = fixed; cbox = box })
+openingBox usable fixed box = Open (record { device = 67; usable = setOf usable; fixed = fixed; cbox = box; overflow = unasked })
 
 -- document 01: `open G 15`, with no fixed enables
 abbrev openAll : Call
@@ -173,7 +176,7 @@ cbox =
           ∷ openingBox 64 0 0
           ∷ openingBox 0 0 0
           ∷ openingBox 63 1 0
-          ∷ Open (record { device = 71; usable = setOf 15; fixed = 0; cbox = 1 })
+          ∷ Open (record { device = 71; usable = setOf 15; fixed = 0; cbox = 1; overflow = unasked })
           ∷ openingBox 63 0 7
           ∷ Add 1 (Event 0x0B 0x05 (setOf 63))
           ∷ Add 1 (Event 0x0B 0x18 (setOf 64))
@@ -187,6 +190,39 @@ cbox =
             numbers = replicate 5 (some 3) ++ none ∷ some 10 ∷ some 10 ∷ some 12 ∷ replicate 6 none ++ some 14 ∷ none ∷ [];
             plans = map (λ (id : ℕ). gets id (Counter (id - 1))) (upTo 6) ∷ [];
             ids = upTo 6;
+          };
+    }
+
+-- a device, a usable set, a freeze and a core
+abbrev openingAsked : ℕ → ℕ → ℕ → Core → Call
+openingAsked letter usable freeze core =
+    Open (record { device = letter; usable = setOf usable; fixed = 0; cbox = 0; overflow = record { freeze = freeze; core = core } })
+
+-- order 7: 3 before 7 before 10; then a turn of 11 writes, with a slice of 21 and of 22
+abbrev frozen : Run
+frozen =
+    record {
+      calls =
+          openingAsked 71 15 1 NoCore
+          ∷ openingAsked 71 15 2 NoCore
+          ∷ openingAsked 71 15 0 (At 0)
+          ∷ openingAsked 71 15 0 (At 9)
+          ∷ openingAsked 71 16 1 NoCore
+          ∷ openingAsked 83 15 2 NoCore
+          ∷ openingAsked 83 15 0 (At 8)
+          ∷ openingAsked 67 63 1 (At 8)
+          ∷ openingAsked 83 0 2 (At 8)
+          ∷ openingAsked 83 15 1 (At 2)
+          ∷ openingAsked 83 15 2 (At 8)
+          ∷ Add 1 (Event 0x52 0x00 (setOf 15))
+          ∷ Turn 21
+          ∷ Turn 22
+          ∷ [];
+      outcome =
+          record {
+            numbers = replicate 4 (some 7) ++ some 3 ∷ replicate 3 (some 10) ++ some 3 ∷ none ∷ some 2 ∷ none ∷ some 14 ∷ none ∷ [];
+            plans = (gets 1 (Counter 0) ∷ []) ∷ [];
+            ids = 1 ∷ [];
           };
     }
 
@@ -222,7 +258,7 @@ atOnce =
     }
 
 unfoldable pub runs : List Run
-runs = tryA ∷ tryJ ∷ tryK ∷ emptyQueue ∷ openOnce ∷ ids ∷ cbox ∷ atOnce ∷ []
+runs = tryA ∷ tryJ ∷ tryK ∷ emptyQueue ∷ openOnce ∷ ids ∷ cbox ∷ frozen ∷ atOnce ∷ []
 
 -- each list of calls comes to what its row says
 abbrev pub Runs : Type 0

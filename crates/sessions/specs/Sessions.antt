@@ -13,6 +13,7 @@ use Rattle.requests.specs.declared.Entry.{Entry}
 use Rattle.requests.specs.declared.Refusal.{Refusal}
 use Rattle.requests.specs.declared.Answer.{Answer}
 use Rattle.requests.specs.Refusals.{answerFor}
+use Rattle.requests.specs.Askings.{unasked}
 use Rattle.requests.specs.Devices.{capacity, setupOf}
 use Rattle.plans.specs.declared.Place.the-variants.{Counter}
 use Rattle.layouts.specs.Writes.{filled}
@@ -49,7 +50,7 @@ sessionOf t q = record { opened = true; setup = t; queue = padded q; len = lengt
 
 -- the session before open
 unfoldable pub newSession : Session
-newSession = record { opened = false; setup = record { device = G; usable = record { 0 = 0 }; fixed = 0 }; queue = padded []; len = 0 }
+newSession = record { opened = false; setup = record { device = G; usable = record { 0 = 0 }; fixed = 0; overflow = unasked }; queue = padded []; len = 0 }
 
 -- the plain queue that a session stands for
 unfoldable pub plainOf : Session → Plain

@@ -5,24 +5,19 @@ use mathlib.Core.Option.{Option}
 use Prim.Native.Nat.{ℕ, _*_}
 use lib.Dec.{ltb, leb, eqb}
 use lib.ListN.{length}
-use Rattle.requests.specs.declared.Opening.{Opening}
 use Rattle.requests.specs.declared.Setup.{Setup}
 use Rattle.requests.specs.declared.Request.{Request}
 use Rattle.requests.specs.declared.Entry.{Entry}
 use Rattle.requests.specs.declared.Refusal.{Refusal}
-use Rattle.requests.specs.declared.Refusal.the-variants.{CallOrder, BadOpening, BadId, IdWaiting, IdNotWaiting, OutOfRange, NoPlanAlone, QueueFull, SliceTooShort}
-use Rattle.requests.specs.Choice.{either, isSome, Row, firstHolding}
-use Rattle.requests.specs.Devices.{setupOf}
+use Rattle.requests.specs.declared.Refusal.the-variants.{CallOrder, BadId, IdWaiting, IdNotWaiting, OutOfRange, NoPlanAlone, QueueFull, SliceTooShort}
+use Rattle.requests.specs.Choice.{either, Row, firstHolding}
+use Rattle.requests.specs.Devices.{openingTable}
 use Rattle.requests.specs.Checks.{requestRows}
 use Rattle.plans.specs.Search.{hasPlan}
 use Rattle.sessions.specs.Turns.{taken, writesOf, listsOf, joined}
 use Rattle.sessions.specs.Calls.{Call, Open, Add, Drop, Turn, Turns, Plain, notOpen, opened, waits}
 
 -- ---- the rows of each call past 2, in the order in which they are checked
-
--- 3: device unknown, usable set 0 or above all counters, fixed enables or a box that the device has not
-unfoldable pub openRows : Opening → List (Row Refusal)
-openRows o = (not (isSome (setupOf o)), BadOpening) ∷ []
 
 -- id 0 or above 65535
 unfoldable pub outsideIds : ℕ → Bool
@@ -65,9 +60,9 @@ onceOpen (opened s q) rows = rows s q
 
 -- ---- the table (1 is the text layer's)
 
--- open: 2, 3; add: 2, 4, 5, 7, 8, 10, 9, 11, 12, 13; drop: 2, 4, 6; turn: 2, 14; turns: 2, 10, 14
+-- open: 2, 3, 7, 10; add: 2, 4, 5, 7, 8, 10, 9, 11, 12, 13; drop: 2, 4, 6; turn: 2, 14; turns: 2, 10, 14
 unfoldable pub table : ℕ → Plain → Call → List (Row Refusal)
-table limit p (Open o) = beforeOpen p (openRows o)
+table limit p (Open o) = beforeOpen p (openingTable o)
 table limit p (Add id r) = onceOpen p (λ s q. addRows limit s q id r)
 table limit p (Drop id) = onceOpen p (λ s q. dropRows q id)
 table limit p (Turn room) = onceOpen p (λ s q. turnRows s q room)

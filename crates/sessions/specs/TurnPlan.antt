@@ -1,6 +1,7 @@
 -- Demand 2 of every accepted turn: its plan is the first legal plan of the requests taken, and its writes are that plan's.
 use mathlib.Core.Path.{_≡_}
-use mathlib.Core.List.{List, List·Memᴰ}
+use mathlib.Core.Logic.{_≢_}
+use mathlib.Core.List.{List, [], _∷_, _++_, map, List·Memᴰ}
 use mathlib.Core.Bool.{true, false, not}
 use Prim.Native.Nat.{ℕ, _*_, _≤_, _<_}
 use lib.Dec.{ltb}
@@ -10,17 +11,19 @@ use Rattle.requests.specs.declared.Entry.{Entry}
 use Rattle.requests.specs.declared.Answer.the-variants.{Accepted}
 use Rattle.requests.specs.Bits.{bit, inList}
 use Rattle.requests.specs.Choice.{both, either}
+use Rattle.requests.specs.Openings.{NothingAsked}
 use Rattle.requests.specs.Devices.{has, counterCount, allCounters}
 use Rattle.plans.specs.declared.Place.{Place}
 use Rattle.plans.specs.Lists.{All}
 use Rattle.plans.specs.Legal.{counters}
 use Rattle.plans.specs.Order.{First}
 use Rattle.layouts.specs.Layout.{layoutOf}
-use Rattle.layouts.specs.Writes.{writes, filled, apply}
+use Rattle.layouts.specs.Writes.{Write, writes, filled, apply}
 use Rattle.layouts.specs.NoReservedBit.{Clean}
 use Rattle.layouts.specs.OthersUntouched.{Ours}
 use Rattle.layouts.specs.FixedEnables.{Carries}
-use Rattle.layouts.specs.RestWhileWritten.{Rests}
+use Rattle.layouts.specs.UBox.{askingNothing, withPmi, lastValue}
+use Rattle.layouts.specs.RestWhileWritten.{RestsInside}
 use Rattle.layouts.specs.RoundTrip.{ReadBack}
 use Rattle.sessions.specs.Turns.{requestsOf, taken, turned, assign}
 use Rattle.sessions.specs.Calls.{Call, opened}
@@ -50,7 +53,12 @@ pub record TurnDone (s : Setup) (q : List Entry) (before : Session) (slice : Lis
       → bit k (apply (writes s (requestsOf (taken s q)) places) registers (layoutOf (s .device) .global))
       ≡ both (ltb k (counterCount (s .device))) (either (not (has (s .usable) k)) (inList (counters places) k))
   -- counters rest while their registers are written
-  pub rests : Rests s (requestsOf (taken s q)) (writes s (requestsOf (taken s q)) places)
+  pub rests : RestsInside s (requestsOf (taken s q)) (writes s (requestsOf (taken s q)) places)
+  -- order 7: the U-Box stays with the host where nothing is asked, and else frames the list of the session that asks nothing, with pmi_en
+  pub with-host : NothingAsked (s .overflow) → All (λ (w : Write). w .0 ≢ 0x0C00) (writes s (requestsOf (taken s q)) places)
+  pub framed : ¬ NothingAsked (s .overflow)
+      → writes s (requestsOf (taken s q)) places
+      ≡ (0x0C00, 0) ∷ map (withPmi s) (writes (askingNothing s) (requestsOf (taken s q)) places) ++ (0x0C00, lastValue (s .overflow)) ∷ []
   -- "applied to any registers and read, give that turn's plan counter by counter"
   pub read : (registers : ℕ → ℕ) → ReadBack s (requestsOf (taken s q)) places (writes s (requestsOf (taken s q)) places) registers
   -- the queue afterwards

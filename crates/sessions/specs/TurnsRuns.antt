@@ -3,6 +3,7 @@ use mathlib.Core.Path.{_≡_}
 use mathlib.Core.List.{List, [], _∷_, _++_, map}
 use Prim.Native.Nat.{ℕ, zero, suc, _*_}
 use lib.ListN.{replicate}
+use Rattle.requests.specs.Askings.{unasked}
 use Rattle.requests.specs.declared.CounterSet.{CounterSet}
 use Rattle.requests.specs.declared.Request.the-variants.{Event, Packet}
 use Rattle.sessions.specs.Calls.{Call, Open, Add}
@@ -38,7 +39,7 @@ set n = record { 0 = n }
 
 -- the letter of a device, with usable set 15
 abbrev opening : ℕ → Call
-opening letter = Open (record { device = letter; usable = set 15; fixed = 0; cbox = 0 })
+opening letter = Open (record { device = letter; usable = set 15; fixed = 0; cbox = 0; overflow = unasked })
 
 -- ---- two events on counter 0 of G: each turn takes one of them, and writes 10 times
 

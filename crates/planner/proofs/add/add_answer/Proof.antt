@@ -16,7 +16,8 @@ use Rattle.sessions.specs.Calls.{Add, waits}
 use Rattle.sessions.specs.Table.{outsideIds}
 use Rattle.sessions.specs.Sessions.{queueLimit, queued}
 use Rattle.requests.proofs.Windows.{length-mapped}
-use Rattle.sessions.proofs.TableAnswers.{add-closed, add-bad-id, add-waiting, add-ill-formed, add-no-plan, add-full, add-accepted, answer-none, answer-some, answer-closed, answer-opened}
+use Rattle.requests.proofs.AnswerTests.{answer-none, answer-some}
+use Rattle.sessions.proofs.TableAnswers.{add-closed, add-bad-id, add-waiting, add-ill-formed, add-no-plan, add-full, add-accepted, answer-closed, answer-opened}
 use Rattle.planner.proofs.add.add_answer.Statement.{statement}
 use Rattle.planner.proofs.add.add_answer.Tie as tie
 

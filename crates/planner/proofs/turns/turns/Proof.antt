@@ -2,7 +2,7 @@
 use mathlib.Core.Path.{sym, _∙_}
 use borrow.Author.Needs.{needs}
 use denote.Ref.{now}
-use Rattle.sessions.proofs.TableAnswers.{answer-none}
+use Rattle.requests.proofs.AnswerTests.{answer-none}
 use Rattle.sessions.proofs.TurnByTurn.{accepted-turns}
 use Rattle.planner.proofs.TakingTurns.{turns-refused, turns-done}
 use Rattle.planner.proofs.turns.turns.Statement.{statement}
