@@ -1,6 +1,7 @@
 -- The examples, by computation: every definition that they reach is unfolded.
 use mathlib.Core.Path.{refl}
 use mathlib.Core.List.{flatMap}
+use Rattle.requests.specs.Askings.{unasked}
 use Rattle.requests.specs.Choice.{both}
 use Rattle.requests.specs.Devices.{capacity}
 use Rattle.requests.specs.Refusals.{numberOf}
@@ -15,7 +16,7 @@ use Rattle.answers.specs.Reader.{takeSays, setSays, noSays, fieldsSay, l
 use Rattle.answers.specs.Replies.{answerText, registerText, takeLines, setLines, turnReply}
 
 pub examples-hold : Examples
-unfolding flatMap capacity numberOf countedOf queueLimit vacant padded newSession unassigned turnAnswer planOf tabbed bytes tab newline hexDigit hexText decimalDigits decimalText lineOf typed taken answerText registerText takeLines setLines turnReply
+unfolding flatMap unasked capacity numberOf countedOf queueLimit vacant padded newSession unassigned turnAnswer planOf tabbed bytes tab newline hexDigit hexText decimalDigits decimalText lineOf typed taken answerText registerText takeLines setLines turnReply
 examples-hold = refl
 
 pub readings-hold : Readings

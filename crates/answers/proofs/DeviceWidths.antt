@@ -1,12 +1,13 @@
 -- What `set` lines and the room of a turn ask of a device's numbers: one record a device. Assumes nothing.
+use mathlib.Core.Bool.{Bool, true, false}
 use Prim.Native.Nat.{ℕ, _≤_, _<_}
 use native.Mathlib.Omega.{arith}
 use Rattle.requests.specs.declared.Device.{Device}
 use Rattle.requests.specs.declared.Device.the-variants.{G, S, C}
 use Rattle.requests.specs.Devices.{capacity}
-use Rattle.layouts.specs.Layout.{layoutOf, controlAt, counterAt, enabled, eventWord}
+use Rattle.layouts.specs.Layout.{layoutOf, controlAt, counterAt}
 use Rattle.layouts.specs.WriteCount.{writeLimit}
-use Rattle.layouts.proofs.DeviceFacts.{cbox-small}
+use Rattle.layouts.proofs.DeviceFacts.{cbox-range}
 use Rattle.records.specs.Records.{Hex}
 
 pub record DeviceWidths (d : Device) : Type 0 where
@@ -14,34 +15,33 @@ pub record DeviceWidths (d : Device) : Type 0 where
   pub control : (k : ℕ) → k < capacity → Hex 4 (controlAt d k)
   pub counter : (k : ℕ) → k < capacity → Hex 4 (counterAt d k)
   pub global : Hex 4 (layoutOf d .global)
-  -- an event word has sixteen
-  pub event : (c m : ℕ) → Hex 2 c → Hex 2 m → Hex 16 (eventWord d c m)
-  -- a turn is lent the room of 22 writes
-  pub writes : writeLimit d ≤ 22
+
+-- a turn is lent the room of 22 writes
+pub write-room : (d : Device) (asked : Bool) → writeLimit d asked ≤ 22
+unfolding writeLimit
+write-room G a = omega arith
+write-room S false = omega arith
+write-room S true = omega arith
+write-room (C b) false = omega arith
+write-room (C b) true = omega arith
 
 pub widths : (d : Device) → DeviceWidths d
-unfolding controlAt counterAt layoutOf capacity eventWord enabled writeLimit
+unfolding controlAt counterAt layoutOf capacity
 widths G =
     record {
       control = λ k l. omega arith;
       counter = λ k l. omega arith;
       global = omega arith;
-      event = λ c m h j. omega arith;
-      writes = omega arith;
     }
 widths S =
     record {
       control = λ k l. omega arith;
       counter = λ k l. omega arith;
       global = omega arith;
-      event = λ c m h j. omega arith;
-      writes = omega arith;
     }
 widths (C b) =
     record {
-      control = λ k l. omega (arith, cbox-small b);
-      counter = λ k l. omega (arith, cbox-small b);
-      global = omega (arith, cbox-small b);
-      event = λ c m h j. omega arith;
-      writes = omega arith;
+      control = λ k l. omega (arith, cbox-range b .1);
+      counter = λ k l. omega (arith, cbox-range b .1);
+      global = omega (arith, cbox-range b .1);
     }

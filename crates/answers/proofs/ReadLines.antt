@@ -124,10 +124,11 @@ joined-reads f g (cons h hs) = then-reads h (joined-reads f g hs)
 -- ---- a line
 
 -- fields that say x, written as a line
-line-reads : (f : List ℕ) (fs : List (List ℕ)) (x : Said) → oneField f ≡ true → Plains fs → fieldsSay (f ∷ fs) ≡ some x → Reads (lineOf (f ∷ fs)) (x ∷ [])
+line-reads : (n : ℕ) (f : List ℕ) (fs : List (List ℕ)) (x : Said) → oneField f ≡ true → Plains n fs → fieldsSay (f ∷ fs) ≡ some x
+    → Reads (lineOf (f ∷ fs)) (x ∷ [])
 unfolding replySays linesSay
-line-reads f fs x one plain says =
-    let w : Written f fs = written f fs one plain in
+line-reads n f fs x one plain says =
+    let w : Written n f fs = written n f fs one plain in
     record { says = rw (w .line, one-line (w .text) (w .one-line), w .parts, says) }
 
 -- a register that is printed
@@ -135,7 +136,7 @@ abbrev pub RegisterFits : Option ℕ → Type 0
 RegisterFits none = Unit {0}
 RegisterFits (some i) = Decimal i
 
-register-plain : (r : Option ℕ) → RegisterFits r → Plain (registerText r)
+register-plain : (r : Option ℕ) → RegisterFits r → Plain 5 (registerText r)
 unfolding registerText bytes oneField both lacks tab newline
 register-plain none h = record { field = refl; short = omega arith }
 register-plain (some i) h = decimal-plain i h
@@ -149,12 +150,12 @@ pub take-reads : (id k : ℕ) (r : Option ℕ) → Decimal id → Decimal k → 
     → Reads (lineOf (bytes "take" ∷ decimalText id ∷ decimalText k ∷ registerText r ∷ [])) (Takes id k r ∷ [])
 unfolding fieldsSay sameBytes bytes oneField both lacks tab newline
 take-reads id k r a b h =
-    line-reads _ _ _ refl (more (decimal-plain id a) (more (decimal-plain k b) (more (register-plain r h) none))) (take-says id k r a b h)
+    line-reads _ _ _ _ refl (more (decimal-plain id a) (more (decimal-plain k b) (more (register-plain r h) none))) (take-says id k r a b h)
 
 pub set-reads : (a v : ℕ) → Hex 4 a → Hex 16 v → Reads (lineOf (bytes "set" ∷ hexText 4 a ∷ hexText 16 v ∷ [])) (Sets a v ∷ [])
 unfolding fieldsSay setSays sameBytes bytes oneField both lacks tab newline
 set-reads a v h k =
-    line-reads _ _ _ refl (more (hex-plain 4 a (omega arith) h) (more (hex-plain 16 v (omega arith) k) none)) (rw (hex-reads 4 a h, hex-reads 16 v k))
+    line-reads _ _ _ _ refl (more (hex-plain 4 a h) (more (hex-plain 16 v k) none)) (rw (hex-reads 4 a h, hex-reads 16 v k))
 
 -- ---- the answer
 
@@ -178,5 +179,5 @@ number-fits NotLeftByPlan = omega arith
 
 pub answer-reads : (a : Answer) → Reads (answerText a) (Answers (answerNumber a) ∷ [])
 unfolding answerText answerNumber fieldsSay noSays sameBytes bytes oneField both lacks tab newline
-answer-reads Accepted = line-reads _ _ _ refl none refl
-answer-reads (Refused x) = line-reads _ _ _ refl (more (decimal-plain (numberOf x) (number-fits x)) none) (rw (decimal-reads (numberOf x) (number-fits x)))
+answer-reads Accepted = line-reads _ _ _ _ refl none refl
+answer-reads (Refused x) = line-reads _ _ _ _ refl (more (decimal-plain (numberOf x) (number-fits x)) none) (rw (decimal-reads (numberOf x) (number-fits x)))

@@ -12,6 +12,7 @@ use Rattle.requests.specs.declared.Request.{Request}
 use Rattle.requests.specs.declared.Entry.{Entry}
 use Rattle.requests.specs.declared.Refusal.the-variants.{SliceTooShort}
 use Rattle.requests.specs.declared.Answer.the-variants.{Refused}
+use Rattle.requests.specs.Askings.{asked}
 use Rattle.requests.specs.Refusals.{numberOf}
 use Rattle.layouts.proofs.WriteCount.{write-count}
 use Rattle.sessions.specs.Calls.{Call, Open, Add, Drop, Turn, Plain, notOpen, opened}
@@ -22,16 +23,17 @@ use Rattle.sessions.specs.Sessions.{queueLimit, plainOf, refusedBy, openOf, add
 use Rattle.sessions.specs.declared.Session.{Session}
 use Rattle.sessions.proofs.Agreed.{answer-is}
 use Rattle.sessions.proofs.Rows.{refusal-table}
-use Rattle.sessions.proofs.TableAnswers.{turn-accepted, answer-some}
+use Rattle.requests.proofs.AnswerTests.{answer-some}
+use Rattle.sessions.proofs.TableAnswers.{turn-accepted}
 use Rattle.sessions.proofs.TakenPlan.{taken-first}
 use Rattle.answers.specs.Replies.{turnRoom}
-use Rattle.answers.proofs.DeviceWidths.{widths}
+use Rattle.answers.proofs.DeviceWidths.{write-room}
 
 -- in no state does the row apply to a turn with that room, or to another call
 turn-not : (p : Plain) → ¬ Applies queueLimit p (Turn turnRoom) 14
 unfolding turnRoom
 turn-not notOpen a = elim a [ ]
-turn-not (opened s q) (short first l) = omega (arith, write-count .at-most s _ _ (first .legal), widths (s .device) .writes)
+turn-not (opened s q) (short first l) = omega (arith, write-count .at-most s _ _ (first .legal), write-room (s .device) (asked s))
 
 open-not : (p : Plain) (o : Opening) → ¬ Applies queueLimit p (Open o) 14
 open-not p o a = elim a [ ]
@@ -54,7 +56,7 @@ pub turn-goes : (t : Setup) (q : List Entry) → refusal queueLimit (opened t q)
 unfolding turnRoom writesOf
 turn-goes t q =
     turn-accepted queueLimit t q turnRoom
-    (le-ltb turnRoom (2 * length (writesOf t (taken t q))) (omega (arith, write-count .at-most t _ _ (taken-first t q .legal), widths (t .device) .writes)))
+    (le-ltb turnRoom (2 * length (writesOf t (taken t q))) (omega (arith, write-count .at-most t _ _ (taken-first t q .legal), write-room (t .device) (asked t))))
 
 module _ (s : Session) where
   pub open-fits : (o : Opening) → ¬ (openOf s o .answer ≡ Refused SliceTooShort)

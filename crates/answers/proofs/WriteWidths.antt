@@ -1,19 +1,24 @@
 -- Every write of a plan fits the fields of a `set` line, where the requests' numbers fit the fields of the lines that add them. Write by write,
 -- by `writes-all` of the registers' laws. Assumes nothing.
+use mathlib.Core.Path.{_≡_, refl}
 use mathlib.Core.Bool.{Bool, true, false}
 use mathlib.Core.List.{List, [], _∷_, flatMap}
-use Prim.Native.Nat.{ℕ, _+_, _%_, _^_, _≤_, _<_}
+use Prim.Native.Nat.{ℕ, _+_, _*_, _%_, _^_, _≤_, _<_}
 use native.Mathlib.Nat.{mod-lt}
 use native.Mathlib.Omega.{arith}
-use lib.Dec.{eqb}
+use lib.Dec.{ltb, eqb}
 use lib.ListN.{getD}
 use lib.Pow.{pow-mono}
+use borrow.Author.Tests.{ltb-true}
 use Rattle.requests.specs.declared.Device.{Device}
 use Rattle.requests.specs.declared.Device.the-variants.{G, S, C}
+use Rattle.requests.specs.declared.Core.{Core}
+use Rattle.requests.specs.declared.Core.the-variants.{NoCore, At}
 use Rattle.requests.specs.declared.Setup.{Setup}
 use Rattle.requests.specs.declared.Request.{Request}
 use Rattle.requests.specs.declared.Request.the-variants.{Event, Packet, Offcore, Latency}
 use Rattle.requests.specs.Choice.{pick}
+use Rattle.requests.specs.Askings.{coreCount, asked}
 use Rattle.requests.specs.Bits.{anyResponse, outstanding, latencyWord}
 use Rattle.requests.specs.Devices.{capacity, counterCount, allCounters, fixedCount}
 use Rattle.plans.specs.declared.Place.{Place}
@@ -24,13 +29,13 @@ use Rattle.plans.specs.Legal.{wordsOf, packetsOf, ofAll}
 use Rattle.requests.proofs.DeviceNumbers.{numbers}
 use Rattle.plans.proofs.Sets.{all-append}
 use Rattle.plans.proofs.PlanLengthHolds.{plan-length}
-use Rattle.layouts.specs.Layout.{tabulate, rsp0At, rsp1At, mmCfgAt, matchAt, maskAt, mmEnable, eventWord, offcoreCode, rspMask, rspWord, packetWord}
+use Rattle.layouts.specs.Layout.{tabulate, rsp0At, rsp1At, mmCfgAt, matchAt, maskAt, uboxAt, mmEnable, frzAll, enAll, coreSel, enabledOn, pmiEnable, enabled, eventWord, offcoreCode, rspMask, rspWord, packetWord}
 use Rattle.layouts.specs.Settings.{usesOf, wordAt, headOr, nonempty, settingsOf}
-use Rattle.layouts.specs.Writes.{Write, unusable, fixedAt, fixedEnables, firstGlobal, lastGlobal, offcoreWrites, packetWrites, filterWrites, writes}
+use Rattle.layouts.specs.Writes.{Write, unusable, fixedAt, fixedEnables, firstGlobal, lastGlobal, offcoreWrites, packetWrites, filterWrites, coreBit, uboxValue, writes}
 use Rattle.layouts.proofs.ListLaws.{all-head}
 use Rattle.layouts.proofs.Tabulated.{getD-tabulate}
-use Rattle.layouts.proofs.DeviceFacts.{in-room}
-use Rattle.layouts.proofs.RegistersAfter.{writes-all}
+use Rattle.layouts.proofs.DeviceFacts.{facts, in-room}
+use Rattle.layouts.proofs.RegistersAfter.{box-all, writes-all}
 use Rattle.layouts.proofs.ControlWords.{word-at}
 use Rattle.records.specs.Records.{Hex, AddFits}
 use Rattle.answers.proofs.DeviceWidths.{widths}
@@ -62,21 +67,30 @@ of-all f h nil ps = nil
 of-all f h (cons w ws) [] = nil
 of-all f h (cons {a = r} w ws) (p ∷ ps) = all-append (h r p w) (of-all f h ws ps)
 
-rsp-fits : (d : Device) (i : ℕ) → Hex 16 (rspWord d i)
-unfolding rspWord rspMask offcoreCode
-rsp-fits d i = go (eqb i 0)
+-- an event word, with pmi_en or without
+event-fits : (s : Setup) (c m : ℕ) → Hex 2 c → Hex 2 m → Hex 16 (eventWord s c m)
+unfolding eventWord enabled pmiEnable
+event-fits s c m h j = go (asked s)
   where
-    go : (b : Bool) → Hex 16 (eventWord d offcoreCode (pick b 1 2))
-    go true = widths d .event offcoreCode 1 (omega arith) (omega arith)
-    go false = widths d .event offcoreCode 2 (omega arith) (omega arith)
+    go : (b : Bool) → Hex 16 (enabledOn (s .device) + pick b (2 ^ 20) 0 + 0x100 * m + c)
+    go true = omega (arith, facts (s .device) .enabled-small)
+    go false = omega (arith, facts (s .device) .enabled-small)
+
+rsp-fits : (s : Setup) (i : ℕ) → Hex 16 (rspWord s i)
+unfolding rspWord rspMask offcoreCode
+rsp-fits s i = go (eqb i 0)
+  where
+    go : (b : Bool) → Hex 16 (eventWord s offcoreCode (pick b 1 2))
+    go true = event-fits s offcoreCode 1 (omega arith) (omega arith)
+    go false = event-fits s offcoreCode 2 (omega arith) (omega arith)
 
 -- control words
-uses-fit : (d : Device) (r : Request) (p : Place) → WordsFit r → All (λ (u : ℕ × ℕ). Hex 16 (u .1)) (usesOf d r p)
+uses-fit : (s : Setup) (r : Request) (p : Place) → WordsFit r → All (λ (u : ℕ × ℕ). Hex 16 (u .1)) (usesOf s r p)
 unfolding usesOf packetWord
-uses-fit d (Event c m a) p h = cons (widths d .event c m (h .0) (h .1)) nil
-uses-fit d (Packet x y a) p h = cons (widths d .event 0 0 (omega arith) (omega arith)) nil
-uses-fit d (Offcore w a) p h = cons (rsp-fits d (second p)) nil
-uses-fit d (Latency t a b) p h = cons (rsp-fits d 0) (cons (rsp-fits d 1) nil)
+uses-fit s (Event c m a) p h = cons (event-fits s c m (h .0) (h .1)) nil
+uses-fit s (Packet x y a) p h = cons (event-fits s 0 0 (omega arith) (omega arith)) nil
+uses-fit s (Offcore w a) p h = cons (rsp-fits s (second p)) nil
+uses-fit s (Latency t a b) p h = cons (rsp-fits s 0) (cons (rsp-fits s 1) nil)
 
 latency-fits : (i t : ℕ) → Hex 4 t → Hex 16 (latencyWord i t)
 unfolding latencyWord outstanding anyResponse
@@ -135,6 +149,24 @@ first-fits : (s : Setup) → Hex 16 (firstGlobal s)
 unfolding lastGlobal
 first-fits s = omega (arith, last-fits s 0)
 
+-- so has that of the U-Box
+core-fits : (c : Core) → coreBit c ≤ 0x100
+unfolding coreBit coreSel coreCount
+core-fits NoCore = omega arith
+core-fits (At c) = go (ltb c 8) refl
+  where
+    go : (b : Bool) → ltb c 8 ≡ b → pick b (2 ^ (1 + c)) 0 ≤ 0x100
+    go true e = pow-mono {i = 1 + c} {j = 8} (omega (arith, ltb-true c 8 e))
+    go false e = omega arith
+
+ubox-fits : (s : Setup) → Hex 16 (uboxValue s)
+unfolding uboxValue enAll frzAll
+ubox-fits s = go (eqb (s .overflow .freeze) 0)
+  where
+    go : (b : Bool) → Hex 16 (2 ^ 28 + pick b 0 (2 ^ 31) + coreBit (s .overflow .core))
+    go true = omega (arith, core-fits (s .overflow .core))
+    go false = omega (arith, core-fits (s .overflow .core))
+
 filter-fits : (a v : ℕ) → a < 0x10000 → Hex 16 v → WriteFits (a, v)
 filter-fits a v l h = (omega arith, h)
 
@@ -152,24 +184,26 @@ module _ (rs : List Request) (ps : List Place) (fit : All WordsFit rs) where
   rsp-word-fits : (i : ℕ) → Hex 16 (headOr 0 (ofAll (wordsOf i) rs ps))
   rsp-word-fits i = all-head 0 (ofAll (wordsOf i) rs ps) zero-fits (of-all (wordsOf i) (asked-fit i) fit ps)
 
-  filters-fit : (d : Device) → All WriteFits (filterWrites d (settingsOf d rs ps))
+  filters-fit : (s : Setup) (d : Device) → All WriteFits (filterWrites d (settingsOf s rs ps))
   unfolding filterWrites offcoreWrites settingsOf rsp0At rsp1At
-  filters-fit G = cons (filter-fits rsp0At _ (omega arith) (rsp-word-fits 0)) (cons (filter-fits rsp1At _ (omega arith) (rsp-word-fits 1)) nil)
-  filters-fit S = packet-writes-fit (nonempty (flatMap packetsOf rs)) _ _ (all-head (0, 0) (flatMap packetsOf rs) (zero-fits, zero-fits) (packets-fit fit))
-  filters-fit (C b) = nil
+  filters-fit s G = cons (filter-fits rsp0At _ (omega arith) (rsp-word-fits 0)) (cons (filter-fits rsp1At _ (omega arith) (rsp-word-fits 1)) nil)
+  filters-fit s S = packet-writes-fit (nonempty (flatMap packetsOf rs)) _ _ (all-head (0, 0) (flatMap packetsOf rs) (zero-fits, zero-fits) (packets-fit fit))
+  filters-fit s (C b) = nil
 
   pub writes-fit : (s : Setup) → All WriteFits (writes s rs ps)
-  unfolding writes settingsOf
+  unfolding writes settingsOf uboxAt
   writes-fit s =
       let d = s .device in
-      let us = ofAll (usesOf d) rs ps in
-      writes-all s (settingsOf d rs ps) WriteFits
+      let us = ofAll (usesOf s) rs ps in
+      let t = settingsOf s rs ps in
+      writes-all s t WriteFits (λ a. ((omega arith, zero-fits), (omega arith, ubox-fits s)))
+      (box-all s t WriteFits
       (widths d .global, first-fits s)
       (λ k l h. (widths d .control k (in-room d k l), zero-fits))
-      (filters-fit d)
+      (filters-fit s d)
       (λ k l h. (widths d .counter k (in-room d k l), zero-fits))
       (λ k l h. (
         widths d .control k (in-room d k l),
-        rw (getD-tabulate capacity (wordAt us) k 0 (in-room d k l)) (word-at (Hex 16) us k zero-fits (of-all (usesOf d) (uses-fit d) fit ps)),
+        rw (getD-tabulate capacity (wordAt us) k 0 (in-room d k l)) (word-at (Hex 16) us k zero-fits (of-all (usesOf s) (uses-fit s) fit ps)),
       ))
-      (widths d .global, last-fits s (settingsOf d rs ps .used .0))
+      (widths d .global, last-fits s (t .used .0)))

@@ -9,14 +9,14 @@ orderTries =
     -- Order 2. "0 to 7, for those three bits (0 on S; anything else is refused with 3)", in a fourth field; every write to 038F carries it.
     record {
       input =
-          "open G 15" ∷
-          "open G 15 08" ∷
-          "open G 15 8" ∷
-          "open G 15 256" ∷
-          "open G 271 0" ∷
-          "open G 0 9" ∷
-          "open S 15 1" ∷
-          "open G 14 5" ∷
+          "open G 15 0 -" ∷
+          "open G 15 08 0 -" ∷
+          "open G 15 8 0 -" ∷
+          "open G 15 256 0 -" ∷
+          "open G 271 0 0 -" ∷
+          "open G 0 9 0 -" ∷
+          "open S 15 1 0 -" ∷
+          "open G 14 5 0 -" ∷
           "event 1 C0 00 15" ∷
           "turn" ∷ [];
       output =
@@ -44,7 +44,7 @@ orderTries =
     } ∷
     -- Order 3. Box 7: two counters of six, at the addresses of that box.
     record {
-      input = "open C 63 0 7" ∷ "event 1 19 00 63" ∷ "event 2 0B 18 1" ∷ "turn" ∷ [];
+      input = "open C 63 0 7 0 -" ∷ "event 1 19 00 63" ∷ "event 2 0B 18 1" ∷ "turn" ∷ [];
       output =
           "ok" ∷
           "ok" ∷
@@ -68,7 +68,7 @@ orderTries =
     } ∷
     -- Order 3. Box 1, counters 4 and 5 usable: the enable bits of the other four stay.
     record {
-      input = "open C 48 0 1" ∷ "event 1 1F 00 63" ∷ "turn" ∷ [];
+      input = "open C 48 0 1 0 -" ∷ "event 1 1F 00 63" ∷ "turn" ∷ [];
       output =
           "ok" ∷
           "ok" ∷
@@ -85,13 +85,13 @@ orderTries =
     -- Order 3. What is refused on C: lines of a field too few or too many, openings, masks, codes, sets and kinds.
     record {
       input =
-          "open C 63 0" ∷
-          "open S 15 0 0" ∷
-          "open C 63 0 8" ∷
-          "open C 64 0 0" ∷
-          "open C 63 1 0" ∷
-          "open C 0 0 0" ∷
-          "open C 63 0 0" ∷
+          "open C 63 0 0 -" ∷
+          "open S 15 0 0 0 -" ∷
+          "open C 63 0 8 0 -" ∷
+          "open C 64 0 0 0 -" ∷
+          "open C 63 1 0 0 -" ∷
+          "open C 0 0 0 0 -" ∷
+          "open C 63 0 0 0 -" ∷
           "event 1 19 00 63" ∷
           "event 2 19 01 63" ∷
           "event 2 0B 00 63" ∷
@@ -117,6 +117,85 @@ orderTries =
           "no 12" ∷
           "no 7" ∷ [];
       waiting = 1 ∷ [];
+    } ∷
+    -- Order 7. Freeze and core, and the base's list where neither is asked: 1, then 3, then 7 on G and 10 on S and C.
+    record {
+      input =
+          "open S 15 0" ∷
+          "open S 15 0 1" ∷
+          "open S 15 0 - 0" ∷
+          "open S 15 0 0 01" ∷
+          "open S 0 0 2 8" ∷
+          "open G 16 0 1 -" ∷
+          "open G 15 0 1 -" ∷
+          "open G 15 0 2 -" ∷
+          "open G 15 0 0 0" ∷
+          "open G 15 0 0 9" ∷
+          "open S 15 0 2 -" ∷
+          "open S 15 0 0 8" ∷
+          "open C 63 0 7 1 8" ∷
+          "open S 15 0 0 -" ∷
+          "open S 15 0 2 -" ∷
+          "turn" ∷ [];
+      output =
+          "no 1" ∷
+          "no 1" ∷
+          "no 1" ∷
+          "no 1" ∷
+          "no 3" ∷
+          "no 3" ∷
+          "no 7" ∷
+          "no 7" ∷
+          "no 7" ∷
+          "no 7" ∷
+          "no 10" ∷
+          "no 10" ∷
+          "no 10" ∷
+          "ok" ∷
+          "no 2" ∷
+          "set 0C40 0000000000000000" ∷
+          "set 0C50 0000000000000000" ∷
+          "set 0C52 0000000000000000" ∷
+          "set 0C54 0000000000000000" ∷
+          "set 0C56 0000000000000000" ∷
+          "set 0E48 0000000000000000" ∷
+          "set 0C40 0000000000000000" ∷
+          "ok" ∷ [];
+      waiting = [];
+    } ∷
+    -- Order 7. Freeze and core 2: the U-Box is written first and last, and pmi_en with the event.
+    record {
+      input = "open S 15 0 1 2" ∷ "event 1 52 00 15" ∷ "turn" ∷ [];
+      output =
+          "ok" ∷
+          "ok" ∷
+          "take 1 0 -" ∷
+          "set 0C00 0000000000000000" ∷
+          "set 0C40 0000000000000000" ∷
+          "set 0C50 0000000000000000" ∷
+          "set 0C52 0000000000000000" ∷
+          "set 0C54 0000000000000000" ∷
+          "set 0C56 0000000000000000" ∷
+          "set 0E48 0000000000000000" ∷
+          "set 0C51 0000000000000000" ∷
+          "set 0C50 0000000000500052" ∷
+          "set 0C40 0000000000000001" ∷
+          "set 0C00 0000000090000008" ∷
+          "ok" ∷ [];
+      waiting = 1 ∷ [];
+    } ∷
+    -- Order 7. Core 7 of a session on C, and no request.
+    record {
+      input = "open C 1 0 0 0 7" ∷ "turn" ∷ [];
+      output =
+          "ok" ∷
+          "set 0C00 0000000000000000" ∷
+          "set 0D00 000000000000003E" ∷
+          "set 0D10 0000000000000000" ∷
+          "set 0D00 000000000000003E" ∷
+          "set 0C00 0000000010000100" ∷
+          "ok" ∷ [];
+      waiting = [];
     } ∷ []
 
 -- each input gives the output and leaves the ids waiting

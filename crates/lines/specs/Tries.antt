@@ -33,7 +33,7 @@ abbrev pub tries : List Try
 tries =
     -- A. The queue is now 3, 1, 2.
     record {
-      input = "open G 15 0" ∷ "event 1 C0 00 1" ∷ "latency 2 0001 15 15" ∷ "event 3 3C 00 1" ∷ "turn" ∷ [];
+      input = "open G 15 0 0 -" ∷ "event 1 C0 00 1" ∷ "latency 2 0001 15 15" ∷ "event 3 3C 00 1" ∷ "turn" ∷ [];
       output =
           "ok" ∷
           "ok" ∷
@@ -61,7 +61,7 @@ tries =
     } ∷
     -- B. Allowed 15, then allowed 1: the first goes to counter 1, the second to 0.
     record {
-      input = "open G 15 0" ∷ "event 1 C0 00 15" ∷ "event 2 C0 00 1" ∷ "turn" ∷ [];
+      input = "open G 15 0 0 -" ∷ "event 1 C0 00 15" ∷ "event 2 C0 00 1" ∷ "turn" ∷ [];
       output =
           "ok" ∷
           "ok" ∷
@@ -85,7 +85,7 @@ tries =
     } ∷
     -- C. Offcore 10001, latency 0001: RSP1 is shared.
     record {
-      input = "open G 15 0" ∷ "offcore 1 0000000000010001 15" ∷ "latency 2 0001 15 15" ∷ "turn" ∷ [];
+      input = "open G 15 0 0 -" ∷ "offcore 1 0000000000010001 15" ∷ "latency 2 0001 15 15" ∷ "turn" ∷ [];
       output =
           "ok" ∷
           "ok" ∷
@@ -112,7 +112,7 @@ tries =
     } ∷
     -- D. With 10002 the latency request waits.
     record {
-      input = "open G 15 0" ∷ "offcore 1 0000000000010002 15" ∷ "latency 2 0001 15 15" ∷ "turn" ∷ [];
+      input = "open G 15 0 0 -" ∷ "offcore 1 0000000000010002 15" ∷ "latency 2 0001 15 15" ∷ "turn" ∷ [];
       output =
           "ok" ∷
           "ok" ∷
@@ -133,7 +133,7 @@ tries =
     } ∷
     -- E. Three different offcore words: the third waits beside two free counters.
     record {
-      input = "open G 15 0" ∷ "offcore 1 0000000000010001 15" ∷ "offcore 2 0000000000010002 15" ∷ "offcore 3 0000000000010004 15" ∷ "turn" ∷ [];
+      input = "open G 15 0 0 -" ∷ "offcore 1 0000000000010001 15" ∷ "offcore 2 0000000000010002 15" ∷ "offcore 3 0000000000010004 15" ∷ "turn" ∷ [];
       output =
           "ok" ∷
           "ok" ∷
@@ -158,7 +158,7 @@ tries =
     } ∷
     -- F. Usable 14: 038F gets 1 first.
     record {
-      input = "open G 14 0" ∷ "event 1 C0 00 15" ∷ "turn" ∷ [];
+      input = "open G 14 0 0 -" ∷ "event 1 C0 00 15" ∷ "turn" ∷ [];
       output =
           "ok" ∷
           "ok" ∷
@@ -177,7 +177,7 @@ tries =
     } ∷
     -- G. Latency 4 and 4: 12; 4 and 8: accepted.
     record {
-      input = "open G 15 0" ∷ "latency 1 0001 4 4" ∷ "latency 1 0001 4 8" ∷ [];
+      input = "open G 15 0 0 -" ∷ "latency 1 0001 4 4" ∷ "latency 1 0001 4 8" ∷ [];
       output =
           "ok" ∷
           "no 12" ∷
@@ -186,7 +186,7 @@ tries =
     } ∷
     -- H. Word 10040: 10; 1: 9; 200010001: 11.
     record {
-      input = "open G 15 0" ∷ "offcore 1 0000000000010040 15" ∷ "offcore 1 0000000000000001 15" ∷ "offcore 1 0000000200010001 15" ∷ [];
+      input = "open G 15 0 0 -" ∷ "offcore 1 0000000000010040 15" ∷ "offcore 1 0000000000000001 15" ∷ "offcore 1 0000000200010001 15" ∷ [];
       output =
           "ok" ∷
           "no 10" ∷
@@ -196,7 +196,7 @@ tries =
     } ∷
     -- I. S 51/0: 9; 51/3: 400351; 51/4: 10.
     record {
-      input = "open S 15 0" ∷ "event 1 51 00 15" ∷ "event 1 51 03 15" ∷ "event 2 51 04 15" ∷ "turn" ∷ [];
+      input = "open S 15 0 0 -" ∷ "event 1 51 00 15" ∷ "event 1 51 03 15" ∷ "event 2 51 04 15" ∷ "turn" ∷ [];
       output =
           "ok" ∷
           "no 9" ∷
@@ -217,7 +217,7 @@ tries =
     } ∷
     -- S. Usable 14, a packet and 51/3: the order of the writes on S.
     record {
-      input = "open S 14 0" ∷ "packet 1 00000000000000A5 00000000000000FF 15" ∷ "event 2 51 03 15" ∷ "turn" ∷ [];
+      input = "open S 14 0 0 -" ∷ "packet 1 00000000000000A5 00000000000000FF 15" ∷ "event 2 51 03 15" ∷ "turn" ∷ [];
       output =
           "ok" ∷
           "ok" ∷
@@ -242,7 +242,7 @@ tries =
     } ∷
     -- S. Packets of equal match and equal mask go together, one of another mask waits.
     record {
-      input = "open S 15 0" ∷ "packet 1 0000000000000005 0000000000000006 15" ∷ "packet 2 0000000000000005 0000000000000007 15" ∷ "packet 3 0000000000000005 0000000000000006 15" ∷ "turn" ∷ [];
+      input = "open S 15 0 0 -" ∷ "packet 1 0000000000000005 0000000000000006 15" ∷ "packet 2 0000000000000005 0000000000000007 15" ∷ "packet 3 0000000000000005 0000000000000006 15" ∷ "turn" ∷ [];
       output =
           "ok" ∷
           "ok" ∷

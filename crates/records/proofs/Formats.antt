@@ -1,6 +1,6 @@
 -- A text that is read format by format, and gives a record, has exactly the fields that the record's values spell. Assumes nothing.
-use mathlib.Core.Path.{_≡_, refl, ap₂, sym, _∙_}
-use mathlib.Core.Bool.{Bool, true, false, true≢false}
+use mathlib.Core.Path.{_≡_, refl, ap₂, _∙_}
+use mathlib.Core.Bool.{Bool, true, false}
 use mathlib.Core.List.{List, [], _∷_}
 use Prim.Native.Nat.{ℕ, suc, _+_}
 use native.Mathlib.Omega.{arith}
@@ -11,9 +11,9 @@ use borrow.Author.Tests.{eqb-true}
 use Rattle.requests.specs.Choice.{pick, both}
 use Rattle.requests.proofs.Tests.{both-parts}
 use Rattle.records.specs.Text.{hexText, decimalText}
-use Rattle.records.specs.Records.{Decimal, Hex}
-use Rattle.records.specs.Fields.{fields, fieldAt, sameBytes}
-use Rattle.records.specs.Numbers.{decimalOf, hexOf}
+use Rattle.records.specs.Records.{coreText, Decimal, Hex, CoreFits}
+use Rattle.records.specs.Fields.{fields, fieldAt}
+use Rattle.records.specs.Numbers.{decimalOf, hexOf, coreNumberOf, coreOf}
 use Rattle.records.specs.Verbs.{withNumber, ended}
 use Rattle.records.specs.declared.Number.{Number}
 use Rattle.records.specs.declared.Number.the-variants.{Value, Bad}
@@ -23,26 +23,31 @@ use Rattle.records.specs.declared.Parsed.the-variants.{Line, Fault}
 use Rattle.records.proofs.Outcomes.{fault-not-line}
 use Rattle.records.proofs.Decimals.{decimal-only}
 use Rattle.records.proofs.Hexes.{hex-only}
+use Rattle.records.proofs.Cores.{core-only}
 
 -- how a field is spelled
 pub data Format : Type 0 where
   decimal : Format
   hex : ℕ → Format
+  core : Format
 
 -- what number fits it
 abbrev pub Fit : Format → ℕ → Type 0
 Fit decimal n = Decimal n
 Fit (hex w) n = Hex w n
+Fit core n = CoreFits (coreOf n)
 
 -- the number's text
 abbrev pub spelled : Format → ℕ → List ℕ
 spelled decimal n = decimalText n
 spelled (hex w) n = hexText w n
+spelled core n = coreText (coreOf n)
 
 -- what follows it, or the field at fault
 abbrev pub given : Format → List ℕ → ℕ → (ℕ → Parsed) → Parsed
 given decimal x k next = withNumber (decimalOf x) k next
 given (hex w) x k next = withNumber (hexOf w x) k next
+given core x k next = withNumber (coreNumberOf x) k next
 
 -- what fields of these formats hold
 abbrev pub Values : List Format → Type 0
@@ -64,18 +69,6 @@ abbrev pub readFrom : (fs : List Format) → List ℕ → Bool → ℕ → (Valu
 readFrom [] t closed k made = ended t closed k (made tt)
 readFrom (f ∷ fs) t closed k made = given f (fieldAt t k) k (λ x. readFrom fs t closed (suc k) (λ v. made (x, v)))
 
--- equal runs of bytes
-pub same-bytes : (f g : List ℕ) → sameBytes f g ≡ true → f ≡ g
-unfolding sameBytes
-same-bytes [] [] e = refl
-same-bytes [] (b ∷ g) e = absurd (true≢false (sym e))
-same-bytes (a ∷ f) [] e = absurd (true≢false (sym e))
-same-bytes (a ∷ f) (b ∷ g) e = go (eqb a b) refl e (same-bytes f g)
-  where
-    go : (t : Bool) → eqb a b ≡ t → pick t (sameBytes f g) false ≡ true → (sameBytes f g ≡ true → f ≡ g) → a ∷ f ≡ b ∷ g
-    go true p q ih = ap₂ _∷_ (eqb-true a b p) (ih q)
-    go false p q ih = absurd (true≢false (sym q))
-
 -- a number was there
 number-only : (x : Number) (k : ℕ) (next : ℕ → Parsed) (r : Record) → withNumber x k next ≡ Line r → (n : ℕ) × (x ≡ Value n) × (next n ≡ Line r)
 number-only (Value n) k next r e = (n, refl, e)
@@ -91,6 +84,10 @@ given-only decimal x k next r e =
 given-only (hex w) x k next r e =
     let (n, value, rest) = number-only (hexOf w x) k next r e in
     let told = hex-only w x n value in
+    (n, told .0, told .1, rest)
+given-only core x k next r e =
+    let (n, value, rest) = number-only (coreNumberOf x) k next r e in
+    let told = core-only x n value in
     (n, told .0, told .1, rest)
 
 -- nothing follows

@@ -16,16 +16,22 @@ use Rattle.requests.specs.Choice.{pick}
 use Rattle.requests.specs.Devices.{letterOf, devices, named, deviceOf}
 use Rattle.requests.proofs.Openings.{letter-is, this-letter}
 use Rattle.records.specs.Fields.{sameBytes}
-use Rattle.records.specs.Verbs.{lettered, withDevice, onBox}
+use Rattle.records.specs.Verbs.{lettered, withDevice}
 use Rattle.records.specs.declared.Record.{Record}
 use Rattle.records.specs.declared.Parsed.{Parsed}
 use Rattle.records.specs.declared.Parsed.the-variants.{Line}
 use Rattle.records.proofs.Outcomes.{fault-not-line}
-use Rattle.records.proofs.Formats.{same-bytes}
+use Rattle.records.proofs.WordLoops.{same-bytes}
 
--- a device's letter is read as the device, at box 0
-pub letter-reads : (d : Device) → lettered (letterOf d ∷ []) ≡ some (onBox d 0)
-unfolding lettered onBox letterOf deviceOf named devices
+-- the device as its letter tells it: box 0 of C
+unfoldable pub byLetter : Device → Device
+byLetter G = G
+byLetter S = S
+byLetter (C b) = C 0
+
+-- a device's letter is read so
+pub letter-reads : (d : Device) → lettered (letterOf d ∷ []) ≡ some (byLetter d)
+unfolding lettered byLetter letterOf deviceOf named devices
 letter-reads G = refl
 letter-reads S = refl
 letter-reads (C b) = refl

@@ -4,6 +4,7 @@ pub mod Digits
 pub mod Numerals
 pub mod Decimals
 pub mod Hexes
+pub mod Cores
 pub mod Tabs
 pub mod Closings
 pub mod Formats

@@ -14,7 +14,7 @@ use Rattle.requests.specs.Choice.{both, pick}
 use Rattle.requests.specs.declared.Request.the-variants.{Event, Packet, Offcore, Latency}
 use Rattle.records.specs.Records.{Fits}
 use Rattle.records.specs.Fields.{fields, fieldAt}
-use Rattle.records.specs.Numbers.{numberOf}
+use Rattle.records.specs.Numbers.{coreFormat, numberOf}
 use Rattle.records.specs.Verbs.{setOf, eventLine, packetLine, offcoreLine, latencyLine, Narrow, Made, lineFrom, numberLine, madeOf, Numbered}
 use Rattle.records.specs.declared.LineNumbers.{LineNumbers}
 use Rattle.records.specs.declared.LineNumbers.the-variants.{Read, Fault}
@@ -25,7 +25,7 @@ use Rattle.records.specs.declared.Parsed.the-variants.{Line}
 use Rattle.records.proofs.Formats.{decimal, hex, read-only}
 
 -- a format among narrow ones
-pub narrow-at : (ws : List ℕ) → Narrow ws → (i : ℕ) → getD ws i 0 ≤ 16
+pub narrow-at : (ws : List ℕ) → Narrow ws → (i : ℕ) → getD ws i 0 ≤ coreFormat
 narrow-at [] h i = omega arith
 narrow-at (w ∷ ws) h zero = h .0
 narrow-at (w ∷ ws) h (suc i) = narrow-at ws (h .1) i

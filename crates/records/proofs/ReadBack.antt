@@ -14,16 +14,17 @@ use Rattle.requests.specs.declared.Request.the-variants.{Event, Packet, Offcore
 use Rattle.requests.specs.Choice.{Row, firstHolding}
 use Rattle.requests.specs.Devices.{letterOf, boxOf}
 use Rattle.records.specs.Text.{bytes}
-use Rattle.records.specs.Records.{boxFields, openFields, addFields, recordFields, Fits}
+use Rattle.records.specs.Records.{boxFields, overflowFields, openFields, addFields, recordFields, Fits}
 use Rattle.records.specs.Fields.{fields, fieldAt}
-use Rattle.records.specs.Verbs.{setOf, lineFrom, lettered, openFormats, onBox, openWith, openOn, openLine, eventLine, packetLine, offcoreLine, latencyLine, dropLine, turnLine, hasVerb, verbs, recordOf}
+use Rattle.records.specs.Verbs.{setOf, lineFrom, lettered, openFormats, openAs, openWith, openOn, openLine, eventLine, packetLine, offcoreLine, latencyLine, dropLine, turnLine, hasVerb, verbs, recordOf}
 use Rattle.records.specs.declared.Record.{Record}
 use Rattle.records.specs.declared.Record.the-variants.{Add, Drop, Turn}
 use Rattle.records.specs.declared.Parsed.{Parsed}
 use Rattle.records.specs.declared.Parsed.the-variants.{Line, Fault}
 use Rattle.records.proofs.Outcomes.{fault-not-line}
+use Rattle.records.proofs.WordLoops.{same-bytes}
 use Rattle.records.proofs.Letters.{lettered-only, device-only}
-use Rattle.records.proofs.Formats.{Format, decimal, hex, Values, AllFit, texts, readFrom, Rest, read-only, same-bytes}
+use Rattle.records.proofs.Formats.{Format, decimal, hex, core, Values, AllFit, texts, readFrom, Rest, read-only}
 
 -- what a record tells of the text that gives it
 pub record Told (t : List ℕ) (closed : Bool) (r : Record) : Type 0 where
@@ -66,11 +67,17 @@ module _ (d : Device) (fs : List Format) (made : Values fs → Record) (fits : (
 -- each device's
 open-on-tells : (d : Device) (t : List ℕ) → hasVerb t "open" ≡ true → fieldAt t 1 ≡ letterOf d ∷ [] → (closed : Bool) (r : Record)
     → openOn t closed d ≡ Line r → Told t closed r
-unfolding openOn openFormats onBox lineFrom recordFields openFields boxFields letterOf boxOf
-open-on-tells G = device-tells G (decimal ∷ decimal ∷ []) (λ v. openWith G (v .0) (v .1 .0) 0 0 0) (λ v h. (h .0, h .1 .0, omega arith)) (λ v. refl)
-open-on-tells S = device-tells S (decimal ∷ decimal ∷ []) (λ v. openWith S (v .0) (v .1 .0) 0 0 0) (λ v h. (h .0, h .1 .0, omega arith)) (λ v. refl)
+unfolding openOn openFormats openAs openWith lineFrom recordFields openFields boxFields overflowFields letterOf boxOf
+open-on-tells G =
+    device-tells G (decimal ∷ decimal ∷ decimal ∷ core ∷ []) (λ v. openWith G (v .0) (v .1 .0) (v .1 .1 .0) (v .1 .1 .1 .0) 0)
+    (λ v h. (h .0, h .1 .0, omega arith, h .1 .1 .0, h .1 .1 .1 .0)) (λ v. refl)
+open-on-tells S =
+    device-tells S (decimal ∷ decimal ∷ decimal ∷ core ∷ []) (λ v. openWith S (v .0) (v .1 .0) (v .1 .1 .0) (v .1 .1 .1 .0) 0)
+    (λ v h. (h .0, h .1 .0, omega arith, h .1 .1 .0, h .1 .1 .1 .0)) (λ v. refl)
 open-on-tells (C b) =
-    device-tells (C b) (decimal ∷ decimal ∷ decimal ∷ []) (λ v. openWith (C b) (v .0) (v .1 .0) (v .1 .1 .0) 0 0) (λ v h. (h .0, h .1 .0, h .1 .1 .0)) (λ v. refl)
+    device-tells (C b) (decimal ∷ decimal ∷ decimal ∷ decimal ∷ core ∷ [])
+    (λ v. openWith (C b) (v .0) (v .1 .0) (v .1 .1 .0) (v .1 .1 .1 .0) (v .1 .1 .1 .1 .0))
+    (λ v h. (h .0, h .1 .0, h .1 .1 .0, h .1 .1 .1 .0, h .1 .1 .1 .1 .0)) (λ v. refl)
 
 open-tells : (t : List ℕ) → hasVerb t "open" ≡ true → (closed : Bool) (r : Record) → openLine t closed ≡ Line r → Told t closed r
 unfolding openLine

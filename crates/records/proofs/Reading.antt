@@ -6,34 +6,43 @@ use Prim.Native.Nat.{ℕ}
 use Rattle.requests.specs.declared.CounterSet.{CounterSet}
 use Rattle.requests.specs.declared.Device.{Device}
 use Rattle.requests.specs.declared.Device.the-variants.{G, S, C}
+use Rattle.requests.specs.declared.Core.{Core}
 use Rattle.requests.specs.declared.Setup.{Setup}
 use Rattle.requests.specs.declared.Request.the-variants.{Event, Packet, Offcore, Latency}
 use Rattle.requests.specs.Choice.{firstHolding, both}
 use Rattle.requests.specs.Devices.{boxOf}
 use Rattle.records.specs.Text.{bytes}
-use Rattle.records.specs.Records.{Decimal, OpenFits, boxFields, openFields, addFields, recordFields, Fits}
+use Rattle.records.specs.Records.{OpenFits, boxFields, overflowFields, openFields, addFields, recordFields, Fits}
 use Rattle.records.specs.Fields.{fields, sameBytes}
-use Rattle.records.specs.Verbs.{lineFrom, openFormats, onBox, openOn, openLine, eventLine, packetLine, offcoreLine, latencyLine, dropLine, turnLine, hasVerb, verbs, recordOf}
+use Rattle.records.specs.Verbs.{lineFrom, openFormats, openAs, openWith, openOn, openLine, eventLine, packetLine, offcoreLine, latencyLine, dropLine, turnLine, hasVerb, verbs, recordOf}
 use Rattle.records.specs.declared.Record.{Record}
 use Rattle.records.specs.declared.Record.the-variants.{Open, Add, Drop, Turn}
 use Rattle.records.specs.declared.Parsed.the-variants.{Line}
 use Rattle.records.proofs.Decimals.{decimal-reads}
 use Rattle.records.proofs.Hexes.{hex-reads}
-use Rattle.records.proofs.Letters.{letter-reads}
+use Rattle.records.proofs.Cores.{core-reads, core-back}
+use Rattle.records.proofs.Letters.{byLetter, letter-reads}
 use Rattle.records.proofs.VerbRows.{read-by}
 
+-- a setup of these numbers
+abbrev pub setup : Device → CounterSet → ℕ → ℕ → Core → Setup
+setup d u f z c = record { device = d; usable = u; fixed = f; overflow = record { freeze = z; core = c } }
+
 -- the fields behind a device's letter are read back
-device-read : (t : List ℕ) (d : Device) (u : CounterSet) (f : ℕ) → Decimal (u .0) × Decimal f × Decimal (boxOf d)
-    → fields t ≡ openFields (record { device = d; usable = u; fixed = f }) → openOn t true (onBox d 0) ≡ Line (Open (record { device = d; usable = u; fixed = f }))
-unfolding openFields boxFields boxOf openOn openFormats onBox lineFrom both
-device-read t G u f h e = rw (e, decimal-reads (u .0) (h .0), decimal-reads f (h .1))
-device-read t S u f h e = rw (e, decimal-reads (u .0) (h .0), decimal-reads f (h .1))
-device-read t (C b) u f h e = rw (e, decimal-reads (u .0) (h .0), decimal-reads f (h .1), decimal-reads b (h .2))
+device-read : (t : List ℕ) (d : Device) (u : CounterSet) (f z : ℕ) (c : Core) → OpenFits (setup d u f z c) → fields t ≡ openFields (setup d u f z c)
+    → openOn t true (byLetter d) ≡ Line (Open (setup d u f z c))
+unfolding openFields boxFields overflowFields boxOf openOn openFormats openAs openWith byLetter lineFrom both
+device-read t G u f z c h e =
+    rw (e, decimal-reads (u .0) (h .0), decimal-reads f (h .1), decimal-reads z (h .3), core-reads c (h .4), core-back c)
+device-read t S u f z c h e =
+    rw (e, decimal-reads (u .0) (h .0), decimal-reads f (h .1), decimal-reads z (h .3), core-reads c (h .4), core-back c)
+device-read t (C b) u f z c h e =
+    rw (e, decimal-reads (u .0) (h .0), decimal-reads f (h .1), decimal-reads b (h .2), decimal-reads z (h .3), core-reads c (h .4), core-back c)
 
 -- the letter is, too
 open-read : (t : List ℕ) (s : Setup) → OpenFits s → fields t ≡ openFields s → openLine t true ≡ Line (Open s)
 unfolding openFields openLine
-open-read t s h e = rw (e, letter-reads (s .device)) (device-read t (s .device) (s .usable) (s .fixed) h e)
+open-read t s h e = rw (e, letter-reads (s .device)) (device-read t (s .device) (s .usable) (s .fixed) (s .overflow .freeze) (s .overflow .core) h e)
 
 -- a record's fields are read as the record
 pub fields-read : (t : List ℕ) (r : Record) → Fits r → fields t ≡ recordFields r → recordOf t true ≡ Line r

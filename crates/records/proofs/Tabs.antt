@@ -74,33 +74,33 @@ pub numeral-field : (base n : ℕ) (f : List ℕ) (m : ℕ) → base ≤ 16 → 
 unfolding oneField digitOf tab newline
 numeral-field base n f m most e = true-both _ _ (numeral-lacks tab refl base n f m most e) (numeral-lacks newline refl base n f m most e)
 
--- a field that a line may hold after its verb
-pub record Plain (f : List ℕ) : Type 0 where
+-- a field of at most w bytes that a line may hold after its verb
+pub record Plain (w : ℕ) (f : List ℕ) : Type 0 where
   pub field : oneField f ≡ true
-  pub short : length f ≤ 16
+  pub short : length f ≤ w
 
--- fields that are all so
-pub data Plains : List (List ℕ) → Type 0 where
-  none : Plains []
-  more : {f : List ℕ} {fs : List (List ℕ)} → Plain f → Plains fs → Plains (f ∷ fs)
+-- fields that are all so, of at most n bytes with the tabs before them
+pub data Plains : ℕ → List (List ℕ) → Type 0 where
+  none : Plains 0 []
+  more : {w n : ℕ} {f : List ℕ} {fs : List (List ℕ)} → Plain w f → Plains n fs → Plains (1 + w + n) (f ∷ fs)
 
 -- the text of a line with these fields
-pub record Written (f : List ℕ) (fs : List (List ℕ)) : Type 0 where
+pub record Written (n : ℕ) (f : List ℕ) (fs : List (List ℕ)) : Type 0 where
   pub text : List ℕ
   pub line : lineOf (f ∷ fs) ≡ text ++ newline ∷ []
   pub parts : fields text ≡ f ∷ fs
   pub one-line : lacks newline text ≡ true
-  pub size : length text ≤ length f + 17 * length fs
+  pub size : length text ≤ length f + n
 
 -- every such line has one
-pub written : (f : List ℕ) (fs : List (List ℕ)) → oneField f ≡ true → Plains fs → Written f fs
+pub written : (n : ℕ) (f : List ℕ) (fs : List (List ℕ)) → oneField f ≡ true → Plains n fs → Written n f fs
 unfolding oneField lineOf lacks tab newline
-written f [] h none =
+written _ f [] h none =
     let (no-tab, no-newline) = both-parts (lacks tab f) (lacks newline f) h in
     record { text = f; line = refl; parts = one-field f no-tab; one-line = no-newline; size = omega arith }
-written f (g ∷ fs) h (more p ps) =
+written _ f (g ∷ fs) h (more {n = n} p ps) =
     let (no-tab, no-newline) = both-parts (lacks tab f) (lacks newline f) h in
-    let w : Written g fs = written g fs (p .field) ps in
+    let w : Written n g fs = written n g fs (p .field) ps in
     record {
       text = f ++ tab ∷ w .text;
       line = rw (w .line, append-assoc);

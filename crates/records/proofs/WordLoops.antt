@@ -1,14 +1,14 @@
--- Two runs of bytes compared byte by byte, at a place of both. Assumes nothing.
+-- Two runs of bytes compared byte by byte, at a place of both; those found equal are equal. Assumes nothing.
 use Prim.Native.Nat.{ℕ, suc, _+_, _<_, _≤_}
-use mathlib.Core.Path.{_≡_, refl, ap}
-use mathlib.Core.Bool.{Bool, true, false}
+use mathlib.Core.Path.{_≡_, refl, ap, ap₂, sym}
+use mathlib.Core.Bool.{Bool, true, false, true≢false}
 use mathlib.Core.List.{List, [], _∷_}
 use native.Mathlib.Numerals.{add-one}
 use native.Mathlib.Nat.{le-antisymm}
 use lib.ListN.{length, getD, drop}
 use lib.Dec.{eqb}
 use lib.Seq.{drop-cons, drop-length}
-use borrow.Author.Tests.{eq-eqb, ne-eqb}
+use borrow.Author.Tests.{eq-eqb, ne-eqb, eqb-true}
 use Rattle.requests.specs.Choice.{pick}
 use Rattle.records.specs.Fields.{sameBytes}
 
@@ -38,3 +38,15 @@ differ-length (x ∷ a) (y ∷ b) h = go (eqb x y) (sameBytes a b) (differ-lengt
     go : (t s : Bool) → s ≡ false → pick t s false ≡ false
     go true s e = e
     go false s e = refl
+
+-- equal runs of bytes
+pub same-bytes : (f g : List ℕ) → sameBytes f g ≡ true → f ≡ g
+unfolding sameBytes
+same-bytes [] [] e = refl
+same-bytes [] (b ∷ g) e = absurd (true≢false (sym e))
+same-bytes (a ∷ f) [] e = absurd (true≢false (sym e))
+same-bytes (a ∷ f) (b ∷ g) e = go (eqb a b) refl e (same-bytes f g)
+  where
+    go : (t : Bool) → eqb a b ≡ t → pick t (sameBytes f g) false ≡ true → (sameBytes f g ≡ true → f ≡ g) → a ∷ f ≡ b ∷ g
+    go true p q ih = ap₂ _∷_ (eqb-true a b p) (ih q)
+    go false p q ih = absurd (true≢false (sym q))

@@ -1,10 +1,14 @@
 -- Document 01, 'Lines': what number a field spells.
 use mathlib.Core.Bool.{Bool}
 use mathlib.Core.List.{List, [], _∷_}
-use Prim.Native.Nat.{ℕ, _+_, _*_, _-_}
+use Prim.Native.Nat.{ℕ, zero, suc, _+_, _*_, _-_}
 use lib.ListN.{length, getD}
 use lib.Dec.{ltb, eqb}
 use Rattle.requests.specs.Choice.{both, pick}
+use Rattle.requests.specs.declared.Core.{Core}
+use Rattle.requests.specs.declared.Core.the-variants.{NoCore, At}
+use Rattle.records.specs.Text.{bytes}
+use Rattle.records.specs.Fields.{sameBytes}
 use Rattle.records.specs.declared.Number.{Number}
 use Rattle.records.specs.declared.Number.the-variants.{Value, Bad}
 
@@ -37,6 +41,28 @@ decimalOf f =
 unfoldable pub hexOf : ℕ → List ℕ → Number
 hexOf w f = pick (eqb (length f) w) (numberFrom 16 0 f) Bad
 
--- the number of a format: of so many hex digits, or a decimal where that is 0
+-- one more, where a number is read
+abbrev pub oneMore : Number → Number
+oneMore (Value n) = Value (n + 1)
+oneMore Bad = Bad
+
+-- "core or `-` for none", as a number: 0 for `-`, and one more than a decimal
+unfoldable pub coreNumberOf : List ℕ → Number
+coreNumberOf f = pick (sameBytes f (bytes "-")) (Value 0) (oneMore (decimalOf f))
+
+-- the core that the number stands for
+unfoldable pub coreOf : ℕ → Core
+coreOf zero = NoCore
+coreOf (suc c) = At c
+
+-- the format of a decimal; that of hex is how many digits it has, 1 to 16
+abbrev pub decimalFormat : ℕ
+decimalFormat = 0
+
+-- the format of a core
+abbrev pub coreFormat : ℕ
+coreFormat = 17
+
+-- the number of a format
 abbrev pub numberOf : ℕ → List ℕ → Number
-numberOf w f = pick (eqb w 0) (decimalOf f) (hexOf w f)
+numberOf w f = pick (eqb w decimalFormat) (decimalOf f) (pick (eqb w coreFormat) (coreNumberOf f) (hexOf w f))

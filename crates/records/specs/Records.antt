@@ -1,8 +1,11 @@
 -- Document 01, 'Lines': the records, and the text of each.
-use mathlib.Core.List.{List, [], _∷_}
+use mathlib.Core.List.{List, [], _∷_, _++_}
 use Prim.Native.Nat.{ℕ, _^_, _<_}
 use Rattle.requests.specs.declared.Device.{Device}
 use Rattle.requests.specs.declared.Device.the-variants.{G, S, C}
+use Rattle.requests.specs.declared.Core.{Core}
+use Rattle.requests.specs.declared.Core.the-variants.{NoCore, At}
+use Rattle.requests.specs.declared.Overflow.{Overflow}
 use Rattle.requests.specs.declared.Setup.{Setup}
 use Rattle.requests.specs.declared.Request.{Request}
 use Rattle.requests.specs.declared.Request.the-variants.{Event, Packet, Offcore, Latency}
@@ -24,9 +27,23 @@ boxFields G = []
 boxFields S = []
 boxFields (C b) = decimalText b ∷ []
 
+-- "core or `-` for none"
+unfoldable pub coreText : Core → List ℕ
+coreText NoCore = bytes "-"
+coreText (At c) = decimalText c
+
+-- what an overflow does, "in two last fields of every `open` line"
+unfoldable pub overflowFields : Overflow → List (List ℕ)
+overflowFields a = decimalText (a .freeze) ∷ coreText (a .core) ∷ []
+
 -- the fields of a record that opens
 unfoldable pub openFields : Setup → List (List ℕ)
-openFields s = bytes "open" ∷ (letterOf (s .device) ∷ []) ∷ decimalText (s .usable .0) ∷ decimalText (s .fixed) ∷ boxFields (s .device)
+openFields s =
+    bytes "open"
+    ∷ (letterOf (s .device) ∷ [])
+    ∷ decimalText (s .usable .0)
+    ∷ decimalText (s .fixed)
+    ∷ boxFields (s .device) ++ overflowFields (s .overflow)
 
 -- the fields of a record
 unfoldable pub recordFields : Record → List (List ℕ)
@@ -54,9 +71,14 @@ AddFits id (Packet x y a) = Decimal id × Hex 16 x × Hex 16 y × Decimal (a .0)
 AddFits id (Offcore w a) = Decimal id × Hex 16 w × Decimal (a .0)
 AddFits id (Latency t a b) = Decimal id × Hex 4 t × Decimal (a .0) × Decimal (b .0)
 
+-- a core that is given is a decimal
+abbrev pub CoreFits : Core → Type 0
+CoreFits NoCore = Unit {0}
+CoreFits (At c) = Decimal c
+
 -- the numbers of a record that opens fit their fields
 abbrev pub OpenFits : Setup → Type 0
-OpenFits s = Decimal (s .usable .0) × Decimal (s .fixed) × Decimal (boxOf (s .device))
+OpenFits s = Decimal (s .usable .0) × Decimal (s .fixed) × Decimal (boxOf (s .device)) × Decimal (s .overflow .freeze) × CoreFits (s .overflow .core)
 
 -- the numbers of a record fit their fields
 abbrev pub Fits : Record → Type 0

@@ -15,7 +15,7 @@ use Rattle.requests.specs.Choice.{both, pick, Row, firstHolding}
 use Rattle.requests.specs.Devices.{deviceOf}
 use Rattle.records.specs.Text.{bytes}
 use Rattle.records.specs.Fields.{fields, fieldAt, sameBytes}
-use Rattle.records.specs.Numbers.{decimalOf, hexOf, numberOf}
+use Rattle.records.specs.Numbers.{decimalOf, hexOf, coreOf, decimalFormat, coreFormat, numberOf}
 use Rattle.records.specs.declared.LineNumbers.{LineNumbers}
 use Rattle.records.specs.declared.LineNumbers.the-variants as numbers
 use Rattle.records.specs.declared.Number.{Number}
@@ -64,27 +64,27 @@ abbrev pub withDevice : Option Device → ℕ → (Device → Parsed) → Parsed
 withDevice (some d) k next = next d
 withDevice none k next = Fault k
 
--- the formats of the fields behind a device's letter, all decimals: usable, fixed, and the box on C
+-- the formats of the fields behind a device's letter: usable, fixed, the box on C, freeze and core
 unfoldable pub openFormats : Device → List ℕ
-openFormats G = 0 ∷ 0 ∷ []
-openFormats S = 0 ∷ 0 ∷ []
-openFormats (C b) = 0 ∷ 0 ∷ 0 ∷ []
+openFormats G = decimalFormat ∷ decimalFormat ∷ decimalFormat ∷ coreFormat ∷ []
+openFormats S = decimalFormat ∷ decimalFormat ∷ decimalFormat ∷ coreFormat ∷ []
+openFormats (C b) = decimalFormat ∷ decimalFormat ∷ decimalFormat ∷ decimalFormat ∷ coreFormat ∷ []
 
--- the device with its box of that number
-unfoldable pub onBox : Device → ℕ → Device
-onBox G n = G
-onBox S n = S
-onBox (C b) n = C n
+-- the record that opens a device with these numbers
+unfoldable pub openAs : Device → ℕ → ℕ → ℕ → ℕ → Record
+openAs d usable fixed freeze core = Open (record { device = d; usable = setOf usable; fixed = fixed; overflow = record { freeze = freeze; core = coreOf core } })
 
 -- the record that a device and the numbers behind its letter make
-abbrev pub openWith : Device → Made
-openWith d usable fixed box a b = Open (record { device = onBox d box; usable = setOf usable; fixed = fixed })
+unfoldable pub openWith : Device → Made
+openWith G usable fixed freeze core absent = openAs G usable fixed freeze core
+openWith S usable fixed freeze core absent = openAs S usable fixed freeze core
+openWith (C b) usable fixed box freeze core = openAs (C box) usable fixed freeze core
 
 -- `open` with a device that is known
 unfoldable pub openOn : List ℕ → Bool → Device → Parsed
 openOn t closed d = numberLine 2 (openFormats d) t closed (openWith d)
 
--- `open` letter usable fixed, and box on C
+-- `open` letter usable fixed, box on C, freeze core
 unfoldable pub openLine : List ℕ → Bool → Parsed
 openLine t closed = withDevice (lettered (fieldAt t 1)) 1 (openOn t closed)
 
@@ -151,10 +151,10 @@ verbs t =
 unfoldable pub recordOf : List ℕ → Bool → Parsed
 recordOf t closed = elim (firstHolding (verbs t)) [ none ↦ Fault 0 | some read ↦ read t closed ]
 
--- formats of at most 16 digits
+-- formats that there are
 abbrev pub Narrow : List ℕ → Type 0
 Narrow [] = Unit {0}
-Narrow (w ∷ ws) = (w ≤ 16) × Narrow ws
+Narrow (w ∷ ws) = (w ≤ coreFormat) × Narrow ws
 
 -- the record that is made of a line's numbers, or the field at fault
 abbrev pub madeOf : LineNumbers → Made → Parsed

@@ -1,14 +1,17 @@
 // The fields of a text, as parts of it between tabs.
+use crate::CORE;
+use crate::DECIMAL;
 use crate::MOST_FIELDS;
 use crate::Number;
 use crate::Parts;
+use crate::numbers::core_number;
 use crate::numbers::decimal;
 use crate::numbers::hex;
 use crate::words::same;
 ghost use mathlib.Core.Path.{_≡_};
 ghost use Prim.Native.Nat.{_≤_, _<_};
 ghost use Rattle.records.specs.Fields.{fieldAt, sameBytes};
-ghost use Rattle.records.specs.Numbers.{numberOf};
+ghost use Rattle.records.specs.Numbers.{coreFormat, numberOf};
 ghost use Rattle.records.specs.Parts.{Parted};
 
 // Where the fields end, found in one pass.
@@ -57,13 +60,17 @@ pub fn is_word(text: &[u8], parts: Parts, k: usize, word: &[u8]) -> bool
     same(field(text, parts, k), word)
 }
 
-// Field k as a hex number of `width` digits, or as a decimal where that is 0.
-pub fn number_at(text: &[u8], parts: Parts, k: usize, width: usize) -> Number
-    requires { ⌜ (k < 8) × Parted (now text) parts × (width ≤ 16) ⌝ }
-    ensures { λ r. ⌜ r ≡ numberOf width (fieldAt (now (text .entry)) k) ⌝ }
+// Field k as the number of the format.
+pub fn number_at(text: &[u8], parts: Parts, k: usize, format: usize) -> Number
+    requires { ⌜ (k < 8) × Parted (now text) parts × (format ≤ coreFormat) ⌝ }
+    ensures { λ r. ⌜ r ≡ numberOf format (fieldAt (now (text .entry)) k) ⌝ }
 {
-    if width == 0 {
-        return decimal(field(text, parts, k));
+    let part = field(text, parts, k);
+    if format == DECIMAL {
+        return decimal(part);
     }
-    hex(field(text, parts, k), width)
+    if format == CORE {
+        return core_number(part);
+    }
+    hex(part, format)
 }

@@ -34,6 +34,11 @@ enum LineNumbers {
     Fault(usize),
 }
 
+// The formats of a decimal and of a core; that of a hex number is how many digits it has.
+const DECIMAL: usize = 0;
+
+const CORE: usize = 17;
+
 // The most fields that are told apart; no record has as many.
 const MOST_FIELDS: usize = 8;
 

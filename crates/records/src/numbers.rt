@@ -1,9 +1,11 @@
 // The number readers.
 use crate::Number;
+use crate::words::same;
+use requests::Core;
 ghost use mathlib.Core.Path.{_≡_};
 ghost use Prim.Native.Nat.{_≤_};
 ghost use lib.ListN.{length};
-ghost use Rattle.records.specs.Numbers.{digitOf, numberFrom, decimalOf, hexOf};
+ghost use Rattle.records.specs.Numbers.{digitOf, numberFrom, decimalOf, hexOf, coreNumberOf, coreOf};
 
 // The value of a digit 0 to 9 or A to F, and 16 for any other byte.
 fn digit(b: u8) -> u64
@@ -60,6 +62,29 @@ pub fn decimal(field: &[u8]) -> Number
         }
     }
     digits(field, 10)
+}
+
+// A core as a number: 0 for `-`, and one more than a decimal.
+pub fn core_number(field: &[u8]) -> Number
+    ensures { λ r. ⌜ r ≡ coreNumberOf (now (field .entry)) ⌝ }
+{
+    if same(field, b"-") {
+        return Number::Value(0);
+    }
+    let Number::Value(core) = decimal(field) else {
+        return Number::Bad;
+    };
+    Number::Value(core + 1)
+}
+
+// The core that the number stands for.
+pub fn core_of(number: u64) -> Core
+    ensures { λ r. ⌜ r ≡ coreOf number ⌝ }
+{
+    if number == 0 {
+        return Core::NoCore;
+    }
+    Core::At(number - 1)
 }
 
 // A hex number of exactly `width` digits, at most 16.

@@ -1,4 +1,6 @@
 // The record of each verb.
+use crate::CORE;
+use crate::DECIMAL;
 use crate::LineNumbers;
 use crate::Number;
 use crate::Parsed;
@@ -6,8 +8,10 @@ use crate::Parts;
 use crate::Record;
 use crate::fields::is_word;
 use crate::fields::number_at;
+use crate::numbers::core_of;
 use requests::CounterSet;
 use requests::Device;
+use requests::Overflow;
 use requests::Request;
 use requests::Setup;
 use requests::devices::devices;
@@ -21,10 +25,7 @@ ghost use Rattle.requests.specs.Choice.{both, pick};
 ghost use Rattle.requests.specs.Devices.{letterOf};
 ghost use Rattle.records.specs.Fields.{fieldAt, sameBytes};
 ghost use Rattle.records.specs.Parts.{Parted};
-ghost use Rattle.records.specs.Verbs.{Narrow, Numbered, openFormats, onBox, openOn, openLine, eventLine, packetLine, offcoreLine, latencyLine, dropLine, turnLine, recordOf};
-
-// The format of a decimal; that of a hex number is how many digits it has.
-const DECIMAL: usize = 0;
+ghost use Rattle.records.specs.Verbs.{Narrow, Numbered, openFormats, openAs, openWith, openOn, openLine, eventLine, packetLine, offcoreLine, latencyLine, dropLine, turnLine, recordOf};
 
 // Whether a line is closed by a newline after n fields.
 fn is_whole(count: usize, closed: bool, n: usize) -> bool
@@ -79,20 +80,42 @@ fn open_numbers(text: &[u8], parts: Parts, closed: bool, device: Device) -> Line
     ensures { λ r. ⌜ Numbered 2 (openFormats device) (now (text .entry)) closed r ⌝ }
 {
     match device {
-        Device::G => numbers_of(text, parts, closed, 2, &[DECIMAL, DECIMAL]),
-        Device::S => numbers_of(text, parts, closed, 2, &[DECIMAL, DECIMAL]),
-        Device::C(_) => numbers_of(text, parts, closed, 2, &[DECIMAL, DECIMAL, DECIMAL]),
+        Device::G => numbers_of(text, parts, closed, 2, &[DECIMAL, DECIMAL, DECIMAL, CORE]),
+        Device::S => numbers_of(text, parts, closed, 2, &[DECIMAL, DECIMAL, DECIMAL, CORE]),
+        Device::C(_) => numbers_of(
+            text,
+            parts,
+            closed,
+            2,
+            &[DECIMAL, DECIMAL, DECIMAL, DECIMAL, CORE],
+        ),
     }
 }
 
-// The device with its box of that number.
-fn on_box(device: Device, number: u64) -> Device
-    ensures { λ r. ⌜ r ≡ onBox device number ⌝ }
+// The record that opens a device with these numbers.
+fn open_as(device: Device, usable: u64, fixed: u64, freeze: u64, core: u64) -> Record
+    ensures { λ r. ⌜ r ≡ openAs device usable fixed freeze core ⌝ }
+{
+    let overflow = Overflow {
+        freeze,
+        core: core_of(core),
+    };
+    Record::Open(Setup {
+        device,
+        usable: CounterSet(usable),
+        fixed,
+        overflow,
+    })
+}
+
+// The record that a device and the numbers behind its letter make: on C the box stands before the last two.
+fn open_with(device: Device, usable: u64, fixed: u64, third: u64, fourth: u64, fifth: u64) -> Record
+    ensures { λ r. ⌜ r ≡ openWith device usable fixed third fourth fifth ⌝ }
 {
     match device {
-        Device::G => Device::G,
-        Device::S => Device::S,
-        Device::C(_) => Device::C(number),
+        Device::G => open_as(Device::G, usable, fixed, third, fourth),
+        Device::S => open_as(Device::S, usable, fixed, third, fourth),
+        Device::C(_) => open_as(Device::C(third), usable, fixed, fourth, fifth),
     }
 }
 
@@ -103,13 +126,8 @@ fn open_on(text: &[u8], parts: Parts, closed: bool, device: Device) -> Parsed
 {
     match open_numbers(text, parts, closed, device) {
         LineNumbers::Fault(k) => Parsed::Fault(k),
-        LineNumbers::Read(usable, fixed, cbox, _, _) => {
-            let setup = Setup {
-                device: on_box(device, cbox),
-                usable: CounterSet(usable),
-                fixed,
-            };
-            Parsed::Line(Record::Open(setup))
+        LineNumbers::Read(usable, fixed, third, fourth, fifth) => {
+            Parsed::Line(open_with(device, usable, fixed, third, fourth, fifth))
         }
     }
 }
@@ -123,7 +141,7 @@ fn is_letter(text: &[u8], parts: Parts, device: Device) -> bool
     is_word(text, parts, 1, &[letter])
 }
 
-// `open` letter usable fixed, and box on C
+// `open` letter usable fixed, box on C, freeze core
 fn open_line(text: &[u8], parts: Parts, closed: bool) -> Parsed
     requires { ⌜ Parted (now text) parts ⌝ }
     ensures { λ r. ⌜ r ≡ openLine (now (text .entry)) closed ⌝ }

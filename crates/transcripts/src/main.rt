@@ -1,4 +1,5 @@
-// Three long mixed transcripts, one for each device, the two examples, and one with fixed counters on, each in a session of its own.
+// Three long mixed transcripts, one for each device, the two examples, one with fixed counters on, and one that freezes and interrupts, each
+// in a session of its own.
 // The blocks are short and the output has room for little more than one reply, so lines are cut, and blocks are answered in parts.
 use libc::STDOUT_FILENO;
 
@@ -22,4 +23,5 @@ fn main() {
     answer_file(b"field.txt");
     answer_file(b"clock.txt");
     answer_file(b"c.txt");
+    answer_file(b"freeze.txt");
 }

@@ -11,7 +11,7 @@ returns c = rw (c .before .before .before .open-numbers .ensures .tells _, c .be
 
 returns-2 : tie.Need-returns-2
 unfolding openOn
-returns-2 c = rw (c .before .before .before .before .open-numbers .ensures .tells _, c .before .before .usable .given .1, ← c .on-box .ensures)
+returns-2 c = rw (c .before .before .before .before .open-numbers .ensures .tells _, c .before .before .usable .given .1, ← c .open-with .ensures)
 
 pub open-on-spec : {M : Type 1} → statement M
 open-on-spec = tie.close (tie.spec (λ c κs. search needs) (λ c. search needs) (λ c. search needs) (λ c κs. search needs) returns returns-2)
