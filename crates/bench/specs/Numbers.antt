@@ -1,6 +1,7 @@
 -- An answer of the planner as a number, for a caller in another language.
 use Prim.Native.Nat.{ℕ, _+_, _*_, _%_}
 use lib.ListN.{getD}
+use Rattle.requests.specs.declared.Core.the-variants.{NoCore}
 use Rattle.requests.specs.declared.Device.the-variants.{G}
 use Rattle.requests.specs.declared.Setup.{Setup}
 use Rattle.requests.specs.Choice.{pick}
@@ -10,9 +11,9 @@ use Rattle.plans.specs.Places.{first, second}
 use Rattle.plans.specs.Rows.{setOf}
 use Rattle.plans.specs.Found.{nothing}
 
--- device G with the usable set of a number, its fixed counters off
+-- device G with the usable set of a number, its fixed counters off, where nothing is asked
 abbrev pub setupFor : ℕ → Setup
-setupFor usable = record { device = G; usable = setOf usable; fixed = 0 }
+setupFor usable = record { device = G; usable = setOf usable; fixed = 0; overflow = record { freeze = 0; core = NoCore } }
 
 -- the two numbers of a place, as digits to the base 8
 unfoldable pub digitsOf : Place → ℕ

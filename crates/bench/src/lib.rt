@@ -14,8 +14,10 @@ use plans::first_plan::first_plan;
 use plans::rows::ROW_NUMBERS;
 use plans::rows::request_at;
 use plans::search::plan_rows;
+use requests::Core;
 use requests::CounterSet;
 use requests::Device;
+use requests::Overflow;
 use requests::Setup;
 
 // The two numbers of a place, as digits to the base 8.
@@ -44,6 +46,10 @@ pub extern "C" fn rattle_first_plan(
         device: Device::G,
         usable: CounterSet(usable),
         fixed: 0,
+        overflow: Overflow {
+            freeze: 0,
+            core: Core::NoCore,
+        },
     };
     let requests = [
         request_at(rows, 0),
@@ -75,6 +81,10 @@ pub extern "C" fn rattle_plan_rows(usable: u64, rows: &[u64; ROW_NUMBERS], count
         device: Device::G,
         usable: CounterSet(usable),
         fixed: 0,
+        overflow: Overflow {
+            freeze: 0,
+            core: Core::NoCore,
+        },
     };
     plan_rows(setup, rows, count)
 }

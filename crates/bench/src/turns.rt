@@ -8,6 +8,7 @@ use requests::Answer;
 use requests::CounterSet;
 use requests::Opening;
 use requests::Request;
+use requests::askings::unasked;
 use requests::refusals::number_of;
 use sessions::Session;
 ghost use mathlib.Core.Path.{_≡_};
@@ -105,6 +106,7 @@ fn called(
             usable: CounterSet(kind),
             fixed: a,
             cbox: b,
+            overflow: unasked(),
         };
         let answered = open(session, opening);
         let answer = answered.answer;
@@ -168,6 +170,7 @@ pub extern "C" fn rattle_turns(device: u64, usable: u64, rows: &[u64], turns: us
         usable: CounterSet(usable),
         fixed: 0,
         cbox: 0,
+        overflow: unasked(),
     };
     let opened = open(new_session(), opening);
     let mut session = opened.session;

@@ -5,6 +5,7 @@ use planner::turn::turn;
 use requests::CounterSet;
 use requests::Opening;
 use requests::Request;
+use requests::askings::unasked;
 use sessions::Session;
 
 // The letter of device G.
@@ -26,6 +27,7 @@ pub fn opening(device: u64, usable: u64) -> Opening {
         usable: CounterSet(usable),
         fixed: 0,
         cbox: 0,
+        overflow: unasked(),
     }
 }
 

@@ -12,6 +12,7 @@ use requests::Device;
 use requests::Entry;
 use requests::Request;
 use requests::Setup;
+use requests::askings::unasked;
 use sessions::Session;
 
 const ALL: u64 = 0xFFFF_FFFF_FFFF_FFFF;
@@ -45,6 +46,7 @@ fn nonsense() -> Session {
         device: Device::S,
         usable: CounterSet(ALL),
         fixed: ALL,
+        overflow: unasked(),
     };
     Session {
         opened: true,

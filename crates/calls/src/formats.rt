@@ -1,5 +1,5 @@
 // What the words of a call have to be, a byte a word: `v` a word that is known already, `l` a letter, `d` a decimal number, `x` a hex number,
-// `0` and `-` themselves, where no order has given the argument a meaning.
+// `c` a core, a decimal number or `-`, and `0` itself, where no order has given the argument a meaning.
 use crate::numbers::Number;
 use crate::numbers::decimal;
 use crate::numbers::hex;
@@ -15,6 +15,14 @@ fn exactly(word: &[u8], text: &[u8]) -> Number {
     } else {
         Number::Bad
     }
+}
+
+// The number of a core: 0 for `-`.
+fn core(word: &[u8]) -> Number {
+    if same(word, b"-") {
+        return Number::Value(0);
+    }
+    decimal(word)
 }
 
 // The code of a letter.
@@ -33,8 +41,8 @@ fn number_of(word: &[u8], kind: u8) -> Number {
         b'l' => letter(word),
         b'd' => decimal(word),
         b'x' => hex(word),
-        b'0' => exactly(word, b"0"),
-        _ => exactly(word, b"-"),
+        b'c' => core(word),
+        _ => exactly(word, b"0"),
     }
 }
 

@@ -1,6 +1,5 @@
 // The reader's call.
 use crate::answers::answer;
-use crate::opening::opening;
 use crate::output::decimal;
 use crate::output::hex;
 use crate::output::text;
@@ -94,12 +93,12 @@ fn values(numbers: [u64; 20]) -> RegisterValues {
             mask_word: numbers[15],
         },
         global: numbers[16],
+        ubox: numbers[17],
     }
 }
 
 // Reads the registers, and prints what is told of each of the device's counters.
-pub fn reading(numbers: [u64; 20]) {
-    let given = opening(numbers);
+pub fn reading(given: Opening, numbers: [u64; 20]) {
     let told = read(given, values(numbers));
     let answered = told.answer;
     answer(answered);

@@ -31,10 +31,6 @@ pub fn unknown(session: Session) -> Session {
     session
 }
 
-fn open_call(session: Session, at: [u64; 20]) -> Session {
-    answered(open(session, opening(at)))
-}
-
 fn add_call(session: Session, line: &[u8], words: Words) -> Session {
     let numbers = add_numbers(line, words);
     let at = numbers.at;
@@ -89,11 +85,6 @@ fn turns_call(session: Session, at: [u64; 20]) -> Session {
     )
 }
 
-fn read_call(session: Session, at: [u64; 20]) -> Session {
-    reading(at);
-    session
-}
-
 // The call of a line without further words, with one number or three, or with all that open or the reader takes.
 fn call(session: Session, line: &[u8], words: Words) -> Session {
     let verb = word(line, words, 0);
@@ -114,15 +105,16 @@ fn call(session: Session, line: &[u8], words: Words) -> Session {
         let given = three.at;
         return turns_call(session, given);
     }
-    let numbers = numbers_in(line, words, b"vlddd0-");
+    let numbers = numbers_in(line, words, b"vlddddc");
     if same(verb, b"open") && numbers.fits {
-        let given = numbers.at;
-        return open_call(session, given);
+        let at = numbers.at;
+        return answered(open(session, opening(line, words, at)));
     }
-    let values = numbers_in(line, words, b"vlddd0-xxxxxxxxxx00");
+    let values = numbers_in(line, words, b"vlddddcxxxxxxxxxxx0");
     if same(verb, b"read") && values.fits {
-        let given = values.at;
-        return read_call(session, given);
+        let at = values.at;
+        reading(opening(line, words, at), at);
+        return session;
     }
     if same(verb, b"add") {
         return add_call(session, line, words);

@@ -4,6 +4,7 @@ use requests::CounterSet;
 use requests::Device;
 use requests::Request;
 use requests::Setup;
+use requests::askings::unasked;
 use requests::check::request_refusal;
 use requests::devices::all_counters;
 use requests::refusals::number_of;
@@ -72,6 +73,7 @@ pub fn tally_of(device: Device) -> Tally {
         device: device,
         usable: all_counters(device),
         fixed: 0,
+        overflow: unasked(),
     };
     let mut all = Tally {
         accepted: 0,

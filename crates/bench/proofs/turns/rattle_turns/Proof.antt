@@ -1,5 +1,6 @@
 -- `turns::rattle_turns` ends: the requests added are at most the rows, the turns made at most those asked for, and the measures are what is left of them.
 use Prim.Native.Nat.{_≤_, _-_, _/_}
+use native.Mathlib.Omega.{arith}
 use lib.ListN.{length}
 use mathlib.Core.Path.{_≡_}
 use borrow.Author.Needs.{needs}
@@ -28,6 +29,7 @@ rattle-turns-spec =
     μ-loop2
     (λ c κs. search needs)
     (λ c κs. search needs)
+    (λ c κs. search needs)
     (λ c. search needs)
     (λ c. search needs)
     (λ c. search needs)
@@ -44,7 +46,9 @@ rattle-turns-spec =
     (λ c. search needs)
     (λ c κs. search needs)
     (λ c κs. search needs)
-    (λ c. search needs)
+    (λ c.
+    let known = c .before .before .before .before .before .before .before in
+    record { fits = omega (arith, known .loop-test .taken, known .before .before .before .before .before .before .before .good) })
     (λ c. search needs)
     (λ c. search needs)
     (λ c. search needs)
