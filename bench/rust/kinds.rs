@@ -18,7 +18,7 @@ pub struct Turned {
 
 type Test = fn(&Turned) -> bool;
 
-pub const KINDS: [(&str, Test); 12] = [
+pub const KINDS: [(&str, Test); 16] = [
     ("the queue is full", |turned| turned.queue.len() == LIMIT),
     ("one is taken behind one passed over", Turned::skips),
     ("first fit without going back gets stuck", Turned::first_fit_stuck),
@@ -31,6 +31,10 @@ pub const KINDS: [(&str, Test); 12] = [
     ("fixed counters are on", |turned| turned.setup.fixed != 0),
     ("more than four requests are taken", |turned| turned.taken.len() > 4),
     ("a box that is not the first", |turned| turned.setup.box_number != 0),
+    ("an overflow only freezes", |turned| turned.setup.freeze != 0 && turned.setup.core.is_none()),
+    ("an overflow only interrupts a core", |turned| turned.setup.freeze == 0 && turned.setup.core.is_some()),
+    ("an overflow does both", |turned| turned.setup.freeze != 0 && turned.setup.core.is_some()),
+    ("nothing asked on the uncore", |turned| turned.setup.device.uncore && !turned.setup.asks()),
 ];
 
 fn is_latency(request: &Request) -> bool {

@@ -12,8 +12,8 @@ use crate::planner::model::{requests_of, select};
 use crate::planner::requests::Entry;
 use crate::planner::{Calls, LIST, SHIFT};
 use crate::script::{self, LONGEST_SLICE};
-use crate::transcript::calls::Bench;
-use crate::transcript::{bench_on, numbers_from};
+use crate::transcript::calls::{open_line, Bench};
+use crate::transcript::{bench_on, numbers_from, refused_opening};
 
 /// Words that are in no place of the notation, or in few.
 const ODD_WORDS: [&str; 12] =
@@ -32,8 +32,7 @@ struct Script {
 fn words_of(line: &str) -> Vec<String> {
     let fields: Vec<&str> = line.split('\t').collect();
     let words = match fields[..] {
-        ["open", device, usable, fixed] => vec!["open", device, usable, fixed, "0", "0", "-"],
-        ["open", device, usable, fixed, box_number] => vec!["open", device, usable, fixed, box_number, "0", "-"],
+        ["open", device, usable, fixed, freeze, core] => vec!["open", device, usable, fixed, "0", freeze, core],
         [kind @ ("event" | "packet" | "offcore" | "latency"), id, ref rest @ ..] => [&["add", id, kind], rest].concat(),
         _ => fields,
     };
@@ -50,13 +49,12 @@ fn values_of(filters: Filters, r: &Registers) -> Vec<u64> {
         Filters::PacketMatch => [r.mm_cfg, r.match_word, r.mask_word],
         _ => [r.rsp[0], r.rsp[1], 0],
     };
-    [&r.control[..6], &filter_words, &[r.global]].concat()
+    [&r.control[..6], &filter_words, &[r.global, r.u_box]].concat()
 }
 
 fn read_words(opening: &[String], values: &[u64]) -> Vec<String> {
     let values = values.iter().map(|&value| hex(value));
-    let rest = ["0", "0"].map(String::from);
-    ["read".into()].into_iter().chain(opening[1..].iter().cloned()).chain(values).chain(rest).collect()
+    ["read".into()].into_iter().chain(opening[1..].iter().cloned()).chain(values).chain(["0".into()]).collect()
 }
 
 impl Script {
@@ -99,18 +97,17 @@ impl Script {
 
     /// The values that the plan of some requests leaves, on the bench's own opening.
     fn left_values(&mut self) -> Vec<u64> {
-        let Bench { device, usable, fixed, box_number, odd, .. } = self.bench;
-        let setup = Setup::of(Opening { letter: device.letter as u64, usable, fixed, box_number }).expect("an opening");
+        let (setup, odd) = (Setup::of(self.bench.opening()).expect("an opening"), self.bench.odd);
         self.bench.odd = 0;
         let lines: Vec<String> = (1..=self.bench.numbers.below(READ + 1)).map(|id| self.bench.add_with(id)).collect();
         self.bench.odd = odd;
         let entries: Vec<Entry> = lines.iter().filter_map(|line| entry_of(line)).collect();
         let requests = requests_of(&select(setup, &entries).0);
         let plan = first_plan(setup, &requests).expect("what is taken has a plan");
-        values_of(device.filters, &applied(setup, &list_of(setup, &requests, &plan)))
+        values_of(setup.device.filters, &applied(setup, &list_of(setup, &requests, &plan)))
     }
 
-    /// A reading of what a plan leaves, in half of the cases with a bit or a value changed, or of another opening.
+    /// A reading of what a plan leaves, mostly with a bit or a value changed, or of another opening.
     fn reading(&mut self) -> Vec<String> {
         let mut values = self.left_values();
         let mut opening = words_of(&self.bench.own_open());
@@ -121,6 +118,7 @@ impl Script {
             3 => values[at as usize] = values[other as usize],
             4 => values[at as usize] = self.bench.numbers.pick(&[0, changed, u64::MAX]),
             5 => opening = self.odd_open(),
+            6 => opening = self.other_asking(),
             _ => {}
         }
         read_words(&opening, &values)
@@ -132,7 +130,27 @@ impl Script {
         let usable = self.bench.numbers.pick(&[0, 7, 15, 16, 63, 64, u64::MAX, 1 << 32]);
         let fixed = self.bench.numbers.pick(&[0, 0, 0, 1, 7, 8, u64::MAX]);
         let box_number = self.bench.numbers.pick(&[0, 0, 0, 1, 7, 8, u64::MAX]);
-        words_of(&format!("open\t{letter}\t{usable}\t{fixed}\t{box_number}"))
+        let freeze = self.bench.numbers.pick(&[0, 0, 0, 1, 1, 2, u64::MAX]);
+        let core = self.bench.numbers.pick(&["-", "-", "-", "0", "7", "8", "63", "64", "18446744073709551615"]);
+        words_of(&format!("open\t{letter}\t{usable}\t{fixed}\t{box_number}\t{freeze}\t{core}"))
+    }
+
+    /// The bench's own open with something else asked of an overflow, which may be refused.
+    fn other_asking(&mut self) -> Vec<String> {
+        let own = self.bench.opening();
+        let freeze = self.bench.numbers.pick(&[own.freeze, 0, 1, 1, 2, 1 << 32]);
+        let core = self.bench.numbers.pick(&[own.core, None, Some(0), Some(3), Some(7), Some(8), Some(1 << 32)]);
+        words_of(&open_line(Opening { freeze, core, ..own }))
+    }
+
+    /// Openings before the bench's own, mostly refused.
+    fn first_opening(&mut self) -> Vec<String> {
+        match (self.bench.numbers.below(4), refused_opening(&mut self.bench)) {
+            (0, _) => self.odd_open(),
+            (1, _) => self.other_asking(),
+            (_, Some(refused)) => words_of(&open_line(refused)),
+            (_, None) => words_of(&self.bench.own_open()),
+        }
     }
 
     fn call(&mut self) -> Vec<String> {
@@ -187,6 +205,10 @@ impl Script {
 
     /// A session of so many calls, mostly opened first.
     fn session(&mut self, calls: u64, damage: u64) {
+        while self.bench.numbers.chance(30) {
+            let words = self.first_opening();
+            self.put(&words);
+        }
         if self.bench.numbers.chance(90) {
             self.put(&words_of(&self.bench.own_open()));
         }

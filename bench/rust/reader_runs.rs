@@ -9,6 +9,7 @@ use planner::model::plan::first_plan;
 use planner::model::reader::{read, Registers, State};
 use planner::model::writes::list_of;
 use planner::requests::Request;
+use planner::u_box;
 
 fn print_state(k: usize, state: State) {
     match state {
@@ -40,6 +41,7 @@ fn looked_at(setup: Setup, r: &Registers) -> (Vec<u64>, Vec<u64>) {
         (0xE48, has_match),
         (0xE49, has_match && r.mm_cfg != 0),
         (0xE4A, has_match && r.mm_cfg != 0),
+        (u_box::ADDRESS, setup.asks()),
     ];
     let (yes, no): (Vec<_>, Vec<_>) = control.chain(filters).partition(|(_, looked)| *looked);
     let addresses = |rows: Vec<(u64, bool)>| rows.into_iter().map(|row| row.0).collect();
@@ -52,7 +54,8 @@ fn flipped(setup: Setup, r: &Registers, address: u64, bit: u64) -> Registers {
     changed
 }
 
-/// What the plan was opened with; fixed counters are told where they are on, and the box where the device has several.
+/// What the plan was opened with; fixed counters are told where they are on, the box where the device has several, and what an
+/// overflow does where something is asked.
 fn print_opening(setup: Setup, writes: usize) {
     print!("{} {}", setup.device.letter as char, setup.usable);
     if setup.fixed != 0 {
@@ -60,6 +63,12 @@ fn print_opening(setup: Setup, writes: usize) {
     }
     if setup.device.has_boxes() {
         print!(" box {}", setup.box_number);
+    }
+    if setup.freeze != 0 {
+        print!(" freeze {}", setup.freeze);
+    }
+    if let Some(core) = setup.core {
+        print!(" core {core}");
     }
     println!(" writes {writes}");
 }
@@ -97,7 +106,7 @@ fn event(code: u8, mask: u8) -> Request {
 }
 
 fn on_g() {
-    let g = |usable, fixed| Opening { letter: 71, usable, fixed, box_number: 0 };
+    let g = |usable, fixed| Opening::plain(71, usable, fixed, 0);
     let offcore = |word| Request::Offcore { word, allowed: 15 };
     let latency = |types| Request::Latency { types, first: 15, second: 15 };
     let events = [event(0xC0, 0), event(0x3C, 1), event(0x2E, 0x41), event(0xC5, 0)];
@@ -115,22 +124,30 @@ fn on_g() {
 }
 
 fn on_s() {
-    let s = |usable| Opening { letter: 83, usable, fixed: 0, box_number: 0 };
+    let s = |usable| Opening::plain(83, usable, 0, 0);
+    let asks = |usable, freeze, core| Opening { freeze, core, ..s(usable) };
     let packet = Request::Packet { match_word: 0x0123456789ABCDEF, mask_word: 0x00000000FFFFFFFF, allowed: 15 };
     run(s(9), &[]);
     run(s(15), &[event(0x51, 1), event(0x31, 2), event(0x52, 0), event(0x2F, 0)]);
     run(s(15), &[packet, packet, event(0x51, 3)]);
     run(s(14), &[packet, event(0x51, 3)]);
+    run(asks(9, 1, None), &[]);
+    run(asks(15, 0, Some(0)), &[event(0x51, 1), event(0x31, 2), event(0x52, 0), event(0x2F, 0)]);
+    run(asks(14, 1, Some(7)), &[packet, event(0x51, 3)]);
 }
 
 fn on_c() {
-    let c = |usable, box_number| Opening { letter: 67, usable, fixed: 0, box_number };
+    let c = |usable, box_number| Opening::plain(67, usable, 0, box_number);
+    let asks = |usable, box_number, freeze, core| Opening { freeze, core, ..c(usable, box_number) };
     let event = |code, mask| Request::Event { code, mask, allowed: 63 };
     let six = [event(0x19, 0), event(0x1B, 0), event(0x1F, 0), event(0x23, 0), event(0x0B, 0x07), event(0x28, 0xA5)];
     run(c(63, 0), &[]);
     run(c(63, 0), &six);
     run(c(48, 1), &[event(0x1F, 0)]);
     run(c(62, 7), &[event(0x0B, 0x18), event(0x14, 0x05), event(0x09, 0x7F)]);
+    run(asks(63, 0, 1, Some(2)), &six);
+    run(asks(48, 1, 0, Some(5)), &[event(0x1F, 0)]);
+    run(asks(62, 7, 1, None), &[]);
 }
 
 fn main() {

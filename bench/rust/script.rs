@@ -42,14 +42,23 @@ fn lent(length: &str) -> Option<Vec<u64>> {
     }
 }
 
-/// Device, usable set, fixed enables and box, where the arguments that no order has given a meaning are 0 and `-`.
+/// A core, or `-` for none.
+fn core(word: &str) -> Option<Option<u64>> {
+    match word {
+        "-" => Some(None),
+        _ => decimal(word).map(Some),
+    }
+}
+
 fn opening(words: &[&str]) -> Option<Opening> {
     match words {
-        [device, usable, fixed, box_number, "0", "-"] => Some(Opening {
+        [device, usable, fixed, box_number, freeze, at] => Some(Opening {
             letter: letter(device)?,
             usable: decimal(usable)?,
             fixed: decimal(fixed)?,
             box_number: decimal(box_number)?,
+            freeze: decimal(freeze)?,
+            core: core(at)?,
         }),
         _ => None,
     }
@@ -128,16 +137,15 @@ fn told(state: State) -> String {
     }
 }
 
+/// The last word stands for a register that no device has yet: it is 0.
 fn reading(words: &[&str]) -> Option<String> {
-    let opening = opening(words.get(..6)?)?;
-    let (values, rest) = words[6..].split_at_checked(10)?;
+    let (opened, values) = words.split_at_checked(6)?;
+    let (opening, values) = (opening(opened)?, values.strip_suffix(&["0"])?);
     let v: Vec<u64> = values.iter().map(|word| hex(word)).collect::<Option<_>>()?;
-    if rest != ["0", "0"] {
-        return None;
-    }
+    let [c0, c1, c2, c3, c4, c5, f0, f1, f2, global, u_box] = v[..] else { return None };
     let mut control = [0; PLACES];
-    control[..6].copy_from_slice(&v[..6]);
-    let registers = Registers { control, rsp: [v[6], v[7]], mm_cfg: v[6], match_word: v[7], mask_word: v[8], global: v[9] };
+    control[..6].copy_from_slice(&[c0, c1, c2, c3, c4, c5]);
+    let registers = Registers { control, rsp: [f0, f1], mm_cfg: f0, match_word: f1, mask_word: f2, global, u_box };
     Some(match read(opening, &registers) {
         Err(number) => format!("no {number}"),
         Ok(states) => states.into_iter().fold("ok".into(), |text, state| format!("{text} {}", told(state))),

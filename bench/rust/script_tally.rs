@@ -5,7 +5,7 @@ use std::collections::BTreeMap;
 
 /// Every answer that a call can get.
 const ANSWERS: [(&str, &str); 6] = [
-    ("open", "ok, no 2, no 3, ?"),
+    ("open", "ok, no 2, no 3, no 7, no 10, ?"),
     ("add", "ok, no 2, no 4, no 5, no 7, no 8, no 9, no 10, no 11, no 12, no 13, ?"),
     ("drop", "ok, no 2, no 4, no 6, ?"),
     ("turn", "ok, no 2, no 14, ?"),

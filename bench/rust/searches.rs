@@ -40,7 +40,7 @@ mod proved {
 
 /// The proved functions take a usable set on G, also one that an open would refuse.
 fn setup_for(usable: u64) -> Setup {
-    Setup { device: Device::named(b'G' as u64).expect("a device"), usable, fixed: 0, box_number: 0 }
+    Setup { device: Device::named(b'G' as u64).expect("a device"), usable, fixed: 0, box_number: 0, freeze: 0, core: None }
 }
 
 fn to_rows(requests: &[Request]) -> Rows {

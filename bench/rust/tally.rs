@@ -7,6 +7,8 @@ use crate::planner::model::Session;
 const VERBS: [&str; 7] = ["open", "event", "packet", "offcore", "latency", "drop", "turn"];
 /// The highest refusal that a line can get.
 const REFUSALS: usize = 13;
+/// The refusals that an open in the grammar can get.
+const OPEN_REFUSALS: [usize; 4] = [2, 3, 7, 10];
 /// A kind that fewer than one in so many turns are of is too seldom.
 const SELDOM: u64 = 300;
 
@@ -14,6 +16,8 @@ pub struct Tally {
     pub lines: u64,
     accepted: [u64; VERBS.len()],
     refused: [u64; REFUSALS + 1],
+    /// The same of the lines whose verb is open.
+    opens_refused: [u64; REFUSALS + 1],
     /// The turns of each device, and of each kind on it.
     turns: [u64; DEVICES.len()],
     kinds: [[u64; DEVICES.len()]; KINDS.len()],
@@ -25,6 +29,7 @@ impl Tally {
             lines: 0,
             accepted: [0; VERBS.len()],
             refused: [0; REFUSALS + 1],
+            opens_refused: [0; REFUSALS + 1],
             turns: [0; DEVICES.len()],
             kinds: [[0; DEVICES.len()]; KINDS.len()],
         }
@@ -33,12 +38,15 @@ impl Tally {
     /// Counts a line with the session before it and its answer.
     pub fn count(&mut self, session: &Session, line: &[u8], answered: &[u8]) {
         self.lines += 1;
+        let said = line.split(|&byte| byte == b'\t').next();
         if answered.ends_with(b"ok\n") {
-            let verb = VERBS.iter().position(|verb| line.split(|&byte| byte == b'\t').next() == Some(verb.as_bytes()));
+            let verb = VERBS.iter().position(|verb| said == Some(verb.as_bytes()));
             self.accepted[verb.expect("a verb")] += 1;
         } else {
             let number = std::str::from_utf8(&answered[3..answered.len() - 1]).expect("a number");
-            self.refused[number.parse::<usize>().expect("a number")] += 1;
+            let number = number.parse::<usize>().expect("a number");
+            self.refused[number] += 1;
+            self.opens_refused[number] += (said == Some(b"open")) as u64;
         }
         if line == b"turn" {
             self.count_turn(session);
@@ -60,6 +68,7 @@ impl Tally {
         let refused: Vec<String> = (1..=REFUSALS).map(|number| format!("{number}: {}", self.refused[number])).collect();
         println!("ok   {}", accepted.join(", "));
         println!("no   {}", refused.join(", "));
+        println!("open {}", OPEN_REFUSALS.map(|number| format!("{number}: {}", self.opens_refused[number])).join(", "));
         print_row("turns", DEVICES.each_ref().map(|device| (device.letter as char).to_string()));
         print_row("all", self.turns.map(|n| n.to_string()));
         for ((kind, _), counts) in KINDS.iter().zip(self.kinds) {
@@ -71,6 +80,7 @@ impl Tally {
     pub fn nothing_missed(&self) {
         assert!(self.accepted.iter().all(|&n| n > 0), "a verb was never accepted");
         assert!(self.refused[1..].iter().all(|&n| n > 0), "a refusal was never given");
+        assert!(OPEN_REFUSALS.iter().all(|&number| self.opens_refused[number] > 0), "an open was never refused with a number");
         let turns: u64 = self.turns.iter().sum();
         for ((kind, _), counts) in KINDS.iter().zip(self.kinds) {
             assert!(counts.iter().sum::<u64>() * SELDOM > turns, "seldom in a turn: {kind}");

@@ -5,7 +5,7 @@ use crate::numbers::Numbers;
 use crate::planner::devices::Opening;
 use crate::planner::fast::session::Session;
 use crate::planner::requests::Request;
-use crate::planner::{model, Calls, Turn, LIST};
+use crate::planner::{model, Calls, Turn};
 use crate::rows::{to_request, to_row};
 use crate::searches::random_request;
 use std::hint::black_box;
@@ -18,6 +18,8 @@ const TURNS: usize = 200;
 /// The numbers of a call (an open has 0, the device, the usable set, the fixed enables and the box), and of its answer: the
 /// refusal or 0, the number taken, the number of writes, the slice.
 const CALL: usize = 6;
+/// The room of a turn. These openings ask nothing of an overflow: their turns have at most 20 writes.
+const LIST: usize = 40;
 const ANSWER: usize = 3 + LIST;
 
 mod proved {
@@ -38,7 +40,7 @@ mod proved {
 /// One call, with its answer in the same numbers as the proved planner's.
 fn called(session: &mut impl Calls, call: &[u64], answer: &mut [u64]) {
     let outcome = match call[0] {
-        0 => session.open(Opening { letter: call[1], usable: call[2], fixed: call[3], box_number: call[4] }),
+        0 => session.open(Opening::plain(call[1], call[2], call[3], call[4])),
         1 => session.add(call[1], to_request(&call[2..])),
         2 => session.drop(call[1]),
         _ => session.turn(&mut answer[3..3 + LIST.min(call[1] as usize)]).map(|turn| {
@@ -150,7 +152,7 @@ fn turn(session: &mut Session, list: &mut [u64]) -> Result<Turn, u64> {
 /// The writes of the last of the turns, as the proved side makes them.
 fn rust_turns(letter: u64, usable: u64, rows: &[u64], turns: usize) -> usize {
     let mut session = Session::new();
-    session.open(Opening { letter, usable, fixed: 0, box_number: 0 }).unwrap();
+    session.open(Opening::plain(letter, usable, 0, 0)).unwrap();
     for (i, row) in rows.chunks(4).enumerate() {
         session.add(i as u64 + 1, to_request(row)).unwrap();
     }

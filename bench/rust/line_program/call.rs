@@ -42,6 +42,14 @@ impl<'a> Fields<'a> {
         decimal_of(self.next()?)
     }
 
+    /// A core, or `-` for none.
+    fn core(&mut self) -> Option<Option<u64>> {
+        match self.next()? {
+            b"-" => Some(None),
+            field => decimal_of(field).map(Some),
+        }
+    }
+
     fn hex(&mut self, width: usize) -> Option<u64> {
         hex_of(self.next()?, width)
     }
@@ -88,12 +96,13 @@ fn device_of(field: &[u8]) -> Option<&'static Device> {
     }
 }
 
-/// Where the device has several boxes the box is one more field.
+/// Where the device has several boxes the box is one more field; what is asked of an overflow is the last two.
 fn opening(fields: &mut Fields) -> Option<Opening> {
     let device = device_of(fields.next()?)?;
     let (usable, fixed) = (fields.decimal()?, fields.decimal()?);
     let box_number = if device.has_boxes() { fields.decimal()? } else { 0 };
-    Some(Opening { letter: device.letter as u64, usable, fixed, box_number })
+    let (freeze, core) = (fields.decimal()?, fields.core()?);
+    Some(Opening { letter: device.letter as u64, usable, fixed, box_number, freeze, core })
 }
 
 fn event(fields: &mut Fields) -> Option<Request> {

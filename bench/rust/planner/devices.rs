@@ -1,6 +1,7 @@
 //! The devices of document 01 and of order 3, a row each: whatever tells one from another stands in this table.
 
 use super::catalogue::{self, Event};
+use super::u_box;
 
 /// The filter registers of a device, and with them the requests that need them.
 #[derive(Clone, Copy, PartialEq, Eq, Debug)]
@@ -26,7 +27,7 @@ pub struct Addresses {
 pub struct Device {
     pub letter: u8,
     pub counters: u64,
-    /// The bits of every event word that let it count.
+    /// The bits of an event word that let it count.
     pub enable: u64,
     pub filters: Filters,
     /// The highest number for the enables of its fixed counters; 0 where it has none.
@@ -36,6 +37,8 @@ pub struct Device {
     /// How far the addresses of each box lie behind those of box 0; a device that is no box has box 0 alone.
     pub boxes: &'static [u64],
     pub events: &'static [Event],
+    /// Whether its counters are the uncore's, whose U-Box can freeze them and interrupt a core on an overflow.
+    pub uncore: bool,
     /// Whether a pair that is not listed gets 8; otherwise only a code does, and a mask gets 9 or 10.
     pub listed_by_pair: bool,
 }
@@ -50,6 +53,7 @@ pub static DEVICES: [Device; 3] = [
         addresses: Addresses { global: 0x38F, control: 0x186, counter: 0xC1, step: 1 },
         boxes: &[0],
         events: catalogue::G,
+        uncore: false,
         listed_by_pair: true,
     },
     Device {
@@ -61,6 +65,7 @@ pub static DEVICES: [Device; 3] = [
         addresses: Addresses { global: 0xC40, control: 0xC50, counter: 0xC51, step: 2 },
         boxes: &[0],
         events: catalogue::S,
+        uncore: true,
         listed_by_pair: false,
     },
     Device {
@@ -72,6 +77,7 @@ pub static DEVICES: [Device; 3] = [
         addresses: Addresses { global: 0xD00, control: 0xD10, counter: 0xD11, step: 2 },
         boxes: &[0x00, 0x80, 0x40, 0xC0, 0x20, 0xA0, 0x60, 0xE0],
         events: catalogue::C,
+        uncore: true,
         listed_by_pair: false,
     },
 ];
@@ -112,13 +118,16 @@ impl Device {
     }
 }
 
-/// What open and the reader are given: the device's letter, the usable set, the enables of the fixed counters, and the box.
+/// What open and the reader are given: the device's letter, the usable set, the enables of the fixed counters, the box, and
+/// what an overflow shall do: whether it freezes all uncore counting (1 or 0), and the core that it interrupts.
 #[derive(Clone, Copy, PartialEq, Eq, Debug)]
 pub struct Opening {
     pub letter: u64,
     pub usable: u64,
     pub fixed: u64,
     pub box_number: u64,
+    pub freeze: u64,
+    pub core: Option<u64>,
 }
 
 /// What an accepted open was given.
@@ -128,6 +137,26 @@ pub struct Setup {
     pub usable: u64,
     pub fixed: u64,
     pub box_number: u64,
+    pub freeze: u64,
+    pub core: Option<u64>,
+}
+
+impl Opening {
+    /// An opening that asks nothing of an overflow.
+    pub fn plain(letter: u64, usable: u64, fixed: u64, box_number: u64) -> Opening {
+        Opening { letter, usable, fixed, box_number, freeze: 0, core: None }
+    }
+
+    /// 7 where something is asked of a device that is not the uncore's; 10 for a freeze that is not 0 or 1, or a core too high.
+    fn asking_refusal(&self, device: &Device) -> Option<u64> {
+        let asks = self.freeze != 0 || self.core.is_some();
+        let fits = self.freeze <= 1 && self.core.is_none_or(|core| core < u_box::CORES);
+        match (device.uncore, asks, fits) {
+            (false, true, _) => Some(7),
+            (true, _, false) => Some(10),
+            _ => None,
+        }
+    }
 }
 
 /// Where the enables of the fixed counters stand in IA32_PERF_GLOBAL_CTRL: bits 32 to 34.
@@ -135,14 +164,17 @@ const FIXED_PLACE: u64 = 32;
 
 impl Setup {
     /// Refuses with 3: a device that is not there, a usable set that is empty or has a counter too many, or a fixed counter
-    /// or a box that the device does not have.
+    /// or a box that the device does not have. What is asked of an overflow is looked at after that.
     pub fn of(opening: Opening) -> Result<Setup, u64> {
-        let Opening { letter, usable, fixed, box_number } = opening;
+        let Opening { letter, usable, fixed, box_number, freeze, core } = opening;
         let device = Device::named(letter).ok_or(3u64)?;
         let known = fixed <= device.fixed && box_number < device.boxes.len() as u64;
-        match usable != 0 && usable <= device.all() && known {
-            true => Ok(Setup { device, usable, fixed, box_number }),
-            false => Err(3),
+        if usable == 0 || usable > device.all() || !known {
+            return Err(3);
+        }
+        match opening.asking_refusal(device) {
+            None => Ok(Setup { device, usable, fixed, box_number, freeze, core }),
+            Some(number) => Err(number),
         }
     }
 
@@ -161,5 +193,23 @@ impl Setup {
     /// The global control value where these counters of ours count: the others' enables and the fixed ones stay.
     pub fn global(&self, used: u64) -> u64 {
         self.fixed << FIXED_PLACE | self.others() | used
+    }
+
+    /// Whether an overflow shall do something.
+    pub fn asks(&self) -> bool {
+        self.freeze != 0 || self.core.is_some()
+    }
+
+    /// The bits of every event word of the session: with pmi_en where an overflow shall do something.
+    pub fn enable(&self) -> u64 {
+        match self.asks() {
+            true => self.device.enable | u_box::PMI_EN,
+            false => self.device.enable,
+        }
+    }
+
+    /// What a turn leaves in the U-Box register; nothing where that stays with the host.
+    pub fn u_box(&self) -> Option<u64> {
+        self.asks().then(|| u_box::value(self.freeze, self.core))
     }
 }

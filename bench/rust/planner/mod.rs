@@ -10,6 +10,7 @@ pub mod devices;
 pub mod fast;
 pub mod model;
 pub mod requests;
+pub mod u_box;
 
 use devices::Opening;
 use requests::{Entry, Place, Request};
@@ -18,8 +19,8 @@ use requests::{Entry, Place, Request};
 pub const LIMIT: usize = 16;
 /// As many places as a plan has room for, at least as many as a device has counters.
 pub const PLACES: usize = 8;
-/// The numbers that are lent to a turn of a line: the room of 20 writes, the most there are.
-pub const LIST: usize = 40;
+/// The numbers that are lent to a turn of a line: the room of 22 writes, the most there are.
+pub const LIST: usize = 44;
 /// The most turns at once (order 6).
 pub const SHIFT: u64 = 64;
 

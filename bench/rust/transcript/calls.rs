@@ -2,11 +2,11 @@
 
 use crate::numbers::Numbers;
 use crate::planner::catalogue::Event;
-use crate::planner::devices::{Device, Filters};
+use crate::planner::devices::{Device, Filters, Opening};
 use crate::planner::requests::MASK_BITS;
 
-/// What the calls are drawn for: the device, its usable set, fixed enables and box, how many ids there are, and how many of
-/// a hundred fields get an odd value. In a tight bench requests get in each other's way: nested sets, few words, and those
+/// What the calls are drawn for: the device and what it is opened with, how many ids there are, and how many of a hundred
+/// fields get an odd value. In a tight bench requests get in each other's way: nested sets, few words, and those
 /// of latency requests.
 pub struct Bench {
     pub numbers: Numbers,
@@ -14,6 +14,8 @@ pub struct Bench {
     pub usable: u64,
     pub fixed: u64,
     pub box_number: u64,
+    pub freeze: u64,
+    pub core: Option<u64>,
     pub ids: u64,
     pub odd: u64,
     pub tight: bool,
@@ -83,6 +85,30 @@ const ODD_WORDS: [u64; 19] = [
 const MASKS: [u64; 2] = [0xFFFF_FFFF, 0x7F_0000_0000];
 /// Masks with a bit outside the field, and at its ends some without.
 const ODD_MASKS: [u64; 9] = [1, 1 << 38, MASK_BITS, 1 << 39, 1 << 40, 1 << 62, 1 << 63, u64::MAX << 32, u64::MAX];
+
+/// The last two fields of an open, many of them refused or not in the grammar.
+const ASKED: [&str; 20] = [
+    "\t0\t-",
+    "\t0\t-",
+    "\t0\t-",
+    "\t1\t-",
+    "\t0\t0",
+    "\t0\t7",
+    "\t1\t3",
+    "\t2\t-",
+    "\t0\t8",
+    "\t1\t99999",
+    "\t99999\t-",
+    "\t-\t-",
+    "\t-\t0",
+    "\t01\t-",
+    "\t0\t03",
+    "\t0\t-1",
+    "\t0\t",
+    "\t0\t-\t",
+    "\t0",
+    "",
+];
 
 impl Bench {
     fn odd(&mut self) -> bool {
@@ -197,18 +223,25 @@ impl Bench {
         format!("drop\t{}", self.id())
     }
 
-    /// The open of the bench's device with these numbers; the box is a field where the device has several.
-    pub fn open_line(&self, usable: u64, fixed: u64, box_number: u64) -> String {
-        let line = format!("open\t{}\t{usable}\t{fixed}", self.device.letter as char);
-        match self.device.has_boxes() {
-            true => format!("{line}\t{box_number}"),
-            false => line,
-        }
+    /// What the bench is opened with.
+    pub fn opening(&self) -> Opening {
+        let Bench { device, usable, fixed, box_number, freeze, core, .. } = *self;
+        Opening { letter: device.letter as u64, usable, fixed, box_number, freeze, core }
     }
 
     /// The bench's own open.
     pub fn own_open(&self) -> String {
-        self.open_line(self.usable, self.fixed, self.box_number)
+        open_line(self.opening())
+    }
+
+    /// A freeze that the device refuses.
+    pub fn bad_freeze(&mut self) -> u64 {
+        self.numbers.pick(if self.device.uncore { &[2, 3, 99999] } else { &[1, 2, 99999] })
+    }
+
+    /// A core that the device refuses.
+    pub fn bad_core(&mut self) -> Option<u64> {
+        Some(self.numbers.pick(if self.device.uncore { &[8, 9, 31, 99999] } else { &[0, 7, 8, 99999] }))
     }
 
     /// The bench's own open, or in odd cases one of another device, with other numbers, or with a field too few or too many.
@@ -220,6 +253,18 @@ impl Bench {
         let usable = self.numbers.pick(&[0, 7, 7, 16, 63, 64, 99999]);
         let fixed = self.numbers.pick(&["", "\t0", "\t0", "\t0", "\t1", "\t7", "\t8", "\t99999", "\t07", "\t-1"]);
         let box_number = self.numbers.pick(&["", "", "\t0", "\t1", "\t7", "\t8", "\t99999", "\t01", "\t", "\t0\t0"]);
-        format!("open\t{letter}\t{usable}{fixed}{box_number}")
+        let asked = self.numbers.pick(&ASKED);
+        format!("open\t{letter}\t{usable}{fixed}{box_number}{asked}")
+    }
+}
+
+/// The line of an open; the box is a field where the device has several.
+pub fn open_line(opening: Opening) -> String {
+    let Opening { letter, usable, fixed, box_number, freeze, core } = opening;
+    let line = format!("open\t{}\t{usable}\t{fixed}", letter as u8 as char);
+    let core = core.map_or("-".into(), |core| core.to_string());
+    match Device::named(letter).is_some_and(Device::has_boxes) {
+        true => format!("{line}\t{box_number}\t{freeze}\t{core}"),
+        false => format!("{line}\t{freeze}\t{core}"),
     }
 }

@@ -6,10 +6,10 @@ mod damage;
 
 use crate::answer::{answer, Output, LONGEST_ANSWER};
 use crate::numbers::Numbers;
-use crate::planner::devices::{Device, DEVICES};
+use crate::planner::devices::{Device, Opening, DEVICES};
 use crate::planner::fast::session::Session;
-use crate::planner::Calls;
-use calls::Bench;
+use crate::planner::{u_box, Calls};
+use calls::{open_line, Bench};
 
 /// The lines between two choices of how long the queue should be.
 const STRETCH: usize = 64;
@@ -51,18 +51,21 @@ fn next_call(bench: &mut Bench, session: &Session, goal: usize) -> Vec<u8> {
     }
 }
 
-/// A bench on this device, with any fixed enables and box that it has.
+/// A bench on this device, with any fixed enables and box that it has, and in three of four cases on the uncore with
+/// something asked of an overflow.
 pub fn bench_on(device: &'static Device, usable: u64, odd: u64, mut numbers: Numbers) -> Bench {
     let fixed = numbers.below(device.fixed + 1);
     let box_number = numbers.below(device.boxes.len() as u64);
-    Bench { numbers, device, usable, fixed, box_number, ids: IDS, odd, tight: false }
+    let freeze = if device.uncore { numbers.below(2) } else { 0 };
+    let core = (device.uncore && numbers.chance(50)).then(|| numbers.below(u_box::CORES));
+    Bench { numbers, device, usable, fixed, box_number, freeze, core, ids: IDS, odd, tight: false }
 }
 
 /// A transcript of so many lines: mostly accepted adds and drops, a fifth turns, a tenth refused or ill-formed lines.
 pub fn long(device: char, lines: usize, seed: u64) -> Vec<u8> {
     let device = Device::named(device as u64).expect("a device");
     let mut bench = bench_on(device, device.all(), 0, numbers_from(seed));
-    (bench.fixed, bench.box_number) = (0, 0);
+    (bench.fixed, bench.box_number, bench.freeze, bench.core) = (0, 0, 0, None);
     let mut session = Session::new();
     let mut block = [0; LONGEST_ANSWER];
     let mut transcript = Vec::new();
@@ -116,17 +119,30 @@ struct Mix {
     noise: u64,
 }
 
+/// An opening that is refused, for one reason or for many; or none.
+pub fn refused_opening(bench: &mut Bench) -> Option<Opening> {
+    let own = bench.opening();
+    let usable = bench.numbers.pick(&[0, bench.device.all() + 1, 17, 99999]);
+    let fixed = bench.numbers.pick(&[bench.device.fixed + 1, 8, 99999]);
+    let box_number = bench.numbers.pick(&[8, 9, 99999]);
+    let (freeze, core) = (bench.bad_freeze(), bench.bad_core());
+    match bench.numbers.below(12) {
+        0 => Some(Opening { usable, ..own }),
+        1 => Some(Opening { fixed, ..own }),
+        2 => Some(Opening { usable, fixed, box_number, freeze, core, ..own }),
+        3 if bench.device.has_boxes() => Some(Opening { box_number, ..own }),
+        4 => Some(Opening { freeze, ..own }),
+        5 => Some(Opening { core, ..own }),
+        6 => Some(Opening { freeze, core, ..own }),
+        7 => Some(Opening { usable, freeze, ..own }),
+        _ => None,
+    }
+}
+
 /// The open, sometimes after one that is refused.
 fn opening(bench: &mut Bench, transcript: &mut Vec<u8>) {
-    let bad_set = bench.numbers.pick(&[0, bench.device.all() + 1, 17, 99999]);
-    let bad_fixed = bench.numbers.pick(&[bench.device.fixed + 1, 8, 99999]);
-    let bad_box = bench.numbers.pick(&[8, 9, 99999]);
-    match bench.numbers.below(10) {
-        0 => push(transcript, bench.open_line(bad_set, bench.fixed, bench.box_number).as_bytes()),
-        1 => push(transcript, bench.open_line(bench.usable, bad_fixed, bench.box_number).as_bytes()),
-        2 => push(transcript, bench.open_line(bad_set, bad_fixed, bad_box).as_bytes()),
-        3 if bench.device.has_boxes() => push(transcript, bench.open_line(bench.usable, bench.fixed, bad_box).as_bytes()),
-        _ => {}
+    if let Some(refused) = refused_opening(bench) {
+        push(transcript, open_line(refused).as_bytes());
     }
     push(transcript, bench.own_open().as_bytes());
 }

@@ -3,7 +3,7 @@
 use super::counters;
 use crate::planner::devices::{Addresses, Filters, Setup};
 use crate::planner::requests::{latency_words, Entry, Place, Request};
-use crate::planner::PLACES;
+use crate::planner::{u_box, PLACES};
 use std::slice::ChunksExactMut;
 
 /// The event words by counter, the counters that have one, and the words of the filter registers.
@@ -43,8 +43,9 @@ impl Settings {
 
     fn of(setup: Setup, taken: &[Entry], plan: &[Place; PLACES]) -> Settings {
         let mut settings = Settings { used: 0, words: [0; PLACES], rsp: [0; 2], packet: None };
+        let enable = setup.enable();
         for (entry, place) in taken.iter().zip(plan) {
-            settings.add(setup.device.enable, entry.request, *place);
+            settings.add(enable, entry.request, *place);
         }
         settings
     }
@@ -60,7 +61,8 @@ impl Settings {
 
     fn count(&self, setup: Setup) -> usize {
         let (usable, used) = (setup.usable.count_ones() as usize, self.used.count_ones() as usize);
-        2 + usable + self.filter_writes(setup.device.filters) + 2 * used
+        let frame = if setup.asks() { 2 } else { 0 };
+        2 + usable + self.filter_writes(setup.device.filters) + 2 * used + frame
     }
 }
 
@@ -98,6 +100,10 @@ pub fn write_list(setup: Setup, taken: &[Entry], plan: &[Place; PLACES], out: &m
     let count = settings.count(setup);
     let mut list = List { rest: out.get_mut(..2 * count)?.chunks_exact_mut(2) };
     let Addresses { global, control, counter, step } = setup.addresses();
+    let u_box = setup.u_box();
+    if u_box.is_some() {
+        list.put(u_box::ADDRESS, 0);
+    }
     list.put(global, setup.global(0));
     for k in counters(setup.usable) {
         list.put(control + step * k as u64, 0);
@@ -110,5 +116,8 @@ pub fn write_list(setup: Setup, taken: &[Entry], plan: &[Place; PLACES], out: &m
         list.put(control + step * k as u64, settings.words[k as usize]);
     }
     list.put(global, setup.global(settings.used));
+    if let Some(value) = u_box {
+        list.put(u_box::ADDRESS, value);
+    }
     Some(count)
 }

@@ -3,13 +3,13 @@
 use super::reader::Registers;
 use super::writes::Write;
 use crate::planner::devices::Setup;
-use crate::planner::PLACES;
+use crate::planner::{u_box, PLACES};
 
 /// The registers after the writes, from registers with all bits set.
 pub fn applied(setup: Setup, writes: &[Write]) -> Registers {
     let all = u64::MAX;
     let control = [all; PLACES];
-    let mut r = Registers { control, rsp: [all; 2], mm_cfg: all, match_word: all, mask_word: all, global: all };
+    let mut r = Registers { control, rsp: [all; 2], mm_cfg: all, match_word: all, mask_word: all, global: all, u_box: all };
     for (address, value) in writes {
         if let Some(register) = register(setup, &mut r, *address) {
             *register = *value;
@@ -31,6 +31,7 @@ pub fn register(setup: Setup, r: &mut Registers, address: u64) -> Option<&mut u6
         0xE48 => Some(&mut r.mm_cfg),
         0xE49 => Some(&mut r.match_word),
         0xE4A => Some(&mut r.mask_word),
+        u_box::ADDRESS => Some(&mut r.u_box),
         _ => None,
     }
 }

@@ -14,6 +14,7 @@ pub struct Registers {
     pub match_word: u64,
     pub mask_word: u64,
     pub global: u64,
+    pub u_box: u64,
 }
 
 #[derive(Clone, Copy, PartialEq, Eq, Debug)]
@@ -29,7 +30,7 @@ fn state_of(setup: Setup, r: &Registers, word: u64) -> Option<State> {
     let counts = |register, words| Some(State::Counts { code, mask, register, words });
     match (setup.device.filters, code, mask) {
         _ if word == 0 => Some(State::Off),
-        _ if enable != setup.device.enable => None,
+        _ if enable != setup.enable() => None,
         (Filters::OffcoreResponse, 0xB7, 1 | 2) => counts(Some(mask - 1), [Some(r.rsp[mask as usize - 1]), None]),
         (Filters::PacketMatch, 0, 0) => counts(None, [Some(r.match_word), Some(r.mask_word)]),
         _ => {
@@ -79,9 +80,10 @@ fn filters_held(setup: Setup, r: &Registers, states: &[State]) -> bool {
     }
 }
 
-/// What the reader answers: the state of each counter, or the number of the refusal.
+/// What the reader answers: the state of each counter, or the number of the refusal, 3 for every opening that is refused. The
+/// U-Box register is looked at only where something is asked of an overflow.
 pub fn read(opening: Opening, r: &Registers) -> Result<Vec<State>, u64> {
-    let setup = Setup::of(opening)?;
+    let setup = Setup::of(opening).map_err(|_| 3u64)?;
     let mut states = Vec::new();
     let mut used = 0;
     for k in 0..setup.device.counters {
@@ -93,7 +95,8 @@ pub fn read(opening: Opening, r: &Registers) -> Result<Vec<State>, u64> {
             used |= 1 << k;
         }
     }
-    match filters_held(setup, r, &states) && r.global == setup.global(used) {
+    let enabled = r.global == setup.global(used) && setup.u_box().is_none_or(|value| r.u_box == value);
+    match filters_held(setup, r, &states) && enabled {
         true => Ok(states),
         false => Err(15),
     }

@@ -1,23 +1,24 @@
 //! The write list of a plan, in the order of document 01, 'Writes, in order'.
 
-use crate::planner::devices::{Device, Filters, Setup};
+use crate::planner::devices::{Filters, Setup};
 use crate::planner::requests::{latency_words, Place, Request};
+use crate::planner::u_box;
 
 /// An address and the value to write there.
 pub type Write = (u64, u64);
 
-/// The event word: code and unit mask beside the device's enable bits.
-fn event_word(device: &Device, code: u64, mask: u64) -> u64 {
-    device.enable + 0x100 * mask + code
+/// The event word: code and unit mask beside the session's enable bits.
+fn event_word(setup: Setup, code: u64, mask: u64) -> u64 {
+    setup.enable() + 0x100 * mask + code
 }
 
 /// The counters that a request uses, each with its event word.
-fn words_of(device: &Device, request: Request, place: Place) -> Vec<(u8, u64)> {
+fn words_of(setup: Setup, request: Request, place: Place) -> Vec<(u8, u64)> {
     match (request, place) {
-        (Request::Event { code, mask, .. }, Place::Counter(k)) => vec![(k, event_word(device, code as u64, mask as u64))],
-        (Request::Packet { .. }, Place::Counter(k)) => vec![(k, event_word(device, 0, 0))],
-        (Request::Offcore { .. }, Place::WithRsp(k, rsp)) => vec![(k, event_word(device, 0xB7, rsp as u64 + 1))],
-        (Request::Latency { .. }, Place::Pair(j, k)) => vec![(j, event_word(device, 0xB7, 1)), (k, event_word(device, 0xB7, 2))],
+        (Request::Event { code, mask, .. }, Place::Counter(k)) => vec![(k, event_word(setup, code as u64, mask as u64))],
+        (Request::Packet { .. }, Place::Counter(k)) => vec![(k, event_word(setup, 0, 0))],
+        (Request::Offcore { .. }, Place::WithRsp(k, rsp)) => vec![(k, event_word(setup, 0xB7, rsp as u64 + 1))],
+        (Request::Latency { .. }, Place::Pair(j, k)) => vec![(j, event_word(setup, 0xB7, 1)), (k, event_word(setup, 0xB7, 2))],
         _ => panic!("{place:?} is no place for {request:?}"),
     }
 }
@@ -45,11 +46,12 @@ fn packet_match(requests: &[Request]) -> Vec<Write> {
     vec![(0xE48, 0)]
 }
 
-pub fn list_of(setup: Setup, requests: &[Request], plan: &[Place]) -> Vec<Write> {
+/// The writes to the registers of the device itself.
+fn device_list(setup: Setup, requests: &[Request], plan: &[Place]) -> Vec<Write> {
     let device = setup.device;
     let at = setup.addresses();
     let given = requests.iter().zip(plan);
-    let mut words: Vec<(u8, u64)> = given.flat_map(|(request, place)| words_of(device, *request, *place)).collect();
+    let mut words: Vec<(u8, u64)> = given.flat_map(|(request, place)| words_of(setup, *request, *place)).collect();
     words.sort();
     let usable = (0..device.counters).filter(|k| setup.usable >> k & 1 == 1);
     let used: u64 = words.iter().map(|(k, _)| 1 << k).sum();
@@ -65,4 +67,13 @@ pub fn list_of(setup: Setup, requests: &[Request], plan: &[Place]) -> Vec<Write>
     list.extend(words.iter().map(|&(k, word)| (at.control + at.step * k as u64, word)));
     list.push((at.global, setup.global(used)));
     list
+}
+
+/// Order 7: where something is asked of an overflow, the U-Box register is written before and after, first with 0.
+pub fn list_of(setup: Setup, requests: &[Request], plan: &[Place]) -> Vec<Write> {
+    let list = device_list(setup, requests, plan);
+    match setup.u_box() {
+        None => list,
+        Some(value) => [vec![(u_box::ADDRESS, 0)], list, vec![(u_box::ADDRESS, value)]].concat(),
+    }
 }
