@@ -1,5 +1,5 @@
-// Three long mixed transcripts, one for each device, the two examples, one with fixed counters on, and one that freezes and interrupts, each
-// in a session of its own.
+// Three long mixed transcripts, one for each device, the two examples, one with fixed counters on, one that freezes and interrupts, and eight
+// of single turns, each in a session of its own.
 // The blocks are short and the output has room for little more than one reply, so lines are cut, and blocks are answered in parts.
 use libc::STDOUT_FILENO;
 
@@ -24,4 +24,12 @@ fn main() {
     answer_file(b"clock.txt");
     answer_file(b"c.txt");
     answer_file(b"freeze.txt");
+    answer_file(b"single_c_box.txt");
+    answer_file(b"single_empty_queue.txt");
+    answer_file(b"single_latency.txt");
+    answer_file(b"single_narrow.txt");
+    answer_file(b"single_no_such_line.txt");
+    answer_file(b"single_packets.txt");
+    answer_file(b"single_sixteen.txt");
+    answer_file(b"single_two_in_turn.txt");
 }
