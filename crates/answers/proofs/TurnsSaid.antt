@@ -31,7 +31,8 @@ use Rattle.sessions.specs.Turns.{requestsOf, fits, taken, passed, placesOf, ass
 use Rattle.sessions.specs.Calls.{Plain, notOpen, opened, waiting}
 use Rattle.sessions.specs.Calls as calls
 use Rattle.sessions.specs.Sessions.{queueLimit, plainOf, refusedBy, turnOf, turnSlice, planOf, answerTo}
-use Rattle.sessions.proofs.Lists.{all-left, all-right, all-map}
+use Rattle.layouts.proofs.ListLaws.{all-left}
+use Rattle.sessions.proofs.Lists.{all-right, all-map}
 use Rattle.sessions.proofs.Agreed.{answer-is}
 use Rattle.sessions.proofs.Rearranged.{all-turned}
 use Rattle.sessions.proofs.Refused.{unchanged}

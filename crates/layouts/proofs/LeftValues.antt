@@ -24,7 +24,7 @@ use Rattle.plans.specs.declared.Place.{Place}
 use Rattle.plans.specs.Lists.{All, nil, OneValue}
 use Rattle.plans.specs.Legal.{Legal, wordsOf, packetsOf, ofAll, counters}
 use Rattle.plans.proofs.Sets.{all-imp}
-use Rattle.layouts.specs.Layout.{filtersAt, rsp0At, rsp1At, mmCfgAt, matchAt, maskAt, mmEnable, enabled, eventWord, offcoreCode, rspMask, rspWord, packetWord}
+use Rattle.layouts.specs.Layout.{filtersAt, rsp0At, rsp1At, mmCfgAt, matchAt, maskAt, mmEnable, eventWord, rspWord, packetWord}
 use Rattle.layouts.specs.Settings.{wordAt, setFrom, headOr, nonempty, settingsOf}
 use Rattle.layouts.specs.Writes.{lastGlobal, uboxValue, offcoreWrites, packetWrites, filterWrites, writes, apply}
 use Rattle.layouts.specs.Read.{ours, noCounter, filterWord, controlFits, uboxFits, accepts, tell, cell, readingOf}

@@ -1,12 +1,16 @@
 -- Laws of lists: what holds of all elements, the one value of a list, tables by the number of each element, and lists that are stored. Assumes nothing.
-use mathlib.Core.Path.{_≡_, refl, ap, sym, subst, _∙_}
+use mathlib.Core.Path.{_≡_, refl, ap, ap₂, sym, subst, _∙_}
 use mathlib.Core.Logic.{_⊎_, inl, inr}
-use mathlib.Core.List.{List, [], _∷_, _++_, map, map-append, List·Memᴰ, List·Memᴰ·head, List·Memᴰ·tail, List·Memᴰ·append-cases, List·Memᴰ·eq-of-singleton, List·Memᴰ·not-nil}
+use mathlib.Core.Bool.{true}
+use mathlib.Core.List.{List, [], _∷_, _++_, map, map-append, List·Memᴰ, List·Memᴰ·head, List·Memᴰ·tail, List·Memᴰ·append-cases, List·Memᴰ·eq-of-singleton, List·Memᴰ·not-nil, Memᴰ·append-left, Memᴰ·append-right}
 use Prim.Native.Nat.{ℕ, zero, suc, _+_, _<_}
 use native.Mathlib.Nat.{le-refl}
+use native.Mathlib.Decide.{ℕ-discrete}
 use native.Mathlib.Omega.{arith}
 use lib.ListN.{length, getD, set, replicate}
 use lib.Seq.{sets}
+use Rattle.requests.specs.Bits.{inList}
+use Rattle.requests.proofs.BitMembers.{in-member, member-in}
 use Rattle.plans.specs.Lists.{All, nil, cons, OneValue}
 use Rattle.plans.proofs.Sets.{all-imp}
 use Rattle.layouts.specs.Layout.{tabulate}
@@ -16,6 +20,11 @@ module _ {A : Type 0} {P : A → Type 0} where
   pub all-member : {a : A} {l : List A} → All P l → List·Memᴰ a l → P a
   all-member (cons h hs) (List·Memᴰ·head e) = subst P (sym e) h
   all-member (cons h hs) (List·Memᴰ·tail m) = all-member hs m
+
+  -- the front of a list
+  pub all-left : (xs ys : List A) → All P (xs ++ ys) → All P xs
+  all-left [] ys h = nil
+  all-left (x ∷ xs) ys (cons h hs) = cons h (all-left xs ys hs)
 
   -- the first element, where there is one
   pub all-head : (a : A) (l : List A) → P a → All P l → P (headOr a l)
@@ -67,3 +76,23 @@ sets-append l i [] ys = ap (λ (k : ℕ). sets l k ys) (let e : i ≡ i + 0 = om
 sets-append l i (x ∷ xs) ys =
     sets-append (set l i x) (suc i) xs ys
     ∙ ap (λ (k : ℕ). sets (sets (set l i x) (suc i) xs) k ys) (let e : suc i + length xs ≡ i + suc (length xs) = omega arith in e)
+
+-- a list whose elements are each left as they were
+pub map-same : {A : Type 0} (f : A → A) {l : List A} → All (λ (a : A). f a ≡ a) l → map f l ≡ l
+map-same f nil = refl
+map-same f (cons h hs) = ap₂ _∷_ h (map-same f hs)
+
+-- two lists changed one after the other
+pub map-joined : {A : Type 0} (f : A → A) (xs ys : List A) {zs ws : List A} → map f xs ≡ zs → map f ys ≡ ws → map f (xs ++ ys) ≡ zs ++ ws
+map-joined f xs ys e q = map-append f xs ys ∙ ap₂ _++_ e q
+
+-- what a table has at a number is in it
+pub table-in : (n : ℕ) (f : ℕ → ℕ) (k : ℕ) → k < n → inList (tabulate n f) (f k) ≡ true
+unfolding tabulate
+table-in zero f k l = absurd (omega arith)
+table-in (suc n) f k l =
+    member-in (tabulate n f ++ f n ∷ []) (f k)
+    (elim (ℕ-discrete n k) [
+      | yes e ↦ Memᴰ·append-right (tabulate n f) (List·Memᴰ·head (ap f (sym e)))
+      | no o ↦ Memᴰ·append-left (f n ∷ []) (in-member (tabulate n f) (f k) (table-in n f k (let y = o in omega arith)))
+    ])

@@ -3,9 +3,9 @@
 --     control-after, global-after, filter-after   the registers of a device after `writesFor`
 --     box-all, writes-all                       what holds of every write of `boxWrites` and of `writesFor`
 --     inside-after, ubox-after                  the frame of the U-Box: other registers, and its own
-use mathlib.Core.Path.{_≡_, refl, sym, ap, _∙_}
+use mathlib.Core.Path.{_≡_, refl, sym, ap, ap₂, _∙_}
 use mathlib.Core.Bool.{Bool, true, false}
-use mathlib.Core.List.{List, [], _∷_, _++_, List·Memᴰ, List·Memᴰ·head, List·Memᴰ·tail, append-nil}
+use mathlib.Core.List.{List, [], _∷_, _++_, List·Memᴰ, List·Memᴰ·head, List·Memᴰ·tail, append-nil, map, map-append}
 use Prim.Native.Nat.{ℕ, zero, suc, _+_, _*_, _<_}
 use native.Mathlib.Nat.{le-refl}
 use native.Mathlib.Decide.{ℕ-discrete}
@@ -64,6 +64,20 @@ module _ (P : Write → Type 0) (s : CounterSet) (base step : ℕ) (values : Lis
       one : (b : Bool) → has s m ≡ b → All P (row b (base + step * m) (getD values m 0))
       one true e = cons (h m (le-refl (suc m)) e) nil
       one false e = nil
+
+-- the writes of a set, changed one by one
+pub rows-map : (f : Write → Write) (u : CounterSet) (base step : ℕ) (vs ws : List ℕ) (n : ℕ)
+    → ((k : ℕ) → k < n → has u k ≡ true → f (base + step * k, getD vs k 0) ≡ (base + step * k, getD ws k 0))
+    → map f (rows n u base step vs) ≡ rows n u base step ws
+unfolding rows
+rows-map f u base step vs ws zero h = refl
+rows-map f u base step vs ws (suc n) h =
+    map-append f (rows n u base step vs) (row (has u n) (base + step * n) (getD vs n 0))
+    ∙ ap₂ _++_ (rows-map f u base step vs ws n (λ k l. h k (omega arith))) (one (has u n) refl)
+  where
+    one : (b : Bool) → has u n ≡ b → map f (row b (base + step * n) (getD vs n 0)) ≡ row b (base + step * n) (getD ws n 0)
+    one true e = ap (λ (w : Write). w ∷ []) (h n (le-refl (suc n)) e)
+    one false e = refl
 
 -- what holds of one write, if it is there
 pub row-all : (P : Write → Type 0) (b : Bool) (address value : ℕ) → (b ≡ true → P (address, value)) → All P (row b address value)

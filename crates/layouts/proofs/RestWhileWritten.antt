@@ -20,12 +20,12 @@ use Rattle.plans.specs.declared.Place.{Place}
 use Rattle.plans.specs.Lists.{All, nil, cons}
 use Rattle.plans.specs.Legal.{Usable, Legal, packetsOf, counters}
 use Rattle.plans.proofs.Sets.{all-append, all-imp}
-use Rattle.layouts.specs.Layout.{layoutOf, controlAt, counterAt, filtersAt, rsp0At, rsp1At, mmCfgAt, matchAt, maskAt, mmEnable}
+use Rattle.layouts.specs.Layout.{layoutOf, controlAt, counterAt, filtersAt, rsp0At, rsp1At, mmCfgAt, matchAt, maskAt, uboxAt, mmEnable}
 use Rattle.layouts.specs.Settings.{headOr, nonempty, settingsOf}
 use Rattle.layouts.specs.Writes.{Write, rows, zeros, firstGlobal, lastGlobal, offcoreWrites, packetWrites, filterWrites, uboxValue, boxWrites, writesFor, writes}
 use Rattle.layouts.specs.RestWhileWritten.{LastWritten, EnablesNone, Disabled, Cleared, Quiet, Matching, AtRest, StoppedFirst, EnabledLast, Framed, RestWhileWritten}
 use Rattle.layouts.specs.declared.Settings.{Settings}
-use Rattle.layouts.proofs.ListLaws.{all-member, zero-at}
+use Rattle.layouts.proofs.ListLaws.{all-member, all-left, zero-at}
 use Rattle.layouts.proofs.UsableSets.{on}
 use Rattle.layouts.proofs.DeviceFacts.{in-room, apart}
 use Rattle.layouts.proofs.RegistersAfter.{rows-all, filter-addresses, box-other, unasked-writes}
@@ -271,21 +271,13 @@ enabled-last s t =
 
 -- ---- the frame of the U-Box
 
--- the writes before a place of the list are among its writes
-before-all : {P : Write → Type 0} (before : List Write) (w : Write) (later ws : List Write) → All P ws → ws ≡ before ++ w ∷ later → All P before
-before-all {P} before w later ws h e = all-before before (w ∷ later) (subst (All P) e h)
-  where
-    all-before : (xs ys : List Write) → All P (xs ++ ys) → All P xs
-    all-before [] ys h = nil
-    all-before (x ∷ xs) ys (cons h hs) = cons h (all-before xs ys hs)
-
 framed : (s : Setup) (t : Settings) → asked s ≡ true → Framed (boxWrites s t) (writesFor s t)
 unfolding writesFor
 framed s t h =
     record {
       value = uboxValue s;
       list = rw h;
-      stopped = λ before w later e. record { earlier = []; since = before; list = refl; no-other = before-all before w later (boxWrites s t) (box-other s t) e };
+      stopped = λ before w later e. record { earlier = []; since = before; list = refl; no-other = all-left before (w ∷ later) (subst (All (λ (x : Write). x .0 ≢ uboxAt)) e (box-other s t)) };
     }
 
 pub rest-while-written : RestWhileWritten

@@ -2,22 +2,19 @@
 use mathlib.Core.Path.{_≡_, refl, sym, ap, ap₂, _∙_}
 use mathlib.Core.Logic.{_≢_, ⊎-elim}
 use mathlib.Core.Bool.{Bool, true, false, not, false≢true}
-use mathlib.Core.List.{List, [], _∷_, _++_, map, map-append, List·Memᴰ·head, Memᴰ·append-left, Memᴰ·append-right}
+use mathlib.Core.List.{List, [], _∷_, _++_, map, map-append}
 use mathlib.Core.Option.{none, some}
 use Prim.Native.Nat.{ℕ, zero, suc, _+_, _*_, _^_, _≤_, _<_}
-use native.Mathlib.Nat.{le-refl}
-use native.Mathlib.Decide.{ℕ-discrete}
 use native.Mathlib.Omega.{arith}
-use lib.Dec.{eqb, ltb}
+use lib.Dec.{eqb}
 use lib.ListN.{getD}
-use borrow.Author.Tests.{ne-eqb, not-true}
+use borrow.Author.Tests.{ne-eqb}
 use Rattle.requests.specs.declared.Core.{Core}
 use Rattle.requests.specs.declared.Core.the-variants.{NoCore, At}
 use Rattle.requests.specs.declared.CounterSet.{CounterSet}
 use Rattle.requests.specs.declared.Device.{Device}
 use Rattle.requests.specs.declared.Device.the-variants.{G, S, C}
 use Rattle.requests.specs.declared.Opening.{Opening}
-use Rattle.requests.specs.declared.Overflow.{Overflow}
 use Rattle.requests.specs.declared.Request.{Request}
 use Rattle.requests.specs.declared.Request.the-variants.{Event, Packet, Offcore, Latency}
 use Rattle.requests.specs.declared.Setup.{Setup}
@@ -27,27 +24,26 @@ use Rattle.requests.specs.Bits.{bit, inList}
 use Rattle.requests.specs.Askings.{overflowOn, coreCount, unasked, coreGiven, asks, asked}
 use Rattle.requests.specs.Devices.{has, counterCount, capacity, setupOf}
 use Rattle.requests.specs.Openings.{NothingAsked, CoreInField, InRange}
-use Rattle.requests.proofs.Tests.{both-parts, true-both, both-false, both-ways, either-cases}
-use Rattle.requests.proofs.BitMembers.{in-member, member-in}
+use Rattle.requests.proofs.Tests.{both-false}
+use Rattle.requests.proofs.BitMembers.{in-member}
 use Rattle.requests.proofs.OpeningsTaken.{openings}
 use Rattle.plans.specs.declared.Place.{Place}
 use Rattle.plans.specs.Lists.{All, nil, cons}
 use Rattle.plans.specs.Places.{second}
 use Rattle.plans.specs.Legal.{Legal, Usable, ofAll, counters}
 use Rattle.plans.proofs.Sets.{all-append, all-imp}
-use Rattle.layouts.specs.Layout.{tabulate, layoutOf, controlAt, counterAt, uboxAt, frzAll, enAll, coreSel, enabledOn, pmiEnable, enabled, eventWord, offcoreCode, rspMask, rspWord, packetWord}
+use Rattle.layouts.specs.Layout.{tabulate, layoutOf, controlAt, uboxAt, frzAll, enAll, coreSel, pmiEnable, enabled, eventWord, offcoreCode, rspMask, rspWord, packetWord}
 use Rattle.layouts.specs.Settings.{usesOf, wordAt, settingsOf}
-use Rattle.layouts.specs.Writes.{Write, row, rows, zeros, fixedEnables, unusable, firstGlobal, lastGlobal, offcoreWrites, packetWrites, filterWrites, coreBit, uboxValue, boxWrites, writesFor, writes}
+use Rattle.layouts.specs.Writes.{Write, rows, zeros, fixedEnables, unusable, firstGlobal, lastGlobal, filterWrites, coreBit, uboxValue, boxWrites, writesFor, writes}
 use Rattle.layouts.specs.Read.{readOf}
 use Rattle.layouts.specs.UBox.{askingNothing, withPmi, coreField, lastValue, UBox}
 use Rattle.layouts.specs.declared.RegisterValues.{RegisterValues}
-use Rattle.layouts.specs.declared.Settings.{Settings}
-use Rattle.layouts.proofs.ListLaws.{all-member, tabulate-member, zero-at}
+use Rattle.layouts.proofs.ListLaws.{all-member, tabulate-member, map-same, map-joined, table-in, zero-at}
 use Rattle.layouts.proofs.Tabulated.{getD-tabulate}
 use Rattle.layouts.proofs.WordBits.{bit-high}
-use Rattle.layouts.proofs.DeviceFacts.{facts, in-room, apart}
+use Rattle.layouts.proofs.DeviceFacts.{in-room, apart}
 use Rattle.layouts.proofs.EnableBits.{enables}
-use Rattle.layouts.proofs.RegistersAfter.{filter-addresses, box-other, unasked-writes}
+use Rattle.layouts.proofs.RegistersAfter.{rows-map, filter-addresses, box-other, unasked-writes}
 use Rattle.layouts.proofs.GlobalValues.{used-has}
 use Rattle.layouts.proofs.Counts.{counterOf}
 use Rattle.layouts.proofs.FormedRequests.{describe-all}
@@ -85,17 +81,6 @@ value-is o s e n =
 
 -- ---- what pmi_en is added to
 
--- what a table has at a number is in it
-table-in : (n : ℕ) (f : ℕ → ℕ) (k : ℕ) → k < n → inList (tabulate n f) (f k) ≡ true
-unfolding tabulate
-table-in zero f k l = absurd (omega arith)
-table-in (suc n) f k l =
-    member-in (tabulate n f ++ f n ∷ []) (f k)
-    (elim (ℕ-discrete n k) [
-      | yes e ↦ Memᴰ·append-right (tabulate n f) (List·Memᴰ·head (ap f (sym e)))
-      | no o ↦ Memᴰ·append-left (f n ∷ []) (in-member (tabulate n f) (f k) (table-in n f k (let y = o in omega arith)))
-    ])
-
 module _ (s : Setup) where
   abbrev d : Device
   d = s .device
@@ -123,29 +108,6 @@ module _ (s : Setup) where
   select-more k w l on = rw (table-in (counterCount (s .device)) (controlAt (s .device)) k l, ne-eqb w 0 on)
 
 -- ---- the parts of the list
-
--- a list of writes that are each as they were
-map-same : (f : Write → Write) {ws : List Write} → All (λ (w : Write). f w ≡ w) ws → map f ws ≡ ws
-map-same f nil = refl
-map-same f (cons h hs) = ap₂ _∷_ h (map-same f hs)
-
--- two lists changed one after the other
-joined : (f : Write → Write) (xs ys : List Write) {zs ws : List Write} → map f xs ≡ zs → map f ys ≡ ws → map f (xs ++ ys) ≡ zs ++ ws
-joined f xs ys e q = map-append f xs ys ∙ ap₂ _++_ e q
-
--- the writes of a set, changed one by one
-rows-map : (f : Write → Write) (u : CounterSet) (base step : ℕ) (vs ws : List ℕ) (n : ℕ)
-    → ((k : ℕ) → k < n → has u k ≡ true → f (base + step * k, getD vs k 0) ≡ (base + step * k, getD ws k 0))
-    → map f (rows n u base step vs) ≡ rows n u base step ws
-unfolding rows
-rows-map f u base step vs ws zero h = refl
-rows-map f u base step vs ws (suc n) h =
-    map-append f (rows n u base step vs) (row (has u n) (base + step * n) (getD vs n 0))
-    ∙ ap₂ _++_ (rows-map f u base step vs ws n (λ k l. h k (omega arith))) (one (has u n) refl)
-  where
-    one : (b : Bool) → has u n ≡ b → map f (row b (base + step * n) (getD vs n 0)) ≡ row b (base + step * n) (getD ws n 0)
-    one true e = ap (λ (w : Write). w ∷ []) (h n (le-refl (suc n)) e)
-    one false e = refl
 
 -- a use with pmi_en
 abbrev more : ℕ × ℕ → ℕ × ℕ
@@ -251,11 +213,11 @@ module _ (s : Setup) (rs : List Request) (ps : List Place) (legal : Legal s rs p
       let first : List Write = (l .global, firstGlobal s) ∷ [] in
       let cleared : List Write = rows n (s .usable) (l .control) (l .step) zeros in
       let counted : List Write = rows n (t .used) (l .counter) (l .step) zeros in
-      let two = joined f first cleared (global (firstGlobal s)) (zeroed (s .usable) (l .control)) in
-      let three = joined f (first ++ cleared) (filterWrites d t) two filters in
-      let four = joined f (first ++ cleared ++ filterWrites d t) counted three (zeroed (t .used) (l .counter)) in
-      let five = joined f (first ++ cleared ++ filterWrites d t ++ counted) (rows n (t .used) (l .control) (l .step) (t .words)) four selects in
-      joined f (first ++ cleared ++ filterWrites d t ++ counted ++ rows n (t .used) (l .control) (l .step) (t .words)) ((l .global, lastGlobal s (t .used .0)) ∷ []) five (global (lastGlobal s (t .used .0)))
+      let two = map-joined f first cleared (global (firstGlobal s)) (zeroed (s .usable) (l .control)) in
+      let three = map-joined f (first ++ cleared) (filterWrites d t) two filters in
+      let four = map-joined f (first ++ cleared ++ filterWrites d t) counted three (zeroed (t .used) (l .counter)) in
+      let five = map-joined f (first ++ cleared ++ filterWrites d t ++ counted) (rows n (t .used) (l .control) (l .step) (t .words)) four selects in
+      map-joined f (first ++ cleared ++ filterWrites d t ++ counted ++ rows n (t .used) (l .control) (l .step) (t .words)) ((l .global, lastGlobal s (t .used .0)) ∷ []) five (global (lastGlobal s (t .used .0)))
 
   list-more : writes s rs ps ≡ (0x0C00, 0) ∷ map (withPmi s) (writes (askingNothing s) rs ps) ++ (0x0C00, uboxValue s) ∷ []
   unfolding writes writesFor uboxAt

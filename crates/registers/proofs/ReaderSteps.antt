@@ -10,7 +10,7 @@ use borrow.Author.Tests.{eq-eqb, ne-eqb}
 use Rattle.requests.specs.declared.Device.{Device}
 use Rattle.requests.specs.declared.Device.the-variants.{G, S, C}
 use Rattle.requests.specs.declared.Setup.{Setup}
-use Rattle.requests.specs.Choice.{both, every, pick}
+use Rattle.requests.specs.Choice.{both, every}
 use Rattle.requests.specs.Devices.{counterCount}
 use Rattle.layouts.specs.Layout.{rspWord, packetWord}
 use Rattle.layouts.specs.Settings.{setFrom}

@@ -5,6 +5,7 @@ use mathlib.Core.List.{List, [], _∷_, _++_, map, flatMap, List·Memᴰ, List·
 use Prim.Native.Nat.{ℕ, zero, suc}
 use lib.ListN.{take}
 use Rattle.plans.specs.Lists.{All, nil, cons, Pairwise, empty, add}
+use Rattle.layouts.proofs.ListLaws.{all-left}
 
 -- ---- all elements
 
@@ -16,10 +17,6 @@ module _ {A : Type 0} {P : A → Type 0} where
   pub all-right : (a : List A) {b : List A} → All P (a ++ b) → All P b
   all-right [] p = p
   all-right (x ∷ a) (cons h p) = all-right a p
-
-  pub all-left : (a b : List A) → All P (a ++ b) → All P a
-  all-left [] b p = nil
-  all-left (x ∷ a) b (cons h p) = cons h (all-left a b p)
 
 -- ---- a function of each element
 

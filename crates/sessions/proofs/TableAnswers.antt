@@ -16,7 +16,7 @@ use Rattle.requests.specs.declared.Setup.{Setup}
 use Rattle.requests.specs.declared.Request.{Request}
 use Rattle.requests.specs.declared.Entry.{Entry}
 use Rattle.requests.specs.declared.Refusal.{Refusal}
-use Rattle.requests.specs.declared.Refusal.the-variants.{CallOrder, BadOpening, BadId, IdWaiting, IdNotWaiting, OutOfRange, NoPlanAlone, QueueFull, SliceTooShort}
+use Rattle.requests.specs.declared.Refusal.the-variants.{CallOrder, BadId, IdWaiting, IdNotWaiting, OutOfRange, NoPlanAlone, QueueFull, SliceTooShort}
 use Rattle.requests.specs.declared.Opened.{Opened}
 use Rattle.requests.specs.declared.Opened.the-variants.{With}
 use Rattle.requests.specs.declared.Answer.{Answer}

@@ -66,7 +66,7 @@ refusedBy s c = refusal queueLimit (plainOf s) c
 unfoldable pub answered : Option Refusal → Session → Session → Answered
 answered x old new = record { answer = answerFor x; session = unlessRefused x old new }
 
--- "open: device, usable set" up to all counters, fixed enables, and the box on C. "Once."
+-- "open: device, usable set" up to all counters, fixed enables, the box on C, freeze and core. "Once."
 unfoldable pub openOf : Session → Opening → Answered
 openOf s o = answered (refusedBy s (Open o)) s (elim (setupOf o) [ none ↦ s | some t ↦ sessionOf t [] ])
 

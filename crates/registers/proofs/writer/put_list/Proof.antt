@@ -3,7 +3,6 @@ use native.Mathlib.Omega.{arith}
 use borrow.Author.Needs.{needs}
 use Rattle.requests.specs.Askings.{asked}
 use Rattle.layouts.specs.Layout.{uboxAt}
-use Rattle.layouts.specs.Writes.{uboxValue}
 use Rattle.registers.proofs.Appending.{length-row}
 use Rattle.registers.proofs.WriteLengths.{length-framed, list-appended}
 use Rattle.registers.proofs.writer.put_list.Statement.{statement}

@@ -5,13 +5,12 @@ use Rattle.requests.specs.Askings.{coreGiven}
 use Rattle.requests.proofs.askings.core_given.Statement.{statement}
 use Rattle.requests.proofs.askings.core_given.Tie as tie
 
-returns : tie.Need-returns
-unfolding coreGiven
-returns c = rw (c .enum-told .given .1)
-
-returns-2 : tie.Need-returns-2
-unfolding coreGiven
-returns-2 c = rw (c .enum-told2 .given .1)
-
 pub core-given-spec : {M : Type 1} → statement M
-core-given-spec = tie.close (tie.spec (λ c. search needs) (λ c. search needs) returns returns-2)
+unfolding coreGiven
+core-given-spec =
+    tie.close
+    (tie.spec
+    (λ c. search needs)
+    (λ c. search needs)
+    (λ c. rw (c .enum-told .given .1))
+    (λ c. rw (c .enum-told2 .given .1)))
