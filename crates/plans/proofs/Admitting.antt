@@ -112,6 +112,10 @@ pick-then : (b : Bool) (m : Room) (f : Room → Admission) → andThen (pick b (
 pick-then true m f = refl
 pick-then false m f = refl
 
+neither : (b : Bool) → pick b NoRoom NoRoom ≡ NoRoom
+neither true = refl
+neither false = refl
+
 either-then : (b p q : Bool) (m l : Room) (f : Room → Admission)
     → andThen (pick b (pick p (Admitted m) NoRoom) (pick q (Admitted l) NoRoom)) f ≡ pick b (pick p (f m) NoRoom) (pick q (f l) NoRoom)
 either-then true p q m l f = pick-then p m f
@@ -138,10 +142,6 @@ module _ (rows : List ℕ) (choice : CounterSet) where
   offcore-missing held0 held1 left0 left1 k j h =
       rw (counter-missing choice k (roomOf rows left0) (not-available choice (left0 .free) k h), counter-missing choice k (roomOf rows left1) (not-available choice (left1 .free) k h))
       (rw (neither held0, neither held1) (neither (eqb j 0)))
-    where
-      neither : (b : Bool) → pick b NoRoom NoRoom ≡ NoRoom
-      neither true = refl
-      neither false = refl
 
   module _ (b : CounterSet) (used : Left) (j : ℕ) where
     pub pair-chosen : (a : CounterSet) (k : ℕ) → has choice j ≡ available a (used .free) j → pairTaken rows a b used j k ≡ pairTaken rows choice b used j k
@@ -173,6 +173,10 @@ module _ (rows : List ℕ) (at : ℕ) (left : Left) where
   offcore-asked w a held0 held1 r f g k j =
       rw (← f, ← g, offcore-used rows at 0 w a r, offcore-used rows at 1 w a r)
       (either-then (eqb j 0) held0 held1 _ _ (takeCounter a k))
+
+  pub offcore-differs : (w : ℕ) (a : CounterSet) (k j : ℕ) → holds (room .rsp0) w ≡ false → holds (room .rsp1) w ≡ false → admit (Offcore w a) k j room ≡ NoRoom
+  unfolding admit takeWord
+  offcore-differs w a k j f g = rw (f, g, neither (eqb j 0))
 
   module _ (t : ℕ) (a b : CounterSet) (j k : ℕ) where
     pub latency-held : (half used : Left) → half ≡ withRsp0 left (at + 1) → used ≡ withRsp1 half (at + 1) → Latency t a b ≡ requestAt rows at

@@ -5,6 +5,7 @@ pub mod Strict
 pub mod FirstFound
 mod CounterBits
 mod NextCounters
+mod CountersLeft
 mod OwnCounters
 pub mod RequestRows
 pub mod Unpacking

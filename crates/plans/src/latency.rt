@@ -9,6 +9,7 @@ ghost use Rattle.plans.specs.Remaining.{planFrom};
 ghost use Rattle.plans.specs.Packed.{packed};
 use crate::counters::available;
 use crate::counters::next_in;
+use crate::counters::without;
 use crate::filters::holds_word;
 use crate::left::Left;
 use crate::left::with_rsp0;
@@ -44,15 +45,15 @@ pub fn place_latency(
     let next = at + 1;
     let used = with_rsp1(with_rsp0(left, next), next);
     let free = used.free;
-    let choice = available(firsts, free);
-    let mut j = next_in(choice, 0);
-    while j < 64 {
+    let mut choice = available(firsts, free);
+    while choice.0 != 0 {
+        let j = next_in(choice, 0);
+        choice = without(choice, j);
         let rest = place_counter(n, rows, count, next, seconds, without_counter(used, j));
         if rest != 0 {
             // The second counter stands where a counter alone does, and goes behind the first.
             return rest / 64 * 64 + j * 8 + rest % 64 / 8;
         }
-        j = next_in(choice, j + 1);
     }
     0
 }

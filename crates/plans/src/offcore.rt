@@ -9,6 +9,7 @@ ghost use Rattle.plans.specs.Remaining.{planFrom};
 ghost use Rattle.plans.specs.Packed.{packed};
 use crate::counters::available;
 use crate::counters::next_in;
+use crate::counters::without;
 use crate::filters::holds_word;
 use crate::left::Left;
 use crate::left::with_rsp0;
@@ -35,11 +36,17 @@ pub fn place_offcore(
 {
     let held0 = holds_word(rows, 0, left.rsp0, word);
     let held1 = holds_word(rows, 1, left.rsp1, word);
+    if !held0 {
+        if !held1 {
+            return 0;
+        }
+    }
     let next = at + 1;
     let free = left.free;
-    let choice = available(allowed, free);
-    let mut k = next_in(choice, 0);
-    while k < 64 {
+    let mut choice = available(allowed, free);
+    while choice.0 != 0 {
+        let k = next_in(choice, 0);
+        choice = without(choice, k);
         let mut rest0: u64 = 0;
         if held0 {
             rest0 = place_from(
@@ -66,7 +73,6 @@ pub fn place_offcore(
         if rest1 != 0 {
             return rest1 * 64 + k * 8 + 1;
         }
-        k = next_in(choice, k + 1);
     }
     0
 }

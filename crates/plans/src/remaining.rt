@@ -8,6 +8,7 @@ ghost use Rattle.plans.specs.Remaining.{planFrom, planCounter};
 ghost use Rattle.plans.specs.Packed.{packed};
 use crate::counters::available;
 use crate::counters::next_in;
+use crate::counters::without;
 use crate::filters::holds_packet;
 use crate::latency::place_latency;
 use crate::left::Left;
@@ -33,14 +34,14 @@ pub fn place_counter(
     ensures { λ r. ⌜ r ≡ packed (planCounter n (now (rows .entry)) next count allowed (roomOf (now (rows .entry)) left)) ⌝ }
 {
     let free = left.free;
-    let choice = available(allowed, free);
-    let mut k = next_in(choice, 0);
-    while k < 64 {
+    let mut choice = available(allowed, free);
+    while choice.0 != 0 {
+        let k = next_in(choice, 0);
+        choice = without(choice, k);
         let rest = place_from(n, rows, count, next, without_counter(left, k));
         if rest != 0 {
             return rest * 64 + k * 8;
         }
-        k = next_in(choice, k + 1);
     }
     0
 }

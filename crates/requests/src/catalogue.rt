@@ -58,9 +58,10 @@ fn by_halving(device: Device, code: u8, mask: u8) -> Listing
 pub fn look_up(device: Device, code: u8, mask: u8) -> Listing
     ensures { λ r. ⌜ r ≡ listingOf device code mask ⌝ }
 {
+    // G and S are named in their calls, so that the compiler knows the rows.
     match device {
-        Device::G => row_by_row(device, code, mask),
-        Device::S => row_by_row(device, code, mask),
+        Device::G => row_by_row(Device::G, code, mask),
+        Device::S => row_by_row(Device::S, code, mask),
         Device::C(_) => by_halving(device, code, mask),
     }
 }

@@ -22,17 +22,17 @@ use Rattle.planner.proofs.add.add.Statement.{statement}
 use Rattle.planner.proofs.add.add.Tie as tie
 
 abbrev Inv-loop : tie.InvT-loop
-Inv-loop session id request n queue at₀ at = (n ≤ 16) × (length queue ≡ 16) × (at ≤ n) × Unmet queue (session .len) id at
+Inv-loop session id request setup n queue at₀ at = (n ≤ 16) × (length queue ≡ 16) × (at ≤ n) × Unmet queue (session .len) id at
 
 abbrev μ-loop : tie.MeasureT-loop
-μ-loop session id request n queue at₀ at = n - at
+μ-loop session id request setup n queue at₀ at = n - at
 
 abbrev Inv-loop2 : tie.InvT-loop2
-Inv-loop2 session id n queue₀ at answer len empty k₀ queue k =
+Inv-loop2 session id setup n queue₀ at answer len empty k₀ queue k =
     (length queue ≡ 16) × (n + 1 ≤ k) × (k ≤ 16) × (take k queue ≡ take (n + 1) queue₀ ++ replicate (k - (n + 1)) vacant)
 
 abbrev μ-loop2 : tie.MeasureT-loop2
-μ-loop2 session id n queue₀ at answer len empty k₀ queue k = 16 - k
+μ-loop2 session id setup n queue₀ at answer len empty k₀ queue k = 16 - k
 
 bounded-requires : tie.Need-bounded-requires Inv-loop μ-loop Inv-loop2 μ-loop2
 bounded-requires c κs = search needs
@@ -41,7 +41,7 @@ length-16 : (c : tie.Start Inv-loop μ-loop Inv-loop2 μ-loop2) → length (c .a
 length-16 c = search (length-mapped, needs)
 
 loop-holds : tie.Need-loop-holds Inv-loop μ-loop Inv-loop2 μ-loop2
-loop-holds c = (omega arith, length-16 (c .before .before), omega arith, unmet-none _ _ _)
+loop-holds c = (omega arith, length-16 (c .before .before .before), omega arith, unmet-none _ _ _)
 
 mul-entry : tie.Need-mul-entry Inv-loop μ-loop Inv-loop2 μ-loop2
 mul-entry c = omega arith
@@ -78,7 +78,7 @@ unfolding queued
 room c =
     let r = c .before .before in
     let l = r .before .before in
-    let a = l .before .before .before .args in
+    let a = l .before .before .before .before .args in
     let h = add-room (a .session) (a .id) (a .request) (sym (r .add-answer .ensures) ∙ c .enum-told .given .1) in
     omega (arith, h, length-take (a .session .len) (a .session .queue), l .loop .inv .1, l .before .before .bounded .ensures)
 
@@ -98,7 +98,7 @@ loop2-holds : tie.Need-loop2-holds Inv-loop μ-loop Inv-loop2 μ-loop2
 loop2-holds c =
     let l = c .before .before .before .before .before in
     let n = l .before .before .bounded .result in
-    let a = l .before .before .before .args in
+    let a = l .before .before .before .before .args in
     let front = take (n + 1) (set (a .session .queue) n (record { id = a .id; request = a .request })) in
     (rw length-set (l .loop .inv .1), omega arith, omega (arith, room (c .before)), filled-none vacant front (n + 1))
 
@@ -120,7 +120,7 @@ loop2-again c =
     let v = l .inv in
     let p = c .before .before .before .before .before .before .before .before .before in
     let n = p .bounded .result in
-    let a = p .before .args in
+    let a = p .before .before .args in
     let front = take (n + 1) (set (a .session .queue) n (record { id = a .id; request = a .request })) in (
       rw length-set (v .0),
       omega arith,
@@ -137,31 +137,36 @@ enum-told-2 c = search needs
 returns : tie.Need-returns Inv-loop μ-loop Inv-loop2 μ-loop2
 unfolding addOf queued
 returns c =
-    let m = c .before in
-    let l = m .before .before .before in
-    let a = l .before .before .before .args in
+    let f = c .before .loop2 in
+    let told = c .before .before .before in
+    let m = told .before .before in
+    let l = m .before .before in
+    let a = l .before .before .before .before .args in
     let s = a .session in
-    let r = m .before .add-answer in
+    let r = m .add-answer in
     let n = l .before .before .bounded .result in
-    ⊎-elim
-    (λ w.
     let e : Entry = record { id = a .id; request = a .request } in
     let q = queued s ++ (e ∷ []) in
-    let f = w .3 in
-    let all : f .k ≡ 16 = omega (arith, f .inv .2, w .4 .left) in
-    let fits = room (record { before = record { before = m .before; match = w .0 }; enum-told = w .1 }) in
+    let all : f .k ≡ 16 = omega (arith, f .inv .2, c .loop2-test .left) in
+    let fits = room told in
     let size = l .loop .inv .1 in
     let bound = l .before .before .bounded .ensures in
     let count : length q ≡ n + 1 = rw (length-append, length-take) (omega (arith, fits, bound, size)) in
     let pushed : take (n + 1) (set (s .queue) n e) ≡ q =
     rw (add-one n, take-suc-set (s .queue) n e (omega (arith, fits, size)), take-min (s .queue) (s .len) n (omega (arith, bound, size))) in
     let filled = session-filled (record { opened = s .opened; setup = s .setup; queue = f .queue; len = n + 1 }) (s .setup) q
-    (accepted-opened s (Add (a .id) (a .request)) (add-closed _ (a .id) (a .request)) (sym (r .ensures) ∙ w .1 .given .1)) refl
+    (accepted-opened s (Add (a .id) (a .request)) (add-closed _ (a .id) (a .request)) (sym (r .ensures) ∙ told .enum-told .given .1)) refl
     (sym count) (f .inv .0) (rw (count, ← pushed, ← all) (f .inv .3)) in
-    rw (w .5, w .6) (ap (λ (x : Session). record { answer = r .result; session = x }) filled
-    ∙ answered-accepted (r .result) (refusedBy s (Add (a .id) (a .request))) (r .ensures) s (sessionOf (s .setup) q) (w .1 .given .1)))
-    (λ w. rw (w .2, w .3) (answered-refused (r .result) (refusedBy s (Add (a .id) (a .request))) (r .ensures) s _ _ (w .1 .given .1)))
-    (m .match .came)
+    ap (λ (x : Session). record { answer = r .result; session = x }) filled
+    ∙ answered-accepted (r .result) (refusedBy s (Add (a .id) (a .request))) (r .ensures) s (sessionOf (s .setup) q) (told .enum-told .given .1)
+
+returns-2 : tie.Need-returns-2 Inv-loop μ-loop Inv-loop2 μ-loop2
+unfolding addOf queued
+returns-2 c =
+    let m = c .before .before in
+    let a = m .before .before .before .before .before .before .args in
+    let r = m .add-answer in
+    answered-refused (r .result) (refusedBy (a .session) (Add (a .id) (a .request))) (r .ensures) (a .session) _ _ (c .enum-told2 .given .1)
 
 pub add-spec : {M : Type 1} → statement M
 add-spec =
@@ -192,4 +197,5 @@ add-spec =
     loop2-again
     add-len
     enum-told-2
-    returns)
+    returns
+    returns-2)

@@ -1,5 +1,5 @@
 -- The counters that are allowed and free, tried in order (`counter-hit`, `counter-next`, `counters-skipped`). Assumes nothing.
-use mathlib.Core.Path.{_≡_, _∙_}
+use mathlib.Core.Path.{_≡_, refl, _∙_}
 use mathlib.Core.Bool.{true}
 use mathlib.Core.List.{List}
 use mathlib.Core.Option.{Option}
@@ -16,6 +16,7 @@ use Rattle.plans.specs.Filters.{roomOf}
 use Rattle.plans.specs.Remaining.{planAfter, planCounter}
 use Rattle.plans.specs.Packed.{packed}
 use Rattle.plans.proofs.CounterBits.{has-below, chosen-free, chosen-available}
+use Rattle.plans.proofs.CountersLeft.{From, least-there, taken-less, from-first, next-none, least-in, next-least, from-next}
 use Rattle.plans.proofs.Unpacking.{rest-code}
 use Rattle.plans.proofs.Leaving.{counter-leaves}
 use Rattle.plans.proofs.Admitting.{counter-taken}
@@ -26,15 +27,17 @@ use Rattle.plans.proofs.remaining.place_from.Reads as place-from
 use Rattle.plans.proofs.+latency-place_latency+offcore-place_offcore+remaining-place_counter+remaining-place_from.Lts-remaining-place_counter as place-counter-lts
 use Rattle.plans.proofs.counters.available.Reads as available-reads
 use Rattle.plans.proofs.counters.next_in.Reads as next-in-reads
+use Rattle.plans.proofs.counters.without.Reads as without-reads
 use Rattle.plans.proofs.left.without_counter.Reads as without-counter-reads
 
+-- the counters before p lead to no plan, and those from p on are left
 abbrev pub place-counter-Inv-loop : place-counter-lts.InvT-loop
-place-counter-Inv-loop n rows count next left choice k₀ k =
-    let tried = counters n rows next count choice (roomOf rows left) in
-    (k < 64 → has choice k ≡ true) × (firstFrom tried 0 (n - 0) ≡ firstFrom tried k (n - k))
+place-counter-Inv-loop n rows count next left choice₀ choice =
+    let tried = counters n rows next count choice₀ (roomOf rows left) in
+    (p : ℕ) × From choice₀ choice p × (firstFrom tried 0 (n - 0) ≡ firstFrom tried p (n - p))
 
 abbrev pub place-counter-μ-loop : place-counter-lts.MeasureT-loop
-place-counter-μ-loop n rows count next left choice k₀ k = 64 - k
+place-counter-μ-loop n rows count next left choice₀ choice = choice .0
 
 abbrev pub place-counter-claims : ℕ → place-counter-lts.Claims
 place-counter-claims t = (
@@ -42,6 +45,8 @@ place-counter-claims t = (
   available-reads.Learnt,
   next-in-reads.Asked,
   next-in-reads.Learnt,
+  without-reads.Asked,
+  without-reads.Learnt,
   without-counter-reads.Asked,
   without-counter-reads.Learnt,
   place-from-below t,
@@ -56,11 +61,11 @@ module _ (t : ℕ) where
 
   -- the counters are to be tried
   abbrev Ready : Type 0
-  Ready = place-counter-lts.After-next-in (place-counter-claims t) (place-counter-at t) place-counter.Post place-counter-Inv-loop place-counter-μ-loop
+  Ready = place-counter-lts.After-available (place-counter-claims t) (place-counter-at t) place-counter.Post place-counter-Inv-loop place-counter-μ-loop
 
   -- there is a counter to be tried
   abbrev Trying : Type 0
-  Trying = place-counter-lts.In-loop (place-counter-claims t) (place-counter-at t) place-counter.Post place-counter-Inv-loop place-counter-μ-loop
+  Trying = place-counter-lts.After-next-in (place-counter-claims t) (place-counter-at t) place-counter.Post place-counter-Inv-loop place-counter-μ-loop
 
   -- it is tried
   abbrev Tried : Type 0
@@ -68,10 +73,10 @@ module _ (t : ℕ) where
 
   module _ (c : Ready) where
     abbrev start : Start
-    start = c .before .before .before
+    start = c .before .before
 
     abbrev choice : CounterSet
-    choice = c .before .available .result
+    choice = c .available .result
 
     abbrev room : Room
     room = roomOf (start .args .rows .now) (start .args .left)
@@ -85,7 +90,7 @@ module _ (t : ℕ) where
     begun : planCounter (start .args .n) (start .args .rows .now) (start .args .next) (start .args .count) (start .args .allowed) room ≡ planned 0
     begun =
         let a = start .args in
-        rw (sub-zero (a .n)) (choice-plan (a .n) (a .rows .now) (a .next) (a .count) (a .allowed) room choice (c .before .available .ensures))
+        rw (sub-zero (a .n)) (choice-plan (a .n) (a .rows .now) (a .next) (a .count) (a .allowed) room choice (c .available .ensures))
 
     skipped : (k r : ℕ) → NextIn choice k r → planned k ≡ planned r
     skipped k r next =
@@ -94,23 +99,45 @@ module _ (t : ℕ) where
 
   module _ (c : Trying) where
     abbrev ready : Ready
-    ready = c .before .before
+    ready = c .before .before .before .before
+
+    -- the counters left
+    abbrev left : CounterSet
+    left = c .before .before .before .loop .choice
+
+    -- the counters before this one are passed over
+    abbrev passed-to : ℕ
+    passed-to = c .before .before .before .loop .inv .0
+
+    abbrev from : From (choice ready) left passed-to
+    from = c .before .before .before .loop .inv .1
 
     abbrev k : ℕ
-    k = c .before .loop .k
+    k = c .next-in .result
+
+    is-left : has left k ≡ true
+    is-left = least-there left k (omega arith) (c .before .if1 .taken) (c .next-in .ensures)
 
     there : has (choice ready) k ≡ true
-    there = c .before .loop .inv .0 (c .loop-test .taken)
+    there = least-in from k is-left (c .next-in .ensures)
+
+    reached : planned ready 0 ≡ planned ready k
+    reached =
+        c .before .before .before .loop .inv .2
+        ∙ skipped ready passed-to k (next-least from k is-left (c .next-in .ensures))
 
     free : has (start ready .args .left .free) k ≡ true
-    free = let a = start ready .args in chosen-free (a .allowed) (a .left .free) (choice ready) k (ready .before .available .ensures k) there
+    free = let a = start ready .args in chosen-free (a .allowed) (a .left .free) (choice ready) k (ready .available .ensures k) there
 
     below : k < start ready .args .n
     below = let s = start ready in has-below (s .args .n) (s .args .left .free) k (s .pre .1 .4 .below) free
 
+    k-small : k < 8
+    k-small = omega (arith, below, start ready .pre .1 .4 .few)
+
   module _ (c : Tried) where
     abbrev trying : Trying
-    trying = c .before .before
+    trying = c .before .before .before
 
     abbrev begin : Ready
     begin = ready trying
@@ -122,7 +149,7 @@ module _ (t : ℕ) where
         rest ≡ packed (planAfter (a .n) (a .rows .now) (a .next) (a .count) (takeCounter (choice begin) (k trying) (room begin)))
     rest-planned =
         let a = start begin .args in
-        let available = chosen-available (a .allowed) (a .left .free) (choice begin) (k trying) (begin .before .available .ensures (k trying)) (there trying) in
+        let available = chosen-available (a .allowed) (a .left .free) (choice begin) (k trying) (begin .available .ensures (k trying)) (there trying) in
         rw (counter-taken (a .rows .now) (choice begin) (k trying) (a .left) _ available (c .before .without-counter .ensures)) (c .place-from .ensures)
 
     rest-small : rest < 8796093022208
@@ -144,16 +171,20 @@ module _ (t : ℕ) where
 
 pub place-counter-loop-holds : (t : ℕ)
     → place-counter-lts.Need-loop-holds (place-counter-claims t) (place-counter-at t) place-counter.Post place-counter-Inv-loop place-counter-μ-loop
-place-counter-loop-holds t c = let next = c .next-in .ensures in (next .there, skipped t c 0 (c .next-in .result) next)
+place-counter-loop-holds t c = (0, from-first (choice t c), refl)
+
+pub place-counter-without-requires : (t : ℕ)
+    → place-counter-lts.Need-without-requires (place-counter-claims t) (place-counter-at t) place-counter.Post place-counter-Inv-loop place-counter-μ-loop
+place-counter-without-requires t c κs = is-left t c
 
 pub place-counter-without-counter-requires : (t : ℕ)
     → place-counter-lts.Need-without-counter-requires (place-counter-claims t) (place-counter-at t) place-counter.Post place-counter-Inv-loop place-counter-μ-loop
-place-counter-without-counter-requires t c κs = free t c
+place-counter-without-counter-requires t c κs = free t (c .before)
 
 pub place-counter-place-from-requires : (t : ℕ)
     → place-counter-lts.Need-place-from-requires (place-counter-claims t) (place-counter-at t) place-counter.Post place-counter-Inv-loop place-counter-μ-loop
 place-counter-place-from-requires t c κs =
-    let s = start t (ready t (c .before)) in
+    let s = start t (ready t (c .before .before)) in
     let asked = s .pre .1 in
     let after = counter-leaves (s .args .n) (s .args .left) _ (asked .3) (asked .4) _ (c .without-counter .ensures) in
     (rw (← s .pre .0) (omega arith), (asked .0, asked .2, after .0, after .1))
@@ -162,45 +193,48 @@ pub place-counter-mul-result : (t : ℕ)
     → place-counter-lts.Need-mul-result (place-counter-claims t) (place-counter-at t) place-counter.Post place-counter-Inv-loop place-counter-μ-loop
 place-counter-mul-result t c = omega (arith, rest-small t (c .before))
 
+pub place-counter-mul-result-2 : (t : ℕ)
+    → place-counter-lts.Need-mul-result-2 (place-counter-claims t) (place-counter-at t) place-counter.Post place-counter-Inv-loop place-counter-μ-loop
+place-counter-mul-result-2 t c = omega (arith, k-small t (trying t (c .before)))
+
 pub place-counter-add-result : (t : ℕ)
     → place-counter-lts.Need-add-result (place-counter-claims t) (place-counter-at t) place-counter.Post place-counter-Inv-loop place-counter-μ-loop
-place-counter-add-result t c = omega (arith, rest-small t (c .before))
+place-counter-add-result t c = omega (arith, rest-small t (c .before), k-small t (trying t (c .before)))
 
 pub place-counter-returns : (t : ℕ)
     → place-counter-lts.Need-returns (place-counter-claims t) (place-counter-at t) place-counter.Post place-counter-Inv-loop place-counter-μ-loop
 place-counter-returns t c =
     let tried = c .before in
-    rw (begun t (begin t tried), trying t tried .before .loop .inv .1) (taken t tried (c .if1 .taken))
-
-pub place-counter-next-in-requires-2 : (t : ℕ)
-    → place-counter-lts.Need-next-in-requires-2 (place-counter-claims t) (place-counter-at t) place-counter.Post place-counter-Inv-loop place-counter-μ-loop
-place-counter-next-in-requires-2 t c κs =
-    let trying = trying t (c .before) in
-    omega (arith, below t trying, start t (ready t trying) .pre .1 .4 .few)
+    rw (begun t (begin t tried), reached t (trying t tried)) (taken t tried (c .if2 .taken))
 
 pub place-counter-loop-less : (t : ℕ)
     → place-counter-lts.Need-loop-less (place-counter-claims t) (place-counter-at t) place-counter.Post place-counter-Inv-loop place-counter-μ-loop
-place-counter-loop-less t c = omega (arith, c .next-in2 .ensures .not-before)
+place-counter-loop-less t c =
+    let trying = trying t (c .before) in
+    taken-less (left t trying) _ (k t trying) (is-left t trying) (c .before .before .before .without .ensures)
 
 pub place-counter-loop-again : (t : ℕ)
     → place-counter-lts.Need-loop-again (place-counter-claims t) (place-counter-at t) place-counter.Post place-counter-Inv-loop place-counter-μ-loop
 place-counter-loop-again t c =
-    let tried = c .before .before in
-    let next = c .next-in2 .ensures in (
-      next .there,
-      trying t tried .before .loop .inv .1 ∙ passed t tried (c .before .if1 .left) ∙ skipped t (begin t tried) (k t (trying t tried) + 1) (c .next-in2 .result) next,
+    let tried = c .before in
+    let trying = trying t tried in (
+      k t trying + 1,
+      from-next (from t trying) (k t trying) (is-left t trying) (trying .next-in .ensures) _ (tried .before .before .without .ensures),
+      reached t trying ∙ passed t tried (c .if2 .left),
     )
 
 pub place-counter-returns-2 : (t : ℕ)
     → place-counter-lts.Need-returns-2 (place-counter-claims t) (place-counter-at t) place-counter.Post place-counter-Inv-loop place-counter-μ-loop
 unfolding packed
 place-counter-returns-2 t c =
-    let loop = c .before in
-    let ready = loop .before in
+    let at = c .before .before in
+    let ready = at .before in
+    let v = at .loop .inv in
     let a = start t ready .args in
     rw (
       begun t ready,
-      loop .loop .inv .1,
-      counter-done (a .n) (a .rows .now) (a .next) (a .count) (choice t ready) (room t ready) (loop .loop .k)
+      v .2,
+      skipped t ready (v .0) (v .0 + 64) (next-none (v .1) (c .if1 .left)),
+      counter-done (a .n) (a .rows .now) (a .next) (a .count) (choice t ready) (room t ready) (v .0 + 64)
           (omega (arith, start t ready .pre .1 .4 .few)),
     )

@@ -4,7 +4,7 @@ use mathlib.Core.Path.{_≡_, refl, _∙_}
 use mathlib.Core.Bool.{true, false}
 use mathlib.Core.List.{List}
 use mathlib.Core.Option.{Option}
-use Prim.Native.Nat.{ℕ, _+_, _-_, _*_, _/_, _%_, _<_}
+use Prim.Native.Nat.{ℕ, _+_, _*_, _/_, _%_, _<_}
 use native.Mathlib.Omega.{arith}
 use borrow.Author.Tests.{not-false}
 use Rattle.requests.specs.declared.CounterSet.{CounterSet}
@@ -23,6 +23,7 @@ use Rattle.plans.specs.Filters.{roomOf}
 use Rattle.plans.specs.Remaining.{planFrom}
 use Rattle.plans.specs.Packed.{packed}
 use Rattle.plans.proofs.CounterBits.{has-below, chosen-free, chosen-available}
+use Rattle.plans.proofs.CountersLeft.{From, least-there, least-in, next-least}
 use Rattle.plans.proofs.Leaving.{rsp0-leaves, rsp1-leaves}
 use Rattle.plans.proofs.Admitting.{word-told, pairTaken, latency-held, pair-chosen, pair-first, pair-missing, rsp0-differs, rsp1-differs}
 use Rattle.plans.proofs.Trying.{triesTaking, triesFrom, tries-begin, places-skipped, nowhere-admitted}
@@ -33,19 +34,21 @@ use Rattle.plans.proofs.remaining.place_counter.Reads as place-counter
 use Rattle.plans.proofs.+latency-place_latency+offcore-place_offcore+remaining-place_counter+remaining-place_from.Lts-latency-place_latency as place-latency-lts
 use Rattle.plans.proofs.counters.available.Reads as available-reads
 use Rattle.plans.proofs.counters.next_in.Reads as next-in-reads
+use Rattle.plans.proofs.counters.without.Reads as without-reads
 use Rattle.plans.proofs.filters.holds_word.Reads as holds-word-reads
 use Rattle.requests.proofs.bits.latency_word.Reads as latency-word-reads
 use Rattle.plans.proofs.left.with_rsp0.Reads as with-rsp0-reads
 use Rattle.plans.proofs.left.with_rsp1.Reads as with-rsp1-reads
 use Rattle.plans.proofs.left.without_counter.Reads as without-counter-reads
 
+-- the first counters before p lead to no plan, and those from p on are left
 abbrev pub place-latency-Inv-loop : place-latency-lts.InvT-loop
-place-latency-Inv-loop n rows count at types seconds next used choice j₀ j =
-    let pairs = triesFrom n n (triesTaking n rows at count (Latency types choice seconds) (pairTaken rows choice seconds used)) in
-    (j < 64 → has choice j ≡ true) × (pairs 0 0 ≡ pairs j 0)
+place-latency-Inv-loop n rows count at types seconds next used choice₀ choice =
+    let pairs = triesFrom n n (triesTaking n rows at count (Latency types choice₀ seconds) (pairTaken rows choice₀ seconds used)) in
+    (p : ℕ) × From choice₀ choice p × (pairs 0 0 ≡ pairs p 0)
 
 abbrev pub place-latency-μ-loop : place-latency-lts.MeasureT-loop
-place-latency-μ-loop n rows count at types seconds next used choice j₀ j = 64 - j
+place-latency-μ-loop n rows count at types seconds next used choice₀ choice = choice .0
 
 abbrev pub place-latency-claims : ℕ → place-latency-lts.Claims
 place-latency-claims t = (
@@ -61,6 +64,8 @@ place-latency-claims t = (
   available-reads.Learnt,
   next-in-reads.Asked,
   next-in-reads.Learnt,
+  without-reads.Asked,
+  without-reads.Learnt,
   without-counter-reads.Asked,
   without-counter-reads.Learnt,
   place-counter-below t,
@@ -81,11 +86,11 @@ module _ (t : ℕ) where
 
   -- the first counters are to be tried
   abbrev Ready : Type 0
-  Ready = place-latency-lts.After-next-in (place-latency-claims t) (place-latency-at t) place-latency.Post place-latency-Inv-loop place-latency-μ-loop
+  Ready = place-latency-lts.After-available (place-latency-claims t) (place-latency-at t) place-latency.Post place-latency-Inv-loop place-latency-μ-loop
 
   -- there is one to be tried
   abbrev Trying : Type 0
-  Trying = place-latency-lts.In-loop (place-latency-claims t) (place-latency-at t) place-latency.Post place-latency-Inv-loop place-latency-μ-loop
+  Trying = place-latency-lts.After-next-in (place-latency-claims t) (place-latency-at t) place-latency.Post place-latency-Inv-loop place-latency-μ-loop
 
   -- it is tried
   abbrev Tried : Type 0
@@ -134,7 +139,7 @@ module _ (t : ℕ) where
 
   module _ (c : Ready) where
     abbrev both-held : BothHeld
-    both-held = c .before .before .before .before .before
+    both-held = c .before .before .before .before
 
     abbrev pub start : Start
     start = entered (first-held both-held)
@@ -143,13 +148,13 @@ module _ (t : ℕ) where
     n = start .args .n
 
     abbrev pub used : Left
-    used = c .before .before .before .with-rsp1 .result
+    used = c .before .before .with-rsp1 .result
 
-    abbrev choice : CounterSet
-    choice = c .before .available .result
+    abbrev pub choice : CounterSet
+    choice = c .available .result
 
     chosen : (j : ℕ) → has choice j ≡ available (start .args .firsts) (used .free) j
-    chosen j = c .before .available .ensures j
+    chosen j = c .available .ensures j
 
     -- what the counters j and k take
     abbrev taken : ℕ → ℕ → Admission
@@ -175,7 +180,7 @@ module _ (t : ℕ) where
         tries-begin (a .n) (a .rows .now) (a .at) (a .count) narrowed taken (request start) (room start) n
         (start .pre .1 .0 .1) (start .pre .1 .1) refl every-second (λ j k. refl)
         (λ j k. latency-held (a .rows .now) (a .at) (a .left) (a .types) (a .firsts) (a .seconds) j k _ used
-        (c .before .before .before .before .with-rsp0 .ensures) (c .before .before .before .with-rsp1 .ensures) (start .pre .1 .1) (rsp0-holds (first-held both-held)) (rsp1-holds both-held)
+        (c .before .before .before .with-rsp0 .ensures) (c .before .before .with-rsp1 .ensures) (start .pre .1 .1) (rsp0-holds (first-held both-held)) (rsp1-holds both-held)
         ∙ pair-chosen (a .rows .now) choice (a .seconds) used j (a .firsts) k (chosen j))
 
     -- the registers taken leave the rows and the counters
@@ -183,8 +188,8 @@ module _ (t : ℕ) where
     kept =
         let s = start in
         let asked = s .pre .1 .0 in
-        let half = rsp0-leaves (s .args .n) (s .args .left) _ (asked .2) (asked .3) (s .args .at + 1) (omega arith) (c .before .before .before .before .with-rsp0 .ensures) in
-        rsp1-leaves (s .args .n) _ used (half .0) (half .1) (s .args .at + 1) (omega arith) (c .before .before .before .with-rsp1 .ensures)
+        let half = rsp0-leaves (s .args .n) (s .args .left) _ (asked .2) (asked .3) (s .args .at + 1) (omega arith) (c .before .before .before .with-rsp0 .ensures) in
+        rsp1-leaves (s .args .n) _ used (half .0) (half .1) (s .args .at + 1) (omega arith) (c .before .before .with-rsp1 .ensures)
 
     pub skipped : (j r : ℕ) → NextIn choice j r → pairs j 0 ≡ pairs r 0
     skipped j r next =
@@ -194,13 +199,30 @@ module _ (t : ℕ) where
 
   module _ (c : Trying) where
     abbrev pub ready : Ready
-    ready = c .before .before
+    ready = c .before .before .before .before
+
+    -- the first counters left
+    abbrev pub left : CounterSet
+    left = c .before .before .before .loop .choice
+
+    -- the first counters before this one are passed over
+    abbrev passed-to : ℕ
+    passed-to = c .before .before .before .loop .inv .0
+
+    abbrev pub from : From (choice ready) left passed-to
+    from = c .before .before .before .loop .inv .1
 
     abbrev pub j : ℕ
-    j = c .before .loop .j
+    j = c .next-in .result
+
+    pub is-left : has left j ≡ true
+    is-left = least-there left j (omega arith) (c .before .if3 .taken) (c .next-in .ensures)
 
     there : has (choice ready) j ≡ true
-    there = c .before .loop .inv .0 (c .loop-test .taken)
+    there = least-in from j is-left (c .next-in .ensures)
+
+    pub reached : pairs ready 0 0 ≡ pairs ready j 0
+    reached = c .before .before .before .loop .inv .2 ∙ skipped ready passed-to j (next-least from j is-left (c .next-in .ensures))
 
     pub free : has (used ready .free) j ≡ true
     free = chosen-free (start ready .args .firsts) (used ready .free) (choice ready) j (chosen ready j) there
@@ -208,9 +230,12 @@ module _ (t : ℕ) where
     pub below : j < n ready
     below = has-below (n ready) (used ready .free) j (kept ready .1 .below) free
 
+    pub j-small : j < 8
+    j-small = omega (arith, below, start ready .pre .1 .0 .3 .few)
+
   module _ (c : Tried) where
     abbrev pub trying : Trying
-    trying = c .before .before
+    trying = c .before .before .before
 
     abbrev pub begin : Ready
     begin = ready trying
@@ -219,10 +244,10 @@ module _ (t : ℕ) where
     rest = c .place-counter .result
 
     -- the room that the first counter leaves
-    abbrev left : Room
-    left = roomOf (start begin .args .rows .now) (c .before .without-counter .result)
+    abbrev room-left : Room
+    room-left = roomOf (start begin .args .rows .now) (c .before .without-counter .result)
 
-    seconds : (k : ℕ) → taken begin (j trying) k ≡ takeCounter (start begin .args .seconds) k left
+    seconds : (k : ℕ) → taken begin (j trying) k ≡ takeCounter (start begin .args .seconds) k room-left
     seconds k =
         let a = start begin .args in
         pair-first (a .rows .now) (choice begin) (a .seconds) (used begin) (j trying) _ k
@@ -232,17 +257,14 @@ module _ (t : ℕ) where
     rest-small =
         let a = start begin .args in
         let asked = start begin .pre .1 .0 in
-        second-small (a .n) (asked .3 .few) (a .rows .now) (a .at + 1) (a .count) (a .seconds) left rest (omega arith) (c .place-counter .ensures)
+        second-small (a .n) (asked .3 .few) (a .rows .now) (a .at + 1) (a .count) (a .seconds) room-left rest (omega arith) (c .place-counter .ensures)
 
     pub pair-taken : (rest ≡ 0 → ⊥) → rest / 64 * 64 + j trying * 8 + rest % 64 / 8 ≡ packed (pairs begin (j trying) 0)
     pair-taken =
         let a = start begin .args in
-        second-hit (a .n) (start begin .pre .1 .0 .3 .few) (a .rows .now) (a .at) (a .count) (a .types) (choice begin) (a .seconds) (taken begin) left (j trying) (below trying) seconds rest (c .place-counter .ensures)
+        second-hit (a .n) (start begin .pre .1 .0 .3 .few) (a .rows .now) (a .at) (a .count) (a .types) (choice begin) (a .seconds) (taken begin) room-left (j trying) (below trying) seconds rest (c .place-counter .ensures)
 
-    pair-passed : rest ≡ 0 → pairs begin (j trying) 0 ≡ pairs begin (j trying + 1) 0
+    pub pair-passed : rest ≡ 0 → pairs begin (j trying) 0 ≡ pairs begin (j trying + 1) 0
     pair-passed =
         let a = start begin .args in
-        second-none (a .n) (start begin .pre .1 .0 .3 .few) (a .rows .now) (a .at) (a .count) (a .types) (choice begin) (a .seconds) (taken begin) left (j trying) (below trying) seconds rest (c .place-counter .ensures)
-
-    pub passed-on : rest ≡ 0 → (r : ℕ) → NextIn (choice begin) (j trying + 1) r → pairs begin 0 0 ≡ pairs begin r 0
-    passed-on none r next = rw (trying .before .loop .inv .1, pair-passed none) (skipped begin (j trying + 1) r next)
+        second-none (a .n) (start begin .pre .1 .0 .3 .few) (a .rows .now) (a .at) (a .count) (a .types) (choice begin) (a .seconds) (taken begin) room-left (j trying) (below trying) seconds rest (c .place-counter .ensures)

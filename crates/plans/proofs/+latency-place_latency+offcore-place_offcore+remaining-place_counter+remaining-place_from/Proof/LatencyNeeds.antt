@@ -1,13 +1,15 @@
 -- The needs of `place_latency`, from what is known at its places. Assumes nothing.
-use Prim.Native.Nat.{ℕ}
+use mathlib.Core.Path.{refl, _∙_}
+use Prim.Native.Nat.{ℕ, _+_}
 use native.Mathlib.Omega.{arith}
 use borrow.Author.Tests.{not-true}
 use Rattle.plans.specs.Packed.{packed}
+use Rattle.plans.proofs.CountersLeft.{taken-less, from-first, next-none, from-next}
 use Rattle.plans.proofs.Leaving.{counter-leaves}
 use Rattle.plans.proofs.Admitting.{word-told}
 use Rattle.plans.proofs.Trying.{tries-done}
 use Rattle.plans.proofs.+latency-place_latency+offcore-place_offcore+remaining-place_counter+remaining-place_from.Proof.Measures.{place-latency-at}
-use Rattle.plans.proofs.+latency-place_latency+offcore-place_offcore+remaining-place_counter+remaining-place_from.Proof.Latency.{place-latency-Inv-loop, place-latency-μ-loop, place-latency-claims, room, rsp0-refuses, rsp1-refuses, entered, rsp0-holds, start, n, used, begun, kept, skipped, ready, j, free, below, trying, begin, rest-small, pair-taken, passed-on}
+use Rattle.plans.proofs.+latency-place_latency+offcore-place_offcore+remaining-place_counter+remaining-place_from.Proof.Latency.{place-latency-Inv-loop, place-latency-μ-loop, place-latency-claims, room, rsp0-refuses, rsp1-refuses, entered, rsp0-holds, start, n, used, choice, begun, kept, skipped, ready, left, from, j, is-left, reached, free, j-small, trying, begin, rest-small, pair-taken, pair-passed}
 use Rattle.plans.proofs.latency.place_latency.Reads as place-latency
 use Rattle.plans.proofs.+latency-place_latency+offcore-place_offcore+remaining-place_counter+remaining-place_from.Lts-latency-place_latency as place-latency-lts
 
@@ -28,55 +30,69 @@ place-latency-returns-2 t c =
 
 pub place-latency-loop-holds : (t : ℕ)
     → place-latency-lts.Need-loop-holds (place-latency-claims t) (place-latency-at t) place-latency.Post place-latency-Inv-loop place-latency-μ-loop
-place-latency-loop-holds t c = let next = c .next-in .ensures in (next .there, skipped t c 0 (c .next-in .result) next)
+place-latency-loop-holds t c = (0, from-first (choice t c), refl)
+
+pub place-latency-without-requires : (t : ℕ)
+    → place-latency-lts.Need-without-requires (place-latency-claims t) (place-latency-at t) place-latency.Post place-latency-Inv-loop place-latency-μ-loop
+place-latency-without-requires t c κs = is-left t c
 
 pub place-latency-without-counter-requires : (t : ℕ)
     → place-latency-lts.Need-without-counter-requires (place-latency-claims t) (place-latency-at t) place-latency.Post place-latency-Inv-loop place-latency-μ-loop
-place-latency-without-counter-requires t c κs = free t c
+place-latency-without-counter-requires t c κs = free t (c .before)
 
 pub place-latency-place-counter-requires : (t : ℕ)
     → place-latency-lts.Need-place-counter-requires (place-latency-claims t) (place-latency-at t) place-latency.Post place-latency-Inv-loop place-latency-μ-loop
 place-latency-place-counter-requires t c κs =
-    let ready = ready t (c .before) in
+    let ready = ready t (c .before .before) in
     let s = start t ready in
     let asked = s .pre .1 .0 in
     let after = counter-leaves (s .args .n) (used t ready) (c .without-counter .result) (kept t ready .0) (kept t ready .1) _ (c .without-counter .ensures) in
     (rw (← s .pre .0) (omega arith), (asked .0, omega arith, omega arith, after .0, after .1))
 
+pub place-latency-mul-result-2 : (t : ℕ)
+    → place-latency-lts.Need-mul-result-2 (place-latency-claims t) (place-latency-at t) place-latency.Post place-latency-Inv-loop place-latency-μ-loop
+place-latency-mul-result-2 t c = omega (arith, j-small t (trying t (c .before)))
+
 pub place-latency-add-result : (t : ℕ)
     → place-latency-lts.Need-add-result (place-latency-claims t) (place-latency-at t) place-latency.Post place-latency-Inv-loop place-latency-μ-loop
-place-latency-add-result t c = omega (arith, rest-small t (c .before))
+place-latency-add-result t c = omega (arith, rest-small t (c .before), j-small t (trying t (c .before)))
 
 pub place-latency-add-result-2 : (t : ℕ)
     → place-latency-lts.Need-add-result-2 (place-latency-claims t) (place-latency-at t) place-latency.Post place-latency-Inv-loop place-latency-μ-loop
-place-latency-add-result-2 t c = omega (arith, rest-small t (c .before))
+place-latency-add-result-2 t c = omega (arith, rest-small t (c .before), j-small t (trying t (c .before)))
 
 pub place-latency-returns-3 : (t : ℕ)
     → place-latency-lts.Need-returns-3 (place-latency-claims t) (place-latency-at t) place-latency.Post place-latency-Inv-loop place-latency-μ-loop
 place-latency-returns-3 t c =
     let tried = c .before in
-    rw (begun t (begin t tried), trying t tried .before .loop .inv .1) (pair-taken t tried (c .if3 .taken))
-
-pub place-latency-next-in-requires-2 : (t : ℕ)
-    → place-latency-lts.Need-next-in-requires-2 (place-latency-claims t) (place-latency-at t) place-latency.Post place-latency-Inv-loop place-latency-μ-loop
-place-latency-next-in-requires-2 t c κs =
-    let trying = trying t (c .before) in
-    omega (arith, below t trying, start t (ready t trying) .pre .1 .0 .3 .few)
+    rw (begun t (begin t tried), reached t (trying t tried)) (pair-taken t tried (c .if4 .taken))
 
 pub place-latency-loop-less : (t : ℕ)
     → place-latency-lts.Need-loop-less (place-latency-claims t) (place-latency-at t) place-latency.Post place-latency-Inv-loop place-latency-μ-loop
-place-latency-loop-less t c = omega (arith, c .next-in2 .ensures .not-before)
+place-latency-loop-less t c =
+    let trying = trying t (c .before) in
+    taken-less (left t trying) _ (j t trying) (is-left t trying) (c .before .before .before .without .ensures)
 
 pub place-latency-loop-again : (t : ℕ)
     → place-latency-lts.Need-loop-again (place-latency-claims t) (place-latency-at t) place-latency.Post place-latency-Inv-loop place-latency-μ-loop
 place-latency-loop-again t c =
-    let next = c .next-in2 .ensures in
-    (next .there, passed-on t (c .before .before) (c .before .if3 .left) (c .next-in2 .result) next)
+    let tried = c .before in
+    let trying = trying t tried in (
+      j t trying + 1,
+      from-next (from t trying) (j t trying) (is-left t trying) (trying .next-in .ensures) _ (tried .before .before .without .ensures),
+      reached t trying ∙ pair-passed t tried (c .if4 .left),
+    )
 
 pub place-latency-returns-4 : (t : ℕ)
     → place-latency-lts.Need-returns-4 (place-latency-claims t) (place-latency-at t) place-latency.Post place-latency-Inv-loop place-latency-μ-loop
 unfolding packed
 place-latency-returns-4 t c =
-    let loop = c .before in
-    let ready = loop .before in
-    rw (begun t ready, loop .loop .inv .1, tries-done (n t ready) (n t ready) (loop .loop .j) 0 _ (omega (arith, start t ready .pre .1 .0 .3 .few)))
+    let at = c .before .before in
+    let ready = at .before in
+    let v = at .loop .inv in
+    rw (
+      begun t ready,
+      v .2,
+      skipped t ready (v .0) (v .0 + 64) (next-none (v .1) (c .if3 .left)),
+      tries-done (n t ready) (n t ready) (v .0 + 64) 0 _ (omega (arith, start t ready .pre .1 .0 .3 .few)),
+    )

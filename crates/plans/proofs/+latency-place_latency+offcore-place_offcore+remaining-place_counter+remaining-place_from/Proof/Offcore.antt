@@ -1,11 +1,11 @@
 -- An offcore request: what is known where each counter that is allowed and free is tried, with RSP0 and then with RSP1 (`tries-next`,
 -- `tries-carry`, then `places-skipped`). Assumes nothing.
 use mathlib.Core.Path.{_≡_, refl, ap, _∙_}
-use mathlib.Core.Bool.{true}
+use mathlib.Core.Bool.{true, false}
 use mathlib.Core.Logic.{inl, inr}
 use mathlib.Core.List.{List}
 use mathlib.Core.Option.{Option}
-use Prim.Native.Nat.{ℕ, _+_, _-_, _*_, _<_}
+use Prim.Native.Nat.{ℕ, _+_, _*_, _<_}
 use native.Mathlib.Omega.{arith}
 use lib.Dec.{lit<}
 use Rattle.requests.specs.declared.CounterSet.{CounterSet}
@@ -18,33 +18,36 @@ use Rattle.plans.specs.declared.left.Left.{Left}
 use Rattle.plans.specs.declared.Admission.{Admission}
 use Rattle.plans.specs.Counters.{available, NextIn}
 use Rattle.plans.specs.Left.{withoutCounter, withRsp0, withRsp1}
-use Rattle.plans.specs.Search.{placeOf, width}
+use Rattle.plans.specs.Search.{holds, placeOf, width}
 use Rattle.plans.specs.Filters.{roomOf}
 use Rattle.plans.specs.Remaining.{planFrom, planAfter}
 use Rattle.plans.specs.Packed.{packed}
 use Rattle.plans.proofs.CounterBits.{has-below, chosen-free, chosen-available}
+use Rattle.plans.proofs.CountersLeft.{From, least-there, least-in, next-least}
 use Rattle.plans.proofs.Unpacking.{rest-code}
-use Rattle.plans.proofs.Admitting.{offcoreTaken, offcore-asked, offcore-chosen, offcore-missing}
-use Rattle.plans.proofs.Trying.{held-taken, held-not, triesTaking, triesFrom, tries-begin, tries-hit, tries-next, tries-carry, places-skipped}
+use Rattle.plans.proofs.Admitting.{offcoreTaken, offcore-asked, offcore-chosen, offcore-missing, offcore-differs}
+use Rattle.plans.proofs.Trying.{held-taken, held-not, triesTaking, triesFrom, tries-begin, tries-hit, tries-next, tries-carry, places-skipped, nowhere-admitted}
 use Rattle.plans.proofs.+latency-place_latency+offcore-place_offcore+remaining-place_counter+remaining-place_from.Proof.Measures.{place-offcore-at, place-from-below}
 use Rattle.plans.proofs.offcore.place_offcore.Reads as place-offcore
 use Rattle.plans.proofs.remaining.place_from.Reads as place-from
 use Rattle.plans.proofs.+latency-place_latency+offcore-place_offcore+remaining-place_counter+remaining-place_from.Lts-offcore-place_offcore as place-offcore-lts
 use Rattle.plans.proofs.counters.available.Reads as available-reads
 use Rattle.plans.proofs.counters.next_in.Reads as next-in-reads
+use Rattle.plans.proofs.counters.without.Reads as without-reads
 use Rattle.plans.proofs.filters.holds_word.Reads as holds-word-reads
 use Rattle.plans.proofs.left.with_rsp0.Reads as with-rsp0-reads
 use Rattle.plans.proofs.left.with_rsp1.Reads as with-rsp1-reads
 use Rattle.plans.proofs.left.without_counter.Reads as without-counter-reads
 
+-- the counters before p lead to no plan, and those from p on are left
 abbrev pub place-offcore-Inv-loop : place-offcore-lts.InvT-loop
-place-offcore-Inv-loop n rows count at word left held0 held1 next choice k₀ k =
-    let taken = offcoreTaken rows choice held0 held1 (withRsp0 left (at + 1)) (withRsp1 left (at + 1)) in
-    let places = triesFrom (n) 2 (triesTaking n rows at count (Offcore word choice) taken) in
-    (k < 64 → has choice k ≡ true) × (places 0 0 ≡ places k 0)
+place-offcore-Inv-loop n rows count at word left held0 held1 next choice₀ choice =
+    let taken = offcoreTaken rows choice₀ held0 held1 (withRsp0 left (at + 1)) (withRsp1 left (at + 1)) in
+    let places = triesFrom (n) 2 (triesTaking n rows at count (Offcore word choice₀) taken) in
+    (p : ℕ) × From choice₀ choice p × (places 0 0 ≡ places p 0)
 
 abbrev pub place-offcore-μ-loop : place-offcore-lts.MeasureT-loop
-place-offcore-μ-loop n rows count at word left held0 held1 next choice k₀ k = 64 - k
+place-offcore-μ-loop n rows count at word left held0 held1 next choice₀ choice = choice .0
 
 abbrev pub place-offcore-claims : ℕ → place-offcore-lts.Claims
 place-offcore-claims t = (
@@ -54,6 +57,8 @@ place-offcore-claims t = (
   available-reads.Learnt,
   next-in-reads.Asked,
   next-in-reads.Learnt,
+  without-reads.Asked,
+  without-reads.Learnt,
   with-rsp0-reads.Asked,
   with-rsp0-reads.Learnt,
   without-counter-reads.Asked,
@@ -74,29 +79,35 @@ module _ (t : ℕ) where
 
   -- the counters are to be tried
   abbrev Ready : Type 0
-  Ready = place-offcore-lts.After-next-in (place-offcore-claims t) (place-offcore-at t) place-offcore.Post place-offcore-Inv-loop place-offcore-μ-loop
+  Ready = place-offcore-lts.After-available (place-offcore-claims t) (place-offcore-at t) place-offcore.Post place-offcore-Inv-loop place-offcore-μ-loop
 
   -- there is a counter to be tried
   abbrev Trying : Type 0
-  Trying = place-offcore-lts.In-loop (place-offcore-claims t) (place-offcore-at t) place-offcore.Post place-offcore-Inv-loop place-offcore-μ-loop
+  Trying = place-offcore-lts.After-next-in (place-offcore-claims t) (place-offcore-at t) place-offcore.Post place-offcore-Inv-loop place-offcore-μ-loop
 
   -- it is tried with RSP0
   abbrev Rsp0Tried : Type 0
-  Rsp0Tried = place-offcore-lts.Joined1 (place-offcore-claims t) (place-offcore-at t) place-offcore.Post place-offcore-Inv-loop place-offcore-μ-loop
+  Rsp0Tried = place-offcore-lts.Joined4 (place-offcore-claims t) (place-offcore-at t) place-offcore.Post place-offcore-Inv-loop place-offcore-μ-loop
 
   -- it is tried with RSP1 too
   abbrev Rsp1Tried : Type 0
-  Rsp1Tried = place-offcore-lts.Joined3 (place-offcore-claims t) (place-offcore-at t) place-offcore.Post place-offcore-Inv-loop place-offcore-μ-loop
+  Rsp1Tried = place-offcore-lts.Joined6 (place-offcore-claims t) (place-offcore-at t) place-offcore.Post place-offcore-Inv-loop place-offcore-μ-loop
 
   module _ (c : Start) where
     abbrev request : Request
     request = Offcore (c .args .word) (c .args .allowed)
 
-    abbrev room : Room
+    abbrev pub room : Room
     room = roomOf (c .args .rows .now) (c .args .left)
 
     abbrev planned : Option (List Place)
     planned = planFrom (c .args .n) (c .args .rows .now) (c .args .at) (c .args .count) room
+
+    pub both-refuse : holds (room .rsp0) (c .args .word) ≡ false → holds (room .rsp1) (c .args .word) ≡ false → 0 ≡ packed planned
+    both-refuse differs0 differs1 =
+        let a = c .args in
+        nowhere-admitted (a .n) (a .rows .now) (a .at) (a .count) room request (omega arith) (c .pre .1 .1)
+        (λ k j. offcore-differs (a .rows .now) (a .at) (a .left) (a .word) (a .allowed) k j differs0 differs1)
 
   module _ (c : Ready) where
     abbrev looked : Looked
@@ -115,11 +126,11 @@ module _ (t : ℕ) where
     abbrev left1 : Left
     left1 = withRsp1 (start .args .left) (start .args .at + 1)
 
-    abbrev choice : CounterSet
-    choice = c .before .available .result
+    abbrev pub choice : CounterSet
+    choice = c .available .result
 
     chosen : (k : ℕ) → has choice k ≡ available (start .args .allowed) (start .args .left .free) k
-    chosen k = c .before .available .ensures k
+    chosen k = c .available .ensures k
 
     -- what counter k takes with register j
     abbrev taken : ℕ → ℕ → Admission
@@ -181,13 +192,30 @@ module _ (t : ℕ) where
 
   module _ (c : Trying) where
     abbrev pub ready : Ready
-    ready = c .before .before
+    ready = c .before .before .before .before
+
+    -- the counters left
+    abbrev pub left : CounterSet
+    left = c .before .before .before .loop .choice
+
+    -- the counters before this one are passed over
+    abbrev passed-to : ℕ
+    passed-to = c .before .before .before .loop .inv .0
+
+    abbrev pub from : From (choice ready) left passed-to
+    from = c .before .before .before .loop .inv .1
 
     abbrev pub k : ℕ
-    k = c .before .loop .k
+    k = c .next-in .result
+
+    pub is-left : has left k ≡ true
+    is-left = least-there left k (omega arith) (c .before .if3 .taken) (c .next-in .ensures)
 
     there : has (choice ready) k ≡ true
-    there = c .before .loop .inv .0 (c .loop-test .taken)
+    there = least-in from k is-left (c .next-in .ensures)
+
+    pub reached : places ready 0 0 ≡ places ready k 0
+    reached = c .before .before .before .loop .inv .2 ∙ skipped ready passed-to k (next-least from k is-left (c .next-in .ensures))
 
     pub free : has (start ready .args .left .free) k ≡ true
     free = chosen-free (start ready .args .allowed) (start ready .args .left .free) (choice ready) k (chosen ready k) there
@@ -198,47 +226,50 @@ module _ (t : ℕ) where
     pub below : k < n ready
     below = has-below (n ready) (start ready .args .left .free) k (start ready .pre .1 .0 .3 .below) free
 
+    pub k-small : k < 8
+    k-small = omega (arith, below, start ready .pre .1 .0 .3 .few)
+
   module _ (c : Rsp0Tried) where
     abbrev pub trying0 : Trying
-    trying0 = c .before
+    trying0 = c .before .before
 
-    pub rest0-planned : c .if1 .rest0 ≡ packed (after (ready trying0) (k trying0) 0)
+    pub rest0-planned : c .if4 .rest0 ≡ packed (after (ready trying0) (k trying0) 0)
     rest0-planned =
         let r = ready trying0 in
         let a = start r .args in
-        elim (c .if1 .came) [
+        elim (c .if4 .came) [
           | inl p ↦
               held-taken (a .n) (a .rows .now) (a .at + 1) (a .count) (choice r) (k trying0) (left0 r) _ _ _ _ (p .0 .taken) (can-take trying0)
               (p .2 .ensures ∙ ap (λ (l : Left). withoutCounter l (k trying0)) (p .1 .ensures)) (p .3 .ensures) (p .4)
           | inr p ↦ held-not (a .n) (a .rows .now) (a .at + 1) (a .count) (choice r) (k trying0) (left0 r) _ _ (p .0 .left) (p .1)
         ]
 
-    pub rest0-small : c .if1 .rest0 < 8796093022208
-    rest0-small = rest-small (ready trying0) (k trying0) 0 (c .if1 .rest0) rest0-planned
+    pub rest0-small : c .if4 .rest0 < 8796093022208
+    rest0-small = rest-small (ready trying0) (k trying0) 0 (c .if4 .rest0) rest0-planned
 
     -- RSP0 leads to no plan, so that the places go on from RSP1
-    pub with-rsp1 : c .if1 .rest0 ≡ 0 → places (ready trying0) 0 0 ≡ places (ready trying0) (k trying0) 1
+    pub with-rsp1 : c .if4 .rest0 ≡ 0 → places (ready trying0) 0 0 ≡ places (ready trying0) (k trying0) 1
     with-rsp1 none =
-        trying0 .before .loop .inv .1
-        ∙ place-next (ready trying0) (k trying0) 0 (c .if1 .rest0) rest0-planned (lit< tt) (below trying0) none
+        reached trying0
+        ∙ place-next (ready trying0) (k trying0) 0 (c .if4 .rest0) rest0-planned (lit< tt) (below trying0) none
 
   module _ (c : Rsp1Tried) where
     abbrev pub tried0 : Rsp0Tried
     tried0 = c .before .before
 
     abbrev pub trying1 : Trying
-    trying1 = tried0 .before
+    trying1 = tried0 .before .before
 
-    pub rest1-planned : c .if3 .rest1 ≡ packed (after (ready trying1) (k trying1) 1)
+    pub rest1-planned : c .if6 .rest1 ≡ packed (after (ready trying1) (k trying1) 1)
     rest1-planned =
         let r = ready trying1 in
         let a = start r .args in
-        elim (c .if3 .came) [
+        elim (c .if6 .came) [
           | inl p ↦
               held-taken (a .n) (a .rows .now) (a .at + 1) (a .count) (choice r) (k trying1) (left1 r) _ _ _ _ (p .0 .taken) (can-take trying1)
               (p .2 .ensures ∙ ap (λ (l : Left). withoutCounter l (k trying1)) (p .1 .ensures)) (p .3 .ensures) (p .4)
           | inr p ↦ held-not (a .n) (a .rows .now) (a .at + 1) (a .count) (choice r) (k trying1) (left1 r) _ _ (p .0 .left) (p .1)
         ]
 
-    pub rest1-small : c .if3 .rest1 < 8796093022208
-    rest1-small = rest-small (ready trying1) (k trying1) 1 (c .if3 .rest1) rest1-planned
+    pub rest1-small : c .if6 .rest1 < 8796093022208
+    rest1-small = rest-small (ready trying1) (k trying1) 1 (c .if6 .rest1) rest1-planned

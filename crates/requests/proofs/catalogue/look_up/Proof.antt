@@ -7,6 +7,12 @@ use Rattle.requests.proofs.HalvedLookups.{halved-listing}
 use Rattle.requests.proofs.catalogue.look_up.Statement.{statement}
 use Rattle.requests.proofs.catalogue.look_up.Tie as tie
 
+returns : tie.Need-returns
+returns c = rw (c .before .enum-told .given .1) (c .row-by-row .ensures)
+
+returns-2 : tie.Need-returns-2
+returns-2 c = rw (c .before .enum-told2 .given .1) (c .row-by-row2 .ensures)
+
 returns-3 : tie.Need-returns-3
 returns-3 c = rw (c .by-halving .ensures, c .before .enum-told3 .given .1) (sym (halved-listing _ _ _))
 
@@ -20,6 +26,6 @@ look-up-spec =
     (λ c κs. search needs)
     (λ c. search needs)
     (λ c κs. search needs)
-    (λ c. search needs)
-    (λ c. search needs)
+    returns
+    returns-2
     returns-3)
