@@ -3,7 +3,6 @@ use mathlib.Core.Path.{_≡_, refl, ap, ap₂, sym, _∙_}
 use mathlib.Core.Bool.{Bool, true, false, false≢true}
 use mathlib.Core.List.{List, [], _∷_}
 use Prim.Native.Nat.{ℕ, zero, suc, _+_, _*_, _/_, _%_, _<_, _≤_}
-use native.Mathlib.Decide.{decLe}
 use native.Mathlib.Omega.{arith}
 use lib.ListN.{length, getD, List·getD-eq-default}
 use borrow.Author.Tests.{eqb-true}
@@ -71,15 +70,21 @@ rule-placed (q ∷ qs) r x h = go (sameRule q r) refl h (rule-placed qs r x)
     go true e t later = rw (place-here q qs r e) (same-rule q r e)
     go false e t later = rw (place-behind q qs r e) (later t)
 
+-- n is none of the numbers 1 to k
+abbrev NoneOf : ℕ → ℕ → Type 0
+NoneOf n zero = Unit {0}
+NoneOf n (suc k) = NoneOf n k × (n ≡ suc k → ⊥)
+
+-- one that is not 0 is past them
+past-all : (n k : ℕ) → NoneOf (suc n) k → k ≤ n
+past-all n zero others = omega arith
+past-all n (suc k) others = let below = past-all n k (others .0) in omega (arith, others .1)
+
 -- the numbers 1 to 13 have rules that list a mask
-pub no-rule : (n : ℕ) → ((k : ℕ) → 1 ≤ k → k ≤ 13 → n ≡ k → ⊥) → ruleAt n ≡ among []
+pub no-rule : (n : ℕ) → NoneOf n 13 → ruleAt n ≡ among []
 unfolding ruleAt maskRules
 no-rule zero others = refl
-no-rule (suc n) others = List·getD-eq-default maskRules (among []) (go (decLe (suc n) 13))
-  where
-    go : Dec (suc n ≤ 13) → 14 ≤ suc n
-    go (yes l) = absurd (others (suc n) (omega arith) l refl)
-    go (no l) = omega arith
+no-rule (suc n) others = let past : 14 ≤ suc n = omega (arith, past-all n 13 others) in List·getD-eq-default maskRules (among []) past
 
 -- ---- events
 

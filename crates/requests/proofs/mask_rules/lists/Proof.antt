@@ -1,7 +1,7 @@
 -- `mask_rules::lists` meets its contract: each arm tests what the rule of its number lists.
 -- Assumes nothing.
 use mathlib.Core.Path.{_≡_}
-use Prim.Native.Nat.{ℕ, zero, suc, _%_, _≤_}
+use Prim.Native.Nat.{_%_}
 use native.Mathlib.Omega.{arith}
 use borrow.Author.Needs.{needs}
 use Rattle.requests.specs.Bits.{inList}
@@ -14,24 +14,7 @@ use Rattle.requests.proofs.mask_rules.lists.Tie as tie
 
 returns-14 : tie.Need-returns-14
 unfolding rowAllows allows inList
-returns-14 c = rw (no-rule (c .before .args .row % 16) others)
-  where
-    others : (k : ℕ) → 1 ≤ k → k ≤ 13 → c .before .args .row % 16 ≡ k → ⊥
-    others zero l m e = omega (l, arith)
-    others (suc zero) l m e = c .match .rest .0 .0 .0 .0 .0 .0 .0 .0 .0 .0 .0 .0 .1 e
-    others (suc (suc zero)) l m e = c .match .rest .0 .0 .0 .0 .0 .0 .0 .0 .0 .0 .0 .1 e
-    others (suc (suc (suc zero))) l m e = c .match .rest .0 .0 .0 .0 .0 .0 .0 .0 .0 .0 .1 e
-    others (suc (suc (suc (suc zero)))) l m e = c .match .rest .0 .0 .0 .0 .0 .0 .0 .0 .0 .1 e
-    others (suc (suc (suc (suc (suc zero))))) l m e = c .match .rest .0 .0 .0 .0 .0 .0 .0 .0 .1 e
-    others (suc (suc (suc (suc (suc (suc zero)))))) l m e = c .match .rest .0 .0 .0 .0 .0 .0 .0 .1 e
-    others (suc (suc (suc (suc (suc (suc (suc zero))))))) l m e = c .match .rest .0 .0 .0 .0 .0 .0 .1 e
-    others (suc (suc (suc (suc (suc (suc (suc (suc zero)))))))) l m e = c .match .rest .0 .0 .0 .0 .0 .1 e
-    others (suc (suc (suc (suc (suc (suc (suc (suc (suc zero))))))))) l m e = c .match .rest .0 .0 .0 .0 .1 e
-    others (suc (suc (suc (suc (suc (suc (suc (suc (suc (suc zero)))))))))) l m e = c .match .rest .0 .0 .0 .1 e
-    others (suc (suc (suc (suc (suc (suc (suc (suc (suc (suc (suc zero))))))))))) l m e = c .match .rest .0 .0 .1 e
-    others (suc (suc (suc (suc (suc (suc (suc (suc (suc (suc (suc (suc zero)))))))))))) l m e = c .match .rest .0 .1 e
-    others (suc (suc (suc (suc (suc (suc (suc (suc (suc (suc (suc (suc (suc zero))))))))))))) l m e = c .match .rest .1 e
-    others (suc (suc (suc (suc (suc (suc (suc (suc (suc (suc (suc (suc (suc (suc k)))))))))))))) l m e = omega (m, arith)
+returns-14 c = rw (no-rule (c .before .args .row % 16) (c .match .rest))
 
 pub lists-spec : {M : Type 1} → statement M
 unfolding rowAllows ruleAt maskRules allows inList sinkMasks ringMasks starvedMasks bypassMasks
