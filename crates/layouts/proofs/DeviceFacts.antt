@@ -35,7 +35,7 @@ filterRoom G = 2
 filterRoom S = 4
 filterRoom (C b) = 0
 
--- no two registers have one address
+-- no two registers have one address, even if the device had all the counters that arrays have room for
 pub record Apart (d : Device) : Type 0 where
   pub control-control : (j k : ℕ) → controlAt d j ≡ controlAt d k → j ≡ k
   pub counter-counter : (j k : ℕ) → counterAt d j ≡ counterAt d k → j ≡ k
