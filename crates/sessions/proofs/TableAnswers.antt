@@ -63,15 +63,15 @@ module _ {A : Type 0} where
 
 -- ---- open
 
-open-again : (limit : ℕ) (t : Setup) (q : List Entry) (o : Opening) → refusal limit (opened t q) (Open o) ≡ some CallOrder
+pub open-again : (limit : ℕ) (t : Setup) (q : List Entry) (o : Opening) → refusal limit (opened t q) (Open o) ≡ some CallOrder
 unfolding refusal table firstHolding beforeOpen
 open-again limit t q o = refl
 
-open-bad : (limit : ℕ) (o : Opening) (x : Refusal) → openedBy o ≡ Opened.Refused x → refusal limit notOpen (Open o) ≡ some x
+pub open-bad : (limit : ℕ) (o : Opening) (x : Refusal) → openedBy o ≡ Opened.Refused x → refusal limit notOpen (Open o) ≡ some x
 unfolding refusal table beforeOpen
 open-bad limit o x h = opened-none o x h .1
 
-open-accepted : (limit : ℕ) (o : Opening) (t : Setup) → setupOf o ≡ some t → refusal limit notOpen (Open o) ≡ none
+pub open-accepted : (limit : ℕ) (o : Opening) (t : Setup) → setupOf o ≡ some t → refusal limit notOpen (Open o) ≡ none
 unfolding refusal table beforeOpen
 open-accepted limit o t h = taken-table o t h
 

@@ -26,21 +26,36 @@ use Rattle.layouts.specs.UBox.{askingNothing, withPmi, lastValue}
 use Rattle.layouts.specs.RestWhileWritten.{RestsInside}
 use Rattle.layouts.specs.RoundTrip.{ReadBack}
 use Rattle.sessions.specs.Turns.{requestsOf, taken, turned, assign}
-use Rattle.sessions.specs.Calls.{Call, opened}
+use Rattle.sessions.specs.Calls.{Call, Plain, opened}
 use Rattle.sessions.specs.Sessions.{plainOf, turnOf, turnSlice, planOf, sessionAfter, queueAfter}
 use Rattle.sessions.specs.declared.Session.{Session}
+use Rattle.sessions.specs.declared.Assigned.{Assigned}
 
--- a turn of the session `before`, with the queue q, that has filled the slice
-pub record TurnDone (s : Setup) (q : List Entry) (before : Session) (slice : List ℕ) : Type 0 where
+-- what a turn answers and leaves
+pub record TurnResult : Type 0 where
+  pub plan : List Assigned
+  pub writes : ℕ
+  -- the slice and the plain queue afterwards
+  pub slice : List ℕ
+  pub queue : Plain
+
+-- what comes of a turn of a session, given the slice
+abbrev pub resultOf : Session → List ℕ → TurnResult
+resultOf s slice =
+    let a = turnOf s (length slice) in
+    record { plan = planOf a; writes = a .writes; slice = turnSlice s slice; queue = plainOf (a .session) }
+
+-- an accepted turn of a session with the setup s and the queue q, whatever the queue's limit, that was given the slice
+pub record TurnDone (s : Setup) (q : List Entry) (slice : List ℕ) (result : TurnResult) : Type 0 where
   -- "A plan gives each request its counter": the first legal plan of those taken, in queue order
   pub places : List Place
   pub first : First s (requestsOf (taken s q)) places
   -- the plan answered: "in the order taken", each id with its place
-  pub plan : planOf (turnOf before (length slice)) ≡ assign (taken s q) places
+  pub plan : result .plan ≡ assign (taken s q) places
   -- the number of writes is the length of the defined list, and the list stands in the slice; "numbers past the list stay"
-  pub count : turnOf before (length slice) .writes ≡ length (writes s (requestsOf (taken s q)) places)
+  pub count : result .writes ≡ length (writes s (requestsOf (taken s q)) places)
   pub room : 2 * length (writes s (requestsOf (taken s q)) places) ≤ length slice
-  pub list : turnSlice before slice ≡ filled (writes s (requestsOf (taken s q)) places) slice
+  pub list : result .slice ≡ filled (writes s (requestsOf (taken s q)) places) slice
   -- no reserved bit is set, nobody else's register is touched, and every value for the global control register enables the counters of others
   pub clean : All (Clean s) (writes s (requestsOf (taken s q)) places)
   pub others : (registers : ℕ → ℕ) (a : ℕ) → ¬ Ours s a → apply (writes s (requestsOf (taken s q)) places) registers a ≡ registers a
@@ -62,7 +77,7 @@ pub record TurnDone (s : Setup) (q : List Entry) (before : Session) (slice : Lis
   -- "applied to any registers and read, give that turn's plan counter by counter"
   pub read : (registers : ℕ → ℕ) → ReadBack s (requestsOf (taken s q)) places (writes s (requestsOf (taken s q)) places) registers
   -- the queue afterwards
-  pub next : plainOf (turnOf before (length slice) .session) ≡ opened s (turned s q)
+  pub next : result .queue ≡ opened s (turned s q)
 
 -- every accepted turn of a session that calls have left, whatever slice it is given
 abbrev pub TurnPlan : Type 0
@@ -73,4 +88,4 @@ TurnPlan =
     → queueAfter calls ≡ opened s q
     → (slice : List ℕ)
     → turnOf (sessionAfter session calls) (length slice) .answer ≡ Accepted
-    → TurnDone s q (sessionAfter session calls) slice
+    → TurnDone s q slice (resultOf (sessionAfter session calls) slice)
