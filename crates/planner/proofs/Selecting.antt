@@ -166,10 +166,13 @@ places-found : (s : Setup) (es : List Entry) (ps : List Place) → firstPlan s (
 unfolding placesOf
 places-found s es ps e = rw (e, placesOf)
 
--- the places of the plan, read out of its number
+-- the places of the plan of entries, read out of its number
+pub places-read : (s : Setup) (es : List Entry) (code : ℕ) → code ≡ packed (firstPlan s (requestsOf es)) → (code ≡ 0 → ⊥) → placesFrom code 0 (requestsOf es) ≡ placesOf s es
+places-read s es code found exists =
+    let rs = requestsOf es in
+    let f = some-packed (firstPlan s rs) (λ z. exists (found ∙ z)) in
+    ap (λ (n : ℕ). placesFrom n 0 rs) found ∙ plan-unpacked s rs (f .0) (f .1) ∙ sym (places-found s es (f .0) (f .1))
+
 pub selected-places : {s : Setup} {queue q : List Entry} {rows ts ps : List ℕ} {c : Chosen} → Selected s queue q rows ts ps c
     → placesFrom (c .code) 0 (requestsOf (taken s q)) ≡ placesOf s (taken s q)
-selected-places {s} {queue} {q} all =
-    let rs = requestsOf (taken s q) in
-    let f = some-packed (firstPlan s rs) (λ z. all .plan-some (all .plan-found ∙ z)) in
-    ap (λ (n : ℕ). placesFrom n 0 rs) (all .plan-found) ∙ plan-unpacked s rs (f .0) (f .1) ∙ sym (places-found s (taken s q) (f .0) (f .1))
+selected-places {s} {queue} {q} {rows} {ts} {ps} {c} all = places-read s (taken s q) (c .code) (all .plan-found) (all .plan-some)

@@ -60,7 +60,7 @@ module _ (s : Session) {rows ts ps : List ℕ} {c : Chosen} (all : Selected (s .
 -- ---- the writer's answer
 
 module _ (ws : List Write) (out after : List ℕ) where
-  wrote-none : Wrote ws out after TooShort → (tooShort ws out ≡ true) × (after ≡ out)
+  pub wrote-none : Wrote ws out after TooShort → (tooShort ws out ≡ true) × (after ≡ out)
   unfolding writeAnswer writeSlice
   wrote-none w = go (tooShort ws out) (w .answer) (w .slice)
     where
@@ -68,7 +68,7 @@ module _ (ws : List Write) (out after : List ℕ) where
       go true a s = (refl, s)
       go false a s = let z : _≡_ {A = ℕ} 0 1 = cc in absurd (omega arith)
 
-  wrote-all : (n : ℕ) → Wrote ws out after (Written n) → (tooShort ws out ≡ false) × (n ≡ length ws) × (after ≡ filled ws out)
+  pub wrote-all : (n : ℕ) → Wrote ws out after (Written n) → (tooShort ws out ≡ false) × (n ≡ length ws) × (after ≡ filled ws out)
   unfolding writeAnswer writeSlice
   wrote-all n w = go (tooShort ws out) (w .answer) (w .slice)
     where

@@ -23,7 +23,7 @@ ghost use Rattle.sessions.specs.Calls.{Add, waits};
 ghost use Rattle.sessions.specs.Sessions.{queued, refusedBy, addOf};
 
 // Whether the request has a plan alone.
-fn plans_alone(setup: Setup, request: Request) -> bool
+pub fn plans_alone(setup: Setup, request: Request) -> bool
     ensures { λ r. ⌜ r ≡ hasPlan setup (request ∷ []) ⌝ }
 {
     if counter_alone(setup, request) {

@@ -3,11 +3,11 @@ use requests::Answer;
 
 pub mod add;
 pub mod drop;
-mod ids;
+pub mod ids;
 pub mod open;
-mod queue;
+pub mod queue;
 mod requeue;
-mod select;
+pub mod select;
 pub mod turn;
 pub mod turns;
 
@@ -19,7 +19,7 @@ struct Chosen {
 }
 
 // A plan with one request more: its number, 0 where there is none, and the sets of counters that are left then.
-struct Extended {
+pub struct Extended {
     pub code: u64,
     pub left: u64,
 }

@@ -31,10 +31,10 @@ ghost use Rattle.sessions.specs.Sessions.{queued};
 ghost use Rattle.planner.specs.Selections.{Searched, Selected};
 
 // The number of the plan of no request.
-const EMPTY_PLAN: u64 = 1;
+pub const EMPTY_PLAN: u64 = 1;
 
 // How many counters are usable.
-fn usable_count(setup: Setup) -> usize
+pub fn usable_count(setup: Setup) -> usize
     ensures { λ r. ⌜ r ≡ usableCount setup ⌝ }
 {
     let device = setup.device;
@@ -55,7 +55,7 @@ fn none_left(usable: CounterSet, left: u64) -> bool
 // The plan of the requests taken with one more behind them. No plan has more requests than counters are usable, so that nothing is looked
 // for once as many are taken, nor where the requests leave no set of counters. An event that has a counter beside the plan of those taken
 // extends it; only for the others is a plan searched.
-fn plan_with(
+pub fn plan_with(
     setup: Setup,
     usable: usize,
     counters: u64,

@@ -25,7 +25,7 @@ ghost use Rattle.sessions.specs.Sessions.{unassigned, turnOf, turnSlice};
 ghost use Rattle.planner.specs.Selections.{Settled, refusedWith};
 
 // What stands in a place of the plan that is not used.
-fn unassigned() -> Assigned
+pub fn unassigned() -> Assigned
     ensures { λ r. ⌜ r ≡ unassigned ⌝ }
 {
     Assigned {
@@ -80,7 +80,7 @@ fn outcome_of(
 }
 
 // What the plan says of an entry: its id, with its place as the i-th in the packed plan.
-fn assigned_to(code: u64, i: usize, entry: Entry) -> Assigned
+pub fn assigned_to(code: u64, i: usize, entry: Entry) -> Assigned
     requires { ⌜ i < 8 ⌝ }
     ensures { λ r. ⌜ r ≡ record { id = entry .id; place = placeAt code i (entry .request) } ⌝ }
 {

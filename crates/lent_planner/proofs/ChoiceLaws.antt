@@ -1,0 +1,329 @@
+-- What a turn takes, record by record. Assumes nothing.
+--     chosen-takes, chosen-passes, chosen-none    one record more, and none
+--     chosen-full                                 nothing more is taken once as many are taken as counters are usable
+use mathlib.Core.Path.{_≡_, refl, ap, sym, subst, _∙_}
+use mathlib.Core.List.{List, [], _∷_, _++_, append-nil, append-assoc}
+use mathlib.Core.Bool.{Bool, true, false}
+use Prim.Native.Nat.{ℕ, suc, _+_, _-_, _^_, _≤_, _<_}
+use native.Mathlib.Omega.{arith}
+use lib.ListN.{length, take, set, replicate, length-append}
+use lib.Seq.{take-at}
+use Rattle.requests.specs.declared.Setup.{Setup}
+use Rattle.requests.specs.declared.Entry.{Entry}
+use Rattle.plans.specs.Search.{firstPlan, planIn}
+use Rattle.plans.specs.Packed.{codeOf, packed, placesFrom}
+use Rattle.plans.specs.Reach.{leftBy}
+use Rattle.plans.proofs.ReachHolds.{reach}
+use Rattle.requests.specs.Devices.{capacity, counterCount}
+use Rattle.plans.specs.Legal.{HasPlan}
+use Rattle.plans.specs.Parts.{usableCount}
+use Rattle.plans.specs.Rows.{rowsFrom}
+use Rattle.plans.proofs.RequestRows.{rows-length}
+use Rattle.plans.proofs.PlanLengthHolds.{plan-length}
+use Rattle.plans.proofs.PartsHold.{parts}
+use Rattle.plans.proofs.PlanTestHolds.{plan-test}
+use Rattle.sessions.specs.Choose.{takenAfter}
+use Rattle.sessions.specs.Turns.{requestsOf, fits, taken, placesOf}
+use Rattle.sessions.specs.Sessions.{vacant}
+use Rattle.sessions.proofs.TakenPlan.{requests-length}
+use Rattle.sessions.proofs.Takes.{taking, taken-yes, taken-no}
+use Rattle.planner.specs.Selections.{inArray, Searched}
+use Rattle.planner.proofs.Selecting.{left-none, places-read}
+use Rattle.planner.proofs.Searching.{found-none, found-plan}
+use Rattle.planner.proofs.Arrays.{array-push}
+use Rattle.planner.proofs.Assigning.{requests-next}
+use Rattle.lent_planner.specs.Changes.{nowhere}
+use Rattle.lent_planner.specs.Choices.{marksAfter, marks, HasChosen, Ready, stopped}
+use Rattle.lent_planner.specs.declared.Choice.{Choice}
+
+-- ---- the places of those taken
+
+module _ (s : Setup) where
+  pub marks-yes : (i : ℕ) (done : List Entry) (e : Entry) (rest : List Entry) → fits s (done ++ e ∷ []) ≡ true → marksAfter s i done (e ∷ rest) ≡ i ∷ marksAfter s (i + 1) (done ++ e ∷ []) rest
+  unfolding marksAfter
+  marks-yes i done e rest h = rw (h, marksAfter)
+
+  pub marks-no : (i : ℕ) (done : List Entry) (e : Entry) (rest : List Entry) → fits s (done ++ e ∷ []) ≡ false → marksAfter s i done (e ∷ rest) ≡ marksAfter s (i + 1) done rest
+  unfolding marksAfter
+  marks-no i done e rest h = rw (h, marksAfter)
+
+  pub marks-nothing : (i : ℕ) (done : List Entry) → marksAfter s i done [] ≡ []
+  unfolding marksAfter
+  marks-nothing i done = refl
+
+  taken-nothing : (done : List Entry) → takenAfter (fits s) done [] ≡ []
+  unfolding takenAfter
+  taken-nothing done = refl
+
+  last-yes : (i : ℕ) (done : List Entry) (e : Entry) → fits s (done ++ (takenAfter (fits s) done [] ++ e ∷ [])) ≡ true → marksAfter s i done (e ∷ []) ≡ marksAfter s i done [] ++ (i + 0) ∷ []
+  last-yes i done e h =
+      let f : fits s (done ++ e ∷ []) ≡ true = ap (λ (l : List Entry). fits s (done ++ (l ++ e ∷ []))) (sym (taken-nothing done)) ∙ h in
+      let same : i ≡ i + 0 = omega arith in
+      marks-yes i done e [] f ∙ ap (λ (l : List ℕ). i ∷ l) (marks-nothing (i + 1) (done ++ e ∷ [])) ∙ ap (λ (m : ℕ). m ∷ []) same
+      ∙ ap (λ (l : List ℕ). l ++ (i + 0) ∷ []) (sym (marks-nothing i done))
+
+  last-no : (i : ℕ) (done : List Entry) (e : Entry) → fits s (done ++ (takenAfter (fits s) done [] ++ e ∷ [])) ≡ false → marksAfter s i done (e ∷ []) ≡ marksAfter s i done []
+  last-no i done e h =
+      let f : fits s (done ++ e ∷ []) ≡ false = ap (λ (l : List Entry). fits s (done ++ (l ++ e ∷ []))) (sym (taken-nothing done)) ∙ h in
+      marks-no i done e [] f ∙ marks-nothing (i + 1) done ∙ sym (marks-nothing i done)
+
+  -- one record behind the queue
+  behind-yes : (i : ℕ) (done q : List Entry) (e : Entry) → fits s (done ++ (takenAfter (fits s) done q ++ e ∷ [])) ≡ true → marksAfter s i done (q ++ e ∷ []) ≡ marksAfter s i done q ++ (i + length q) ∷ []
+  behind-yes i done [] e h = last-yes i done e h
+  behind-yes i done (x ∷ q) e h = go (fits s (done ++ x ∷ [])) refl (λ d y. behind-yes (i + 1) d q y)
+    where
+      further : (k : ℕ) → i + 1 + k ≡ i + suc k
+      further k = omega arith
+
+      go : (b : Bool) → fits s (done ++ x ∷ []) ≡ b
+          → ((d : List Entry) (y : Entry) → fits s (d ++ (takenAfter (fits s) d q ++ y ∷ [])) ≡ true → marksAfter s (i + 1) d (q ++ y ∷ []) ≡ marksAfter s (i + 1) d q ++ (i + 1 + length q) ∷ [])
+          → marksAfter s i done (x ∷ q ++ e ∷ []) ≡ marksAfter s i done (x ∷ q) ++ (i + suc (length q)) ∷ []
+      go true k below =
+          let f : fits s ((done ++ x ∷ []) ++ (takenAfter (fits s) (done ++ x ∷ []) q ++ e ∷ [])) ≡ true =
+          ap (fits s) (append-assoc done (x ∷ []) (takenAfter (fits s) (done ++ x ∷ []) q ++ e ∷ [])) ∙ ap (λ (l : List Entry). fits s (done ++ (l ++ e ∷ []))) (sym (taken-yes (fits s) done x q k)) ∙ h in
+          marks-yes i done x (q ++ e ∷ []) k
+          ∙ ap (λ (l : List ℕ). i ∷ l) (below (done ++ x ∷ []) e f ∙ ap (λ (m : ℕ). marksAfter s (i + 1) (done ++ x ∷ []) q ++ m ∷ []) (further (length q)))
+          ∙ ap (λ (l : List ℕ). l ++ (i + suc (length q)) ∷ []) (sym (marks-yes i done x q k))
+      go false k below =
+          let f : fits s (done ++ (takenAfter (fits s) done q ++ e ∷ [])) ≡ true = ap (λ (l : List Entry). fits s (done ++ (l ++ e ∷ []))) (sym (taken-no (fits s) done x q k)) ∙ h in
+          marks-no i done x (q ++ e ∷ []) k
+          ∙ below done e f
+          ∙ ap (λ (m : ℕ). marksAfter s (i + 1) done q ++ m ∷ []) (further (length q))
+          ∙ ap (λ (l : List ℕ). l ++ (i + suc (length q)) ∷ []) (sym (marks-no i done x q k))
+
+  behind-no : (i : ℕ) (done q : List Entry) (e : Entry) → fits s (done ++ (takenAfter (fits s) done q ++ e ∷ [])) ≡ false → marksAfter s i done (q ++ e ∷ []) ≡ marksAfter s i done q
+  behind-no i done [] e h = last-no i done e h
+  behind-no i done (x ∷ q) e h = go (fits s (done ++ x ∷ [])) refl (λ d y. behind-no (i + 1) d q y)
+    where
+      go : (b : Bool) → fits s (done ++ x ∷ []) ≡ b
+          → ((d : List Entry) (y : Entry) → fits s (d ++ (takenAfter (fits s) d q ++ y ∷ [])) ≡ false → marksAfter s (i + 1) d (q ++ y ∷ []) ≡ marksAfter s (i + 1) d q)
+          → marksAfter s i done (x ∷ q ++ e ∷ []) ≡ marksAfter s i done (x ∷ q)
+      go true k below =
+          let f : fits s ((done ++ x ∷ []) ++ (takenAfter (fits s) (done ++ x ∷ []) q ++ e ∷ [])) ≡ false =
+          ap (fits s) (append-assoc done (x ∷ []) (takenAfter (fits s) (done ++ x ∷ []) q ++ e ∷ [])) ∙ ap (λ (l : List Entry). fits s (done ++ (l ++ e ∷ []))) (sym (taken-yes (fits s) done x q k)) ∙ h in
+          marks-yes i done x (q ++ e ∷ []) k ∙ ap (λ (l : List ℕ). i ∷ l) (below (done ++ x ∷ []) e f) ∙ sym (marks-yes i done x q k)
+      go false k below =
+          let f : fits s (done ++ (takenAfter (fits s) done q ++ e ∷ [])) ≡ false = ap (λ (l : List Entry). fits s (done ++ (l ++ e ∷ []))) (sym (taken-no (fits s) done x q k)) ∙ h in
+          marks-no i done x (q ++ e ∷ []) k ∙ below done e f ∙ sym (marks-no i done x q k)
+
+  pub marks-takes : (q : List Entry) (e : Entry) → HasPlan s (requestsOf (taken s q ++ e ∷ [])) → marks s (q ++ e ∷ []) ≡ marks s q ++ length q ∷ []
+  unfolding marks taken fits
+  marks-takes q e h = behind-yes 0 [] q e (plan-test .planned s (requestsOf (takenAfter (fits s) [] q ++ e ∷ [])) h) ∙ ap (λ (m : ℕ). marksAfter s 0 [] q ++ m ∷ []) (zero-plus (length q))
+    where
+      zero-plus : (n : ℕ) → 0 + n ≡ n
+      zero-plus n = omega arith
+
+  pub marks-passes : (q : List Entry) (e : Entry) → ¬ HasPlan s (requestsOf (taken s q ++ e ∷ [])) → marks s (q ++ e ∷ []) ≡ marks s q
+  unfolding marks taken fits
+  marks-passes q e h = behind-no 0 [] q e (plan-test .unplanned s (requestsOf (takenAfter (fits s) [] q ++ e ∷ [])) h)
+
+  length-marks : (i : ℕ) (done q : List Entry) → length (marksAfter s i done q) ≡ length (takenAfter (fits s) done q)
+  length-marks i done [] = ap length (marks-nothing i done) ∙ sym (ap length (taken-nothing done))
+  length-marks i done (e ∷ q) = go (fits s (done ++ e ∷ [])) refl (λ d. length-marks (i + 1) d q)
+    where
+      go : (b : Bool) → fits s (done ++ e ∷ []) ≡ b → ((d : List Entry) → length (marksAfter s (i + 1) d q) ≡ length (takenAfter (fits s) d q)) → length (marksAfter s i done (e ∷ q)) ≡ length (takenAfter (fits s) done (e ∷ q))
+      go true k below = ap length (marks-yes i done e q k) ∙ ap suc (below (done ++ e ∷ [])) ∙ sym (ap length (taken-yes (fits s) done e q k))
+      go false k below = ap length (marks-no i done e q k) ∙ below done ∙ sym (ap length (taken-no (fits s) done e q k))
+
+  pub marks-count : (q : List Entry) → length (marks s q) ≡ length (taken s q)
+  unfolding marks taken
+  marks-count q = length-marks 0 [] q
+
+-- ---- a choice, record by record
+
+-- a record that has no plan behind those taken is passed over
+chosen-same : {s : Setup} {q : List Entry} {t : Choice} → HasChosen s q t → (e : Entry) → ¬ HasPlan s (requestsOf (taken s q ++ (e ∷ []))) → HasChosen s (q ++ (e ∷ [])) t
+chosen-same {s} {q} {t} c e h =
+    let same = taking s .taken-not q e h in
+    record {
+      setup = c .setup;
+      usable = c .usable;
+      counters = c .counters;
+      rows-length = c .rows-length;
+      rows-taken = rw same (c .rows-taken);
+      plan-found = rw same (c .plan-found);
+      plan-some = c .plan-some;
+      left-sets = rw same (c .left-sets);
+      taken-array = rw same (c .taken-array);
+      taken-count = rw same (c .taken-count);
+      taken-usable = c .taken-usable;
+      at-array = rw (marks-passes s q e h) (c .at-array);
+    }
+
+-- no more are taken than a plan has room for
+pub chosen-few : {s : Setup} {q : List Entry} {t : Choice} → HasChosen s q t → t .count ≤ 8
+unfolding capacity
+chosen-few {s} c =
+    let u = plan-length .usable-at-most s in
+    let d = plan-length .device-at-most (s .device) in
+    omega (arith, c .taken-usable)
+
+-- the choice with one record more, which stands at place i
+unfoldable pub taking-one : Choice → ℕ → ℕ → Entry → List ℕ → ℕ → ℕ → Choice
+taking-one t end i e rows found left =
+    record {
+      setup = t .setup;
+      usable = t .usable;
+      counters = t .counters;
+      end = end;
+      plan = found;
+      left = left;
+      rows = rows;
+      taken = set (t .taken) (t .count) e;
+      at = set (t .at) (t .count) i;
+      count = t .count + 1;
+    }
+
+module _ {s : Setup} {q : List Entry} {t : Choice} (c : HasChosen s q t) (e : Entry) {next : List ℕ} {found : ℕ} (search : Searched s (t .rows) (t .count) (e .request) next found) where
+  -- what was searched for is the plan of the record behind those taken
+  behind : rowsFrom (t .rows) 0 (t .count) ++ (e .request ∷ []) ≡ requestsOf (taken s q ++ (e ∷ []))
+  behind = rw (c .rows-taken) (sym (requests-next (taken s q) e))
+
+  fits-behind : (found ≡ 0 → ⊥) → HasPlan s (requestsOf (taken s q ++ (e ∷ [])))
+  fits-behind exists = found-plan s _ (λ z. exists (search .answer ∙ rw behind z))
+
+  fits-not : found ≡ 0 → ¬ HasPlan s (requestsOf (taken s q ++ (e ∷ [])))
+  fits-not missing = found-none s _ (rw (← behind) (sym (search .answer) ∙ missing))
+
+  chosen-passes : found ≡ 0 → HasChosen s (q ++ (e ∷ [])) t
+  chosen-passes missing = chosen-same c e (fits-not missing)
+
+  -- there is room for one more
+  chosen-room : (found ≡ 0 → ⊥) → (t .count < usableCount s) × (t .count < 8)
+  unfolding capacity
+  chosen-room exists =
+      let m = parts .at-most s _ (fits-behind exists) in
+      let r : length (requestsOf (taken s q ++ (e ∷ []))) ≡ t .count + 1 = requests-length (taken s q ++ (e ∷ [])) ∙ rw (length-append, c .taken-count) in
+      let u = plan-length .usable-at-most s in
+      let d = plan-length .device-at-most (s .device) in
+      (omega arith, omega arith)
+
+  chosen-takes : (found ≡ 0 → ⊥) → (end less : ℕ) → less ≡ leftBy (counterCount (s .device)) (e .request) (t .left)
+      → HasChosen s (q ++ (e ∷ [])) (taking-one t end (length q) e next found less)
+  unfolding capacity taking-one
+  chosen-takes exists end less w =
+      let f = fits-behind exists in
+      let yes = taking s .taken-fits q e f in
+      let room = chosen-room exists in
+      record {
+        setup = c .setup;
+        usable = c .usable;
+        counters = c .counters;
+        rows-length = search .size;
+        rows-taken = rw yes (search .behind exists ∙ behind);
+        plan-found = rw yes (search .answer ∙ rw behind);
+        plan-some = exists;
+        left-sets = λ small. rw (yes, requests-next, reach .grows s (requestsOf (taken s q)) (e .request), ← c .left-sets small) w;
+        taken-array = rw (yes, c .taken-array) (array-push 8 vacant (taken s q) (t .count) e (c .taken-count) (room .1));
+        taken-count = rw (yes, length-append, ← c .taken-count);
+        taken-usable = omega (arith, room .0);
+        at-array = rw (marks-takes s q e f, c .at-array) (array-push 8 nowhere (marks s q) (t .count) (length q) (c .taken-count ∙ sym (marks-count s q)) (room .1));
+      }
+
+-- ---- nothing more
+
+module _ {s : Setup} {q : List Entry} {t : Choice} (c : HasChosen s q t) (full : usableCount s ≤ t .count) where
+  never : (e : Entry) → ¬ HasPlan s (requestsOf (taken s q ++ (e ∷ [])))
+  never e h = omega (arith, parts .at-most s _ h, requests-length (taken s q ++ (e ∷ [])), length-append (taken s q) (e ∷ []), c .taken-count, full)
+
+pub chosen-full : {s : Setup} {q : List Entry} {t : Choice} → HasChosen s q t → usableCount s ≤ t .count → (rest : List Entry) → HasChosen s (q ++ rest) t
+chosen-full {s} {q} {t} c full [] = subst (λ (l : List Entry). HasChosen s l t) (sym (append-nil q)) c
+chosen-full {s} {q} {t} c full (e ∷ rest) = subst (λ (l : List Entry). HasChosen s l t) (append-assoc q (e ∷ []) rest) (chosen-full (chosen-same c e (never c full e)) full rest)
+
+-- ---- a choice that has not begun, and one that stops
+
+pub chosen-ready : {s : Setup} {q : List Entry} {t : Choice} → HasChosen s q t → Ready t
+chosen-ready {s} {q} {t} c =
+    let same = c .setup in
+    record {
+      usable = rw same (c .usable);
+      counters = rw same (c .counters);
+      count = rw same (c .taken-usable);
+      plan-found = rw (same, c .rows-taken) (c .plan-found);
+      plan-some = c .plan-some;
+      left-sets = rw (same, c .rows-taken) (c .left-sets);
+    }
+
+pub chosen-stopped : {s : Setup} {q : List Entry} {t : Choice} → HasChosen s q t → HasChosen s q (stopped t)
+unfolding stopped
+chosen-stopped c =
+    record {
+      setup = c .setup;
+      usable = c .usable;
+      counters = c .counters;
+      rows-length = c .rows-length;
+      rows-taken = c .rows-taken;
+      plan-found = c .plan-found;
+      plan-some = c .plan-some;
+      left-sets = c .left-sets;
+      taken-array = c .taken-array;
+      taken-count = c .taken-count;
+      taken-usable = c .taken-usable;
+      at-array = c .at-array;
+    }
+
+pub chosen-none : (s : Setup) (usable counters end left : ℕ) (rows : List ℕ) → usable ≡ usableCount s → counters ≡ counterCount (s .device) → (s .usable .0 < 64 → left ≡ 2 ^ s .usable .0) → length rows ≡ 32
+    → HasChosen s [] (record {
+      setup = s;
+      usable = usable;
+      counters = counters;
+      end = end;
+      plan = 1;
+      left = left;
+      rows = rows;
+      taken = inArray capacity vacant [];
+      at = inArray capacity nowhere [];
+      count = 0;
+    })
+unfolding marks marksAfter rowsFrom requestsOf firstPlan planIn packed codeOf
+chosen-none s usable counters end left rows u n l h =
+    record {
+      setup = refl;
+      usable = u;
+      counters = n;
+      rows-length = h;
+      rows-taken = rw (taking s .taken-none);
+      plan-found = rw (taking s .taken-none);
+      plan-some = λ e. omega (arith, e);
+      left-sets = λ small. left-none s left (l small);
+      taken-array = rw (taking s .taken-none);
+      taken-count = rw (taking s .taken-none);
+      taken-usable = omega arith;
+      at-array = refl;
+    }
+
+-- ---- one step, whatever the choice has gone through
+
+module _ (t : Choice) (e : Entry) (next : List ℕ) (found : ℕ) (search : Searched (t .setup) (t .rows) (t .count) (e .request) next found) where
+  at-setup : {s : Setup} → t .setup ≡ s → Searched s (t .rows) (t .count) (e .request) next found
+  at-setup same = subst (λ (x : Setup). Searched x (t .rows) (t .count) (e .request) next found) same search
+
+  -- there is room for one more
+  pub step-room : (found ≡ 0 → ⊥) → (t .count < usableCount (t .setup)) × (t .count < 8)
+  unfolding capacity
+  step-room exists =
+      let s = t .setup in
+      let m = parts .at-most s _ (found-plan s _ (λ z. exists (search .answer ∙ z))) in
+      let k = length-append (rowsFrom (t .rows) 0 (t .count)) (e .request ∷ []) in
+      let r = rows-length (t .rows) 0 (t .count) in
+      let u = plan-length .usable-at-most s in
+      let d = plan-length .device-at-most (s .device) in
+      (omega arith, omega arith)
+
+  pub step-passes : found ≡ 0 → (s : Setup) (q : List Entry) → HasChosen s q t → HasChosen s (q ++ (e ∷ [])) t
+  step-passes missing s q c = chosen-passes c e (at-setup (c .setup)) missing
+
+  pub step-takes : (found ≡ 0 → ⊥) → (end i less : ℕ) → less ≡ leftBy (counterCount (t .setup .device)) (e .request) (t .left)
+      → (s : Setup) (q : List Entry) → HasChosen s q t → length q ≡ i → HasChosen s (q ++ (e ∷ [])) (taking-one t end i e next found less)
+  step-takes exists end i less w s q c len =
+      subst (λ (k : ℕ). HasChosen s (q ++ (e ∷ [])) (taking-one t end k e next found less)) len
+      (chosen-takes c e (at-setup (c .setup)) exists end less (w ∙ ap (λ (x : Setup). leftBy (counterCount (x .device)) (e .request) (t .left)) (c .setup)))
+
+-- ---- the plan of those taken
+
+module _ {s : Setup} {q : List Entry} {t : Choice} (c : HasChosen s q t) where
+  pub chosen-places : placesFrom (t .plan) 0 (requestsOf (taken s q)) ≡ placesOf s (taken s q)
+  chosen-places = places-read s (taken s q) (t .plan) (c .plan-found) (c .plan-some)
+
+  pub chosen-entries : take (t .count) (t .taken) ≡ taken s q
+  chosen-entries = ap (λ (l : List Entry). take (t .count) l) (c .taken-array) ∙ take-at (taken s q) (replicate (capacity - length (taken s q)) vacant) (t .count) (sym (c .taken-count))

@@ -1,0 +1,6 @@
+pub mod Again
+pub mod CallSteps
+pub mod LentArray
+pub mod Loop
+pub mod Frees
+pub mod LargeConstants
