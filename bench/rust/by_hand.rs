@@ -75,7 +75,8 @@ fn by_hand() {
     queue[1] = Entry { id: 7, request: Request::Latency { types: 0xFFFF, first: 4, second: u64::MAX } };
     queue[2] = Entry { id: 0, request: event(0xFF, 0xFF, 8) };
     let device = Device::named(83).unwrap();
-    let mut s = Session { setup: Some(Setup { device, usable: u64::MAX, fixed: 0, box_number: 0, freeze: 0, core: None }), queue };
+    let setup = Setup { device, usable: u64::MAX, fixed: 0, box_number: 0, freeze: 0, core: None };
+    let mut s = Session { setup: Some(setup), queue, limit: LIMIT };
     print_session_of(&s, 1000);
     print_answer(s.open(Opening::plain(71, 15, 0, 0)));
     print_answer(s.add(8, event(0x52, 0, 1)));

@@ -23,6 +23,8 @@ pub const PLACES: usize = 8;
 pub const LIST: usize = 44;
 /// The most turns at once (order 6).
 pub const SHIFT: u64 = 64;
+/// The most records that the host can lend for a queue (order 8).
+pub const RECORDS: usize = 256;
 
 /// What a turn took, in the order taken, with the places that the plan gives, and the number of its writes.
 #[derive(Clone, Copy, PartialEq, Eq, Debug)]
@@ -35,6 +37,8 @@ pub struct Turn {
 
 /// The calls of a session. A refused call answers its number and changes nothing.
 pub trait Calls {
+    /// The lent session of the same planner.
+    type Lent: LentCalls;
     fn new() -> Self;
     fn open(&mut self, opening: Opening) -> Result<(), u64>;
     fn add(&mut self, id: u64, request: Request) -> Result<(), u64>;
@@ -43,4 +47,15 @@ pub trait Calls {
     /// So many turns at once (order 6): the lists one after another, and the places where they end.
     fn turns(&mut self, count: u64, lists: &mut [u64], ends: &mut [u64]) -> Result<(), u64>;
     fn queue(&self) -> &[Entry];
+}
+
+/// The calls of a session without a queue of its own (order 8): the queue lies in the records that the host lends to each
+/// call, those that wait first and vacant ones behind them. A refused call answers its number and changes nothing.
+pub trait LentCalls: Clone {
+    fn new() -> Self;
+    /// Makes all records vacant.
+    fn open(&mut self, rows: &mut [Entry], opening: Opening) -> Result<(), u64>;
+    fn add(&self, rows: &mut [Entry], id: u64, request: Request) -> Result<(), u64>;
+    fn drop(&self, rows: &mut [Entry], id: u64) -> Result<(), u64>;
+    fn turn(&self, rows: &mut [Entry], list: &mut [u64]) -> Result<Turn, u64>;
 }

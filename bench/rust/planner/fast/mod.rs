@@ -3,7 +3,9 @@
 //! planner's own it looks for a plan with each request that passes.
 
 mod left;
+pub mod lent;
 mod road;
+mod rules;
 pub mod search;
 pub mod session;
 mod writes;

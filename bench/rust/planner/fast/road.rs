@@ -9,25 +9,34 @@ use crate::planner::Turn;
 pub trait Road {
     /// Whether a well-formed request has a plan alone.
     fn plans_alone(setup: Setup, request: Request) -> bool;
-    /// Goes through the queue from the front, takes what has a plan together, and gives the places; answers the places of the
-    /// queue taken, as bits.
-    fn choose(setup: Setup, queue: &[Entry], turn: &mut Turn) -> u64;
+    /// Goes through the queue from the front, takes what has a plan together, and gives the places; tells where in the queue
+    /// each stood that is taken.
+    fn choose(setup: Setup, queue: &[Entry], turn: &mut Turn, taken_at: impl FnMut(usize));
 }
 
 /// What is left of counters and of filter words decides what is taken, and a turn searches once.
 #[derive(Clone)]
 pub struct Fastest;
 
+/// Whether there is a counter of each set, and not the same one.
+fn pair_fits(first: u64, second: u64) -> bool {
+    first != 0 && second != 0 && (first | second).count_ones() > 1
+}
+
 impl Road for Fastest {
     #[inline(always)]
     fn plans_alone(setup: Setup, request: Request) -> bool {
-        Left::all(setup.usable).take(request)
+        match request {
+            Request::Event { allowed, .. } | Request::Packet { allowed, .. } | Request::Offcore { allowed, .. } => {
+                allowed & setup.usable != 0
+            }
+            Request::Latency { first, second, .. } => pair_fits(first & setup.usable, second & setup.usable),
+        }
     }
 
     #[inline(always)]
-    fn choose(setup: Setup, queue: &[Entry], turn: &mut Turn) -> u64 {
+    fn choose(setup: Setup, queue: &[Entry], turn: &mut Turn, mut taken_at: impl FnMut(usize)) {
         let mut left = Left::all(setup.usable);
-        let mut at = 0;
         for (place, entry) in queue.iter().enumerate() {
             if left.no_counter() {
                 break;
@@ -35,11 +44,10 @@ impl Road for Fastest {
             if left.take(entry.request) {
                 turn.taken[turn.count] = *entry;
                 turn.count += 1;
-                at |= 1 << place;
+                taken_at(place);
             }
         }
         turn.places = first_plan(setup, &turn.taken[..turn.count]).expect("what is taken has a plan");
-        at
     }
 }
 
@@ -85,10 +93,9 @@ impl Road for Proved {
         }
     }
 
-    fn choose(setup: Setup, queue: &[Entry], turn: &mut Turn) -> u64 {
+    fn choose(setup: Setup, queue: &[Entry], turn: &mut Turn, mut taken_at: impl FnMut(usize)) {
         let most = setup.usable.count_ones() as usize;
         let mut sets = 1 << setup.usable;
-        let mut at = 0;
         for (place, entry) in queue.iter().enumerate() {
             if turn.count == most {
                 break;
@@ -96,9 +103,8 @@ impl Road for Proved {
             let left = sets_after(sets, entry.request);
             if left != 0 && extend(setup, entry, turn) {
                 sets = left;
-                at |= 1 << place;
+                taken_at(place);
             }
         }
-        at
     }
 }

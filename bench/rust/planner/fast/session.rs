@@ -1,5 +1,6 @@
 //! The session behind `&mut`: its queue lies in a fixed array, and every call changes it in place.
 
+use super::lent::LentOn;
 use super::road::{Fastest, Proved, Road};
 use super::writes::write_list;
 use crate::planner::devices::{Opening, Setup};
@@ -39,6 +40,8 @@ impl<R> SessionOn<R> {
 }
 
 impl<R: Road> Calls for SessionOn<R> {
+    type Lent = LentOn<R>;
+
     fn new() -> SessionOn<R> {
         SessionOn { setup: None, queue: [VACANT; LIMIT], waiting: 0, road: PhantomData }
     }
@@ -91,7 +94,8 @@ impl<R: Road> Calls for SessionOn<R> {
     fn turn(&mut self, list: &mut [u64]) -> Result<Turn, u64> {
         let setup = self.setup.ok_or(2u64)?;
         let mut turn = Turn { taken: [VACANT; PLACES], places: [Place::Counter(0); PLACES], count: 0, writes: 0 };
-        let at = R::choose(setup, self.queue(), &mut turn);
+        let mut at = 0;
+        R::choose(setup, self.queue(), &mut turn, |place| at |= 1 << place);
         let taken = &turn.taken[..turn.count];
         turn.writes = write_list(setup, taken, &turn.places, list).ok_or(14u64)?;
         self.requeue(at, taken);

@@ -3,8 +3,10 @@
 
 pub mod applied;
 pub mod c_box;
+pub mod lent;
 pub mod plan;
 pub mod reader;
+pub mod rules;
 pub mod writes;
 
 use super::devices::{Device, Opening, Setup};
@@ -16,6 +18,8 @@ use plan::first_plan;
 pub struct Session {
     pub setup: Option<Setup>,
     pub queue: Vec<Entry>,
+    /// The most requests that can wait.
+    pub limit: usize,
 }
 
 pub fn requests_of(entries: &[Entry]) -> Vec<Request> {
@@ -59,8 +63,10 @@ fn turn_of(taken: &[Entry], plan: &[Place], writes: usize) -> Turn {
 }
 
 impl Calls for Session {
+    type Lent = lent::Lent;
+
     fn new() -> Session {
-        Session { setup: None, queue: Vec::new() }
+        Session { setup: None, queue: Vec::new(), limit: LIMIT }
     }
 
     fn queue(&self) -> &[Entry] {
@@ -89,7 +95,7 @@ impl Calls for Session {
         if first_plan(setup, &[request]).is_none() {
             return Err(12);
         }
-        if self.queue.len() >= LIMIT {
+        if self.queue.len() >= self.limit {
             return Err(13);
         }
         self.queue.push(Entry { id, request });

@@ -87,7 +87,20 @@ fn first_from(setup: Setup, requests: &[Request], plan: &mut Vec<Place>) -> bool
     false
 }
 
+/// How many counters a request needs.
+fn needed(request: &Request) -> u32 {
+    match request {
+        Request::Latency { .. } => 2,
+        _ => 1,
+    }
+}
+
+/// The first legal plan. It is not looked for where more counters are needed than are usable: with hundreds waiting, most turns
+/// would end in such searches.
 pub fn first_plan(setup: Setup, requests: &[Request]) -> Option<Vec<Place>> {
+    if requests.iter().map(needed).sum::<u32>() > setup.usable.count_ones() {
+        return None;
+    }
     let mut plan = Vec::new();
     first_from(setup, requests, &mut plan).then_some(plan)
 }
