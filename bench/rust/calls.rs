@@ -9,5 +9,5 @@ use std::io::{stdin, Read};
 fn main() {
     let mut text = String::new();
     stdin().read_to_string(&mut text).unwrap();
-    script::answer_calls::<Session>(&text, |_, answer| println!("{answer}"));
+    script::answer_calls::<Session>(&text, |_, _, answer| print!("{answer}"));
 }

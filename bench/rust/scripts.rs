@@ -12,7 +12,8 @@ mod script;
 mod script_tally;
 mod transcript;
 
-use planner::{fast, model};
+use planner::{fast, model, Calls};
+use script::Host;
 use script_tally::Tally;
 use std::fs::{self, File};
 use std::process::{exit, Command, Stdio};
@@ -20,11 +21,11 @@ use std::process::{exit, Command, Stdio};
 const INPUT: &str = "target/bench/scripts.txt";
 
 /// All answers to a script by one of the Rust planners.
-fn answers_of<Session: planner::Calls>(script: &str, mut show: impl FnMut(&[&str], &str)) -> String {
+fn answers_of<Session: Calls + Clone>(script: &str, mut show: impl FnMut(&Host<Session>, &[&str], &str)) -> String {
     let mut text = String::new();
-    script::answer_calls::<Session>(script, |words, answer| {
-        show(words, answer);
-        text += &format!("{answer}\n");
+    script::answer_calls::<Session>(script, |before, words, answer| {
+        show(before, words, answer);
+        text += answer;
     });
     text
 }
@@ -52,8 +53,8 @@ fn fail(number: u64, seed: u64, what: &str, theirs: &str, model: &str) -> ! {
 fn compare(program: &str, number: u64, seed: u64, tally: &mut Tally) {
     let script = random_script::random(number, seed);
     fs::write(INPUT, &script).expect("a place for the script");
-    let model = answers_of::<model::Session>(&script, |words, answer| tally.count(words, answer));
-    let fast = answers_of::<fast::session::Session>(&script, |_, _| {});
+    let model = answers_of::<model::Session>(&script, |before, words, answer| tally.count(before, words, answer));
+    let fast = answers_of::<fast::session::Session>(&script, |_, _, _| {});
     if fast != model {
         fail(number, seed, "the fast planner", &fast, &model);
     }

@@ -1,0 +1,43 @@
+//! Openings as words of a call: the bench's own, and others that are mostly refused.
+
+use super::words_of;
+use crate::planner::devices::Opening;
+use crate::transcript::calls::{open_line, Bench};
+use crate::transcript::refused_opening;
+
+/// An open of any device with numbers that it may not have.
+pub fn odd(bench: &mut Bench) -> Vec<String> {
+    let letter = bench.numbers.pick(&['G', 'S', 'C', 'H', 'g', '0']);
+    let usable = bench.numbers.pick(&[0, 7, 15, 16, 63, 64, u64::MAX, 1 << 32]);
+    let fixed = bench.numbers.pick(&[0, 0, 0, 1, 7, 8, u64::MAX]);
+    let box_number = bench.numbers.pick(&[0, 0, 0, 1, 7, 8, u64::MAX]);
+    let freeze = bench.numbers.pick(&[0, 0, 0, 1, 1, 2, u64::MAX]);
+    let core = bench.numbers.pick(&["-", "-", "-", "0", "7", "8", "63", "64", "18446744073709551615"]);
+    words_of(&format!("open\t{letter}\t{usable}\t{fixed}\t{box_number}\t{freeze}\t{core}"))
+}
+
+/// The bench's own open with something else asked of an overflow, which may be refused.
+pub fn other_asking(bench: &mut Bench) -> Vec<String> {
+    let own = bench.opening();
+    let freeze = bench.numbers.pick(&[own.freeze, 0, 1, 1, 2, 1 << 32]);
+    let core = bench.numbers.pick(&[own.core, None, Some(0), Some(3), Some(7), Some(8), Some(1 << 32)]);
+    words_of(&open_line(Opening { freeze, core, ..own }))
+}
+
+/// Before the bench's own, mostly refused.
+pub fn first(bench: &mut Bench) -> Vec<String> {
+    match (bench.numbers.below(4), refused_opening(bench)) {
+        (0, _) => odd(bench),
+        (1, _) => other_asking(bench),
+        (_, Some(refused)) => words_of(&open_line(refused)),
+        (_, None) => words_of(&bench.own_open()),
+    }
+}
+
+/// Amid other calls, where most sessions are open.
+pub fn second(bench: &mut Bench) -> Vec<String> {
+    match bench.numbers.chance(50) {
+        true => odd(bench),
+        false => words_of(&bench.own_open()),
+    }
+}
