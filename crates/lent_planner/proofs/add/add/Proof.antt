@@ -1,4 +1,4 @@
--- `lent::add::add` meets its contract: a walk of its MIR, by hand. The records are lent on to the pass and to the change; what is decided is in `Deciding.antt`.
+-- `lent_planner::add::add` meets its contract: a walk of its MIR, by hand. The records are lent on to the pass and to the change; what is decided is in `Deciding.antt`.
 use mathlib.Core.Path.{_≡_, refl, sym, _∙_, ap, subst}
 use Prim.Native.Nat.{ℕ, _<_, _^_}
 use mathlib.Core.List.{List, [], _∷_}
@@ -18,7 +18,7 @@ use contract.Monad.{Fun}
 use contract.Running.{givenOf, tables, tablesOf}
 use types.Kit.{Given, Item, Sq, runs, ‵, _⊛_, ⋆, atRet, _$_, _∵_, !, qed, by, move, keep, drop, split, join, rewrite, fsplit, fjoin, suffices, frame, done}
 use types.Part.{whole, sub, look-in, agg}
-use types.Run.{look, init, forget, stop, hop, fld, from, load, of-opd, addr, and-then, no-more, assigns, land, returns, enter, alloc1, alloc0, params1, pass1, pass0, free1, free0}
+use types.Run.{look, init, forget, stop, hop, fld, from, load, of-opd, addr, and-then, no-more, assigns, land, returns, enter, alloc1, alloc0, params1, pass1, pass0}
 use sound.WpLaws.{FmC, fmOf, WpFn-mono}
 use denote.RattleType.{owns}
 use denote.Laws.{Is}
@@ -52,6 +52,7 @@ use Rattle.lent_planner.proofs.ChangeLocal as Ch
 use Rattle.lent_planner.proofs.SurveyLocal as Sv
 use Rattle.lent_planner.proofs.SetupLocal as Se
 use Rattle.lent_planner.proofs.RequestLocal as Rq
+use Rattle.walks.proofs.Frees.{free-all}
 use Rattle.walks.proofs.CallSteps.{Owned, calls-plain, calls-lent, calls-shared}
 use Rattle.lent_planner.proofs.DecisionRuns.{Freshes, DecidesAdds, fresh-one-runs, decide-add-runs}
 use Rattle.lent_planner.proofs.SurveyRuns.{Surveys, survey-runs}
@@ -140,10 +141,7 @@ module _ {M : Type 1} (𝓤 : URA M) (H : Heap 𝓤) (A : Atoms 𝓤) (W : Given
     answers =
         assigns ! (of-opd ! (load ! (from ! (fld ! refl (stop !))) (look-in ! 10 (sub ! 0 refl (whole !))))) (from ! (stop !)) (init ! 2 refl (La.typed 𝓤 H A W (d .answered) (De.answered-is d gd))) $
         returns ! (look ! 2 refl) $ forget ! 2 refl $ forget ! 3 refl $ forget ! 10 refl $
-        move ! (2 ∷ 17 ∷ []) $ free1 ! $ move ! (2 ∷ 16 ∷ []) $ free1 ! $ move ! (2 ∷ 15 ∷ []) $ free1 ! $ move ! (2 ∷ 14 ∷ []) $ free1 ! $ move ! (2 ∷ 13 ∷ []) $
-        free1 ! $ move ! (2 ∷ 12 ∷ []) $ free1 ! $ move ! (2 ∷ 11 ∷ []) $ free1 ! $ move ! (2 ∷ 10 ∷ []) $ free1 ! $ move ! (2 ∷ 9 ∷ []) $ free1 ! $ move ! (2 ∷ 8 ∷ []) $
-        free1 ! $ move ! (2 ∷ 7 ∷ []) $ free1 ! $ move ! (2 ∷ 6 ∷ []) $ free1 ! $ move ! (2 ∷ 5 ∷ []) $ free1 ! $ move ! (2 ∷ 4 ∷ []) $ free1 ! $ move ! (2 ∷ 3 ∷ []) $
-        free1 ! $ free0 ! $ keep ! (0 ∷ 1 ∷ []) $ by ! (exits d zs (De.answered-is d gd) decides is len)
+        keep ! (2 ∷ 17 ∷ 3 ∷ 18 ∷ 4 ∷ 19 ∷ 5 ∷ 20 ∷ 6 ∷ 21 ∷ 7 ∷ 22 ∷ 8 ∷ 23 ∷ 9 ∷ 24 ∷ 10 ∷ 25 ∷ 11 ∷ 26 ∷ 12 ∷ 27 ∷ 13 ∷ 28 ∷ 14 ∷ 29 ∷ 15 ∷ 30 ∷ 16 ∷ 31 ∷ 0 ∷ 1 ∷ []) $ free-all ! _ $ by ! (exits d zs (De.answered-is d gd) decides is len)
 
   -- the change of the records, once it is decided
   module _ (C : Calls 𝓤 H) (Λ : Loops 𝓤 H) (fm : FmC 𝓤 H (W .laws) C) (k-rearrange : Triple 𝓤 (C #rearrange) (Rearranges 𝓤 H A mem run)) (room : Room R n)

@@ -1,4 +1,4 @@
--- `lent::choose::select` meets its contract: a walk of its MIR, by hand. The slice is looked into once, before the loop, and shut after it. A turn reads one record and calls
+-- `lent_planner::choose::select` meets its contract: a walk of its MIR, by hand. The slice is looked into once, before the loop, and shut after it. A turn reads one record and calls
 -- `choose`, which is covered. The loop's state is i and the choice so far; its fact is how far the choice has gone (`SelectSteps.antt`).
 use mathlib.Core.Path.{_≡_, refl, ap, subst}
 use Prim.Native.Nat.{ℕ, _+_, _-_, _<_, _≤_, _^_}
@@ -23,7 +23,7 @@ use contract.Running.{givenOf, tables, tablesOf}
 use types.Kit.{Given, Item, Sq, runs, ‵, _⊛_, ⋆, anyQ, atRet, _$_, _∵_, !, qed, by, move, keep, drop, use1, split, join, rewrite, fsplit, fjoin, suffices, frame, done}
 use types.Part.{whole, sub, look-in}
 use types.Share.{arr-parts}
-use types.Run.{look, look-raw, init, store, forget, stop, hop, fld, from, load, lit, of-opd, bin, and-then, no-more, assigns, assigns-last, land, first, blocks, stays, leaves-loop, exec, returns, enter, alloc1, alloc0, params1, pass1, pass0, free1, free0}
+use types.Run.{look, look-raw, init, store, forget, stop, hop, fld, from, load, lit, of-opd, bin, and-then, no-more, assigns, assigns-last, land, first, blocks, stays, leaves-loop, exec, returns, enter, alloc1, alloc0, params1, pass1, pass0}
 use sound.WpLaws.{fmOf, WpFn-mono}
 use borrow.Author.Tests.{lt-ltb, le-ltb}
 use denote.RattleType.{owns}
@@ -49,6 +49,7 @@ use Rattle.lent_planner.specs.declared.Choice.{Choice}
 use Rattle.lent_planner.proofs.ChoiceLocal as Cc
 use Rattle.lent_planner.proofs.SelectSteps.{Far, far-start, far-ready, far-in, far-end, far-next, far-less}
 use Rattle.walks.proofs.Loop.{looped, lt-or-le}
+use Rattle.walks.proofs.Frees.{free-all}
 use Rattle.walks.proofs.CallSteps.{calls-plain}
 use Rattle.lent_planner.proofs.ChoiceRuns.{Chooses, choose-one-runs}
 use Rattle.lent_planner.proofs.choose.choose.Symbol as choose-one-def
@@ -161,8 +162,7 @@ module _ {M : Type 1} (𝓤 : URA M) (H : Heap 𝓤) (A : Atoms 𝓤) (W : Given
         assigns ! (of-opd ! (load ! (from ! (stop !)) (look ! 1 refl))) (from ! (stop !)) (init ! 8 refl (Cc.typed 𝓤 H A W t gt)) $
         move ! (9 ∷ 10 ∷ []) $ shuts-slice ! tt R q′ ys b o $
         returns ! (look ! 9 refl) $ forget ! 1 refl $ forget ! 2 refl $ forget ! 3 refl $ forget ! 7 refl $ forget ! 8 refl $ forget ! 9 refl $
-        move ! (9 ∷ 11 ∷ []) $ free1 ! $ move ! (7 ∷ 10 ∷ []) $ free1 ! $ move ! (7 ∷ 9 ∷ []) $ free1 ! $ move ! (2 ∷ 8 ∷ []) $ free1 ! $ move ! (1 ∷ 7 ∷ []) $ free1 ! $
-        move ! (1 ∷ 6 ∷ []) $ free1 ! $ move ! (1 ∷ 5 ∷ []) $ free1 ! $ move ! (1 ∷ 4 ∷ []) $ free1 ! $ move ! (1 ∷ 3 ∷ []) $ free1 ! $ free0 ! $ by ! (exits t gt e)
+        keep ! (9 ∷ 11 ∷ 7 ∷ 12 ∷ 8 ∷ 13 ∷ 2 ∷ 14 ∷ 1 ∷ 15 ∷ 3 ∷ 16 ∷ 4 ∷ 17 ∷ 5 ∷ 18 ∷ 6 ∷ 19 ∷ 0 ∷ 10 ∷ []) $ free-all ! _ $ by ! (exits t gt e)
 
     turns : (x : X) → Fact x → (Again : SProp 𝓤) → ((y : X) → Fact y → y .1 .end - y .0 < x .1 .end - x .0 → ent 𝓤 (⋆ 𝓤 H A (At y)) Again) → ent 𝓤 (⋆ 𝓤 H A (At x)) (Wp 𝓤 H C Λ E mir.turn-1 (afterTurn 𝓤 H Again Left))
     turns x f Again k = elim (lt-or-le (x .0) (x .1 .end)) [

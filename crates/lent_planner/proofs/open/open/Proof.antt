@@ -1,4 +1,4 @@
--- `lent::open::open` meets its contract: a walk of its MIR, by hand. The records are lent on to the pass and to the change; what is decided is in `Deciding.antt`.
+-- `lent_planner::open::open` meets its contract: a walk of its MIR, by hand. The records are lent on to the pass and to the change; what is decided is in `Deciding.antt`.
 use mathlib.Core.Path.{_≡_, refl, sym, _∙_, ap, subst}
 use Prim.Native.Nat.{ℕ}
 use mathlib.Core.List.{List, [], _∷_}
@@ -18,7 +18,7 @@ use contract.Monad.{Fun}
 use contract.Running.{givenOf, tables, tablesOf}
 use types.Kit.{Given, ‵, _⊛_, ⋆, _$_, _∵_, !, qed, by, move, keep, drop, split, join, rewrite, fsplit, fjoin, suffices, frame, done}
 use types.Part.{whole, sub, look-in, agg}
-use types.Run.{look, init, forget, stop, hop, fld, from, load, of-opd, addr, and-then, no-more, assigns, land, returns, enter, alloc1, alloc0, params1, pass1, pass0, free1, free0}
+use types.Run.{look, init, forget, stop, hop, fld, from, load, of-opd, addr, and-then, no-more, assigns, land, returns, enter, alloc1, alloc0, params1, pass1, pass0}
 use sound.WpLaws.{FmC, fmOf, WpFn-mono}
 use denote.RattleType.{owns}
 use denote.Laws.{Is}
@@ -45,6 +45,7 @@ use Rattle.lent_planner.proofs.OpeningLocal as Op
 use Rattle.lent_planner.proofs.DecisionLocal as De
 use Rattle.lent_planner.proofs.AnsweredLocal as La
 use Rattle.lent_planner.proofs.ChangeLocal as Ch
+use Rattle.walks.proofs.Frees.{free-all}
 use Rattle.walks.proofs.CallSteps.{Owned, calls-plain, calls-lent}
 use Rattle.lent_planner.proofs.DecisionRuns.{DecidesOpens, decide-open-runs}
 use Rattle.lent_planner.proofs.ChangeRuns.{Rearranges, rearrange-runs}
@@ -109,10 +110,7 @@ module _ {M : Type 1} (𝓤 : URA M) (H : Heap 𝓤) (A : Atoms 𝓤) (W : Given
         assigns ! (of-opd ! (load ! (from ! (fld ! refl (stop !))) (look-in ! 11 (sub ! 0 refl (whole !))))) (from ! (stop !)) (init ! 19 refl (La.typed 𝓤 H A W (gx .0 .answered) (De.answered-is (gx .0) (subst (Is De.S (gx .0)) (De.tells (gx .0) (x ∷ []) (gx .1)) (gx .1))))) $
         returns ! (look ! 19 refl) $ forget ! 19 refl $ forget ! 17 refl $ forget ! 15 refl $ forget ! 13 refl $ forget ! 11 refl $ forget ! 9 refl $ forget ! 7 refl $
         forget ! 5 refl $ forget ! 3 refl $
-        move ! (19 ∷ 20 ∷ []) $ free1 ! $ move ! (17 ∷ 18 ∷ []) $ free1 ! $ move ! (15 ∷ 16 ∷ []) $ free1 ! $ move ! (13 ∷ 14 ∷ []) $ free1 ! $ move ! (11 ∷ 12 ∷ []) $
-        free1 ! $ move ! (9 ∷ 10 ∷ []) $ free1 ! $ move ! (7 ∷ 8 ∷ []) $ free1 ! $ move ! (5 ∷ 6 ∷ []) $ free1 ! $ move ! (3 ∷ 4 ∷ []) $ free1 ! $ free0 ! $
-        keep ! (0 ∷ 1 ∷ []) $
-        by ! (exits (gx .0) zs (De.answered-is (gx .0) (subst (Is De.S (gx .0)) (De.tells (gx .0) (x ∷ []) (gx .1)) (gx .1))) (((gx .2) ys refl)) (g .1) len))))))))))))
+        keep ! (19 ∷ 20 ∷ 17 ∷ 18 ∷ 15 ∷ 16 ∷ 13 ∷ 14 ∷ 11 ∷ 12 ∷ 9 ∷ 10 ∷ 7 ∷ 8 ∷ 5 ∷ 6 ∷ 3 ∷ 4 ∷ 0 ∷ 1 ∷ []) $ free-all ! _ $ by ! (exits (gx .0) zs (De.answered-is (gx .0) (subst (Is De.S (gx .0)) (De.tells (gx .0) (x ∷ []) (gx .1)) (gx .1))) (((gx .2) ys refl)) (g .1) len))))))))))))
 
 module _ {M : Type 1} (𝓤 : URA M) (H : Heap 𝓤) (A : Atoms 𝓤) (W : Given 𝓤 H A) (mem : Memory → SProp 𝓤) (run : Routine → Fun 𝓤) (𝓣 : Tables 𝓤 H) (k-decide : Triple 𝓤 (𝓣 .C #decide-open) (DecidesOpens 𝓤 H A mem run)) (k-rearrange : Triple 𝓤 (𝓣 .C #rearrange) (Rearranges 𝓤 H A mem run)) where
   walks : Walks 𝓤 H A me.ended stayed (WpFn 𝓤 H (𝓣 .C) (𝓣 .Λ) code.function) (me.clauses 𝓤 H A mem run)

@@ -1,4 +1,4 @@
--- `lent::places::rearrange` meets its contract: a walk of its MIR, by hand. The borrow is opened once, before the loop, and closed after it. A turn asks `source` where to read,
+-- `lent_planner::places::rearrange` meets its contract: a walk of its MIR, by hand. The borrow is opened once, before the loop, and closed after it. A turn asks `source` where to read,
 -- reads there, asks `placed` what the record becomes, and stores it. The loop's state is how many records are left, i and the records as they are.
 use mathlib.Core.Path.{_≡_, refl, sym, _∙_, ap, subst}
 use Prim.Native.Nat.{ℕ, zero, suc, _+_, _-_, _<_, _≤_, _*_, _^_}
@@ -21,7 +21,7 @@ use contract.Monad.{Fun}
 use contract.Running.{givenOf, tables, tablesOf}
 use types.Kit.{Given, Item, Sq, runs, ‵, _⊛_, ⋆, anyQ, atRet, _$_, _∵_, !, qed, by, move, keep, drop, split, join, rewrite, fsplit, fjoin, feqI, suffices, frame, done}
 use types.Part.{whole, sub, look-in}
-use types.Run.{look, look-raw, init, store, store-raw, forget, stop, hop, fld, from, load, lit, unit-lit, of-opd, bin, and-then, no-more, assigns, assigns-last, land, first, blocks, stays, leaves-loop, exec, returns, enter, alloc1, alloc0, params1, pass1, pass0, free1, free0}
+use types.Run.{look, look-raw, init, store, store-raw, forget, stop, hop, fld, from, load, lit, unit-lit, of-opd, bin, and-then, no-more, assigns, assigns-last, land, first, blocks, stays, leaves-loop, exec, returns, enter, alloc1, alloc0, params1, pass1, pass0}
 use sound.WpLaws.{fmOf, WpFn-mono}
 use borrow.Author.Tests.{lt-ltb, le-ltb}
 use denote.RattleType.{owns}
@@ -48,6 +48,7 @@ use Rattle.lent_planner.specs.declared.Change.{Change}
 use Rattle.lent_planner.proofs.ChangeLocal as Ch
 use Rattle.lent_planner.proofs.ChangeSteps.{source-in}
 use Rattle.walks.proofs.Loop.{looped}
+use Rattle.walks.proofs.Frees.{free-all}
 use Rattle.walks.proofs.CallSteps.{calls-plain}
 use Rattle.lent_planner.proofs.ChangeRuns.{Sources, Places, source-of-runs, placed-at-runs}
 use Rattle.lent_planner.proofs.places.source.Symbol as source-of-def
@@ -192,9 +193,7 @@ module _ {M : Type 1} (𝓤 : URA M) (H : Heap 𝓤) (A : Atoms 𝓤) (W : Given
         assigns ! (of-opd ! (unit-lit !)) (from ! (stop !)) (init ! 13 refl (tt, tt)) $
         move ! (9 ∷ 14 ∷ 15 ∷ 16 ∷ []) $ closes-slice ! tt R xs ys len b o $
         returns ! (look ! 15 refl) $ forget ! 3 refl $ forget ! 7 refl $ forget ! 12 refl $ forget ! 13 refl $ forget ! 14 refl $ forget ! 15 refl $
-        move ! (15 ∷ 16 ∷ []) $ free1 ! $ move ! (12 ∷ 15 ∷ []) $ free1 ! $ move ! (12 ∷ 14 ∷ []) $ free1 ! $ move ! (3 ∷ 13 ∷ []) $ free1 ! $ move ! (11 ∷ 12 ∷ []) $
-        free1 ! $ move ! (3 ∷ 11 ∷ []) $ free1 ! $ move ! (3 ∷ 10 ∷ []) $ free1 ! $ move ! (3 ∷ 9 ∷ []) $ free1 ! $ move ! (3 ∷ 8 ∷ []) $ free1 ! $ move ! (3 ∷ 7 ∷ []) $
-        free1 ! $ move ! (3 ∷ 6 ∷ []) $ free1 ! $ move ! (3 ∷ 5 ∷ []) $ free1 ! $ move ! (3 ∷ 4 ∷ []) $ free1 ! $ free0 ! $ by ! (exits ys len e room)
+        keep ! (15 ∷ 16 ∷ 12 ∷ 17 ∷ 13 ∷ 18 ∷ 3 ∷ 19 ∷ 14 ∷ 20 ∷ 4 ∷ 21 ∷ 5 ∷ 22 ∷ 6 ∷ 23 ∷ 7 ∷ 24 ∷ 8 ∷ 25 ∷ 9 ∷ 26 ∷ 10 ∷ 27 ∷ 11 ∷ 28 ∷ 0 ∷ 1 ∷ 2 ∷ []) $ free-all ! _ $ by ! (exits ys len e room)
 
     -- how many records are left, i and the records as they are
     abbrev X : Type 0

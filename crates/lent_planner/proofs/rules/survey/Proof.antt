@@ -1,4 +1,4 @@
--- `lent::rules::survey` meets its contract: a walk of its MIR, by hand. The slice is looked into once, before the loop, and shut after it. A turn reads one record and
+-- `lent_planner::rules::survey` meets its contract: a walk of its MIR, by hand. The slice is looked into once, before the loop, and shut after it. A turn reads one record and
 -- lends the ids that are left to `survey_step`, which is covered. The loop's state is i, the pass so far and the ids that are left; its fact is that the pass from there over
 -- the records left gives what the whole pass gives.
 use mathlib.Core.Path.{_≡_, refl, sym, _∙_, ap, subst}
@@ -24,7 +24,7 @@ use contract.Running.{givenOf, tables, tablesOf}
 use types.Kit.{Given, Item, Sq, runs, ‵, _⊛_, ⋆, anyQ, atRet, _$_, _∵_, !, qed, by, move, keep, drop, use1, split, join, rewrite, fsplit, fjoin, suffices, frame, done}
 use types.Part.{whole, sub, look-in, agg}
 use types.Share.{arr-parts}
-use types.Run.{look, look-raw, init, store, forget, stop, hop, fld, from, load, lit, of-opd, addr, bin, and-then, no-more, assigns, assigns-last, land, first, blocks, stays, leaves-loop, exec, returns, enter, alloc1, alloc0, params1, pass1, pass0, free1, free0}
+use types.Run.{look, look-raw, init, store, forget, stop, hop, fld, from, load, lit, of-opd, addr, bin, and-then, no-more, assigns, assigns-last, land, first, blocks, stays, leaves-loop, exec, returns, enter, alloc1, alloc0, params1, pass1, pass0}
 use sound.WpLaws.{fmOf, WpFn-mono}
 use borrow.Author.Tests.{lt-ltb, le-ltb}
 use denote.RattleType.{owns}
@@ -52,6 +52,7 @@ use Rattle.lent_planner.specs.declared.Survey.{Survey}
 use Rattle.lent_planner.proofs.SurveyLocal as Sv
 use Rattle.lent_planner.proofs.SurveySteps.{len-next}
 use Rattle.walks.proofs.Loop.{looped, lt-or-le, nearer}
+use Rattle.walks.proofs.Frees.{free-all}
 use Rattle.walks.proofs.CallSteps.{Owned, Leaves, calls-plain}
 use Rattle.walks.proofs.LentArray.{arrayOf, calls-array}
 use Rattle.lent_planner.proofs.SurveyRuns.{AllLeft, Step, all-left-runs, step-runs}
@@ -202,9 +203,8 @@ module _ {M : Type 1} (𝓤 : URA M) (H : Heap 𝓤) (A : Atoms 𝓤) (W : Given
         move ! (14 ∷ 15 ∷ []) $ shuts-slice ! tt R q′ ys b o $
         returns ! (look ! 13 refl) $ forget ! 1 refl $ forget ! 2 refl $ forget ! 3 refl $ forget ! 5 refl $ forget ! 6 refl $ forget ! 11 refl $ forget ! 12 refl $
         forget ! 13 refl $
-        move ! (4 ∷ []) $ drop ! $ move ! (12 ∷ 15 ∷ []) $ free1 ! $ move ! (10 ∷ 14 ∷ []) $ free1 ! $ move ! (10 ∷ 13 ∷ []) $ free1 ! $ move ! (3 ∷ 12 ∷ []) $ free1 ! $
-        move ! (2 ∷ 11 ∷ []) $ free1 ! $ move ! (1 ∷ 10 ∷ []) $ free1 ! $ move ! (7 ∷ 9 ∷ []) $ free1 ! $ move ! (1 ∷ 8 ∷ []) $ free1 ! $ move ! (1 ∷ 7 ∷ []) $ free1 ! $
-        move ! (1 ∷ 6 ∷ []) $ free1 ! $ move ! (1 ∷ 5 ∷ []) $ free1 ! $ move ! (1 ∷ 4 ∷ []) $ free1 ! $ move ! (1 ∷ 3 ∷ []) $ free1 ! $ free0 ! $ by ! (exits t gt e)
+        move ! (4 ∷ []) $ drop ! $
+        keep ! (12 ∷ 15 ∷ 10 ∷ 16 ∷ 11 ∷ 17 ∷ 3 ∷ 18 ∷ 2 ∷ 19 ∷ 1 ∷ 20 ∷ 13 ∷ 21 ∷ 4 ∷ 22 ∷ 5 ∷ 23 ∷ 6 ∷ 24 ∷ 7 ∷ 25 ∷ 8 ∷ 26 ∷ 9 ∷ 27 ∷ 0 ∷ 14 ∷ []) $ free-all ! _ $ by ! (exits t gt e)
 
     turns : (x : X) → Fact x → (Again : SProp 𝓤) → ((y : X) → Fact y → n - y .0 < n - x .0 → ent 𝓤 (⋆ 𝓤 H A (At y)) Again) → ent 𝓤 (⋆ 𝓤 H A (At x)) (Wp 𝓤 H C Λ E mir.turn-1 (afterTurn 𝓤 H Again Left))
     unfolding surveyFrom

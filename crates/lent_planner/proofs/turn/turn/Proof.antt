@@ -1,4 +1,4 @@
--- `lent::turn::turn` meets its contract: a walk of its MIR, by hand. The records are lent on to the pass, to the choice and to the change, and the slice to `write_turn`; what is decided is in
+-- `lent_planner::turn::turn` meets its contract: a walk of its MIR, by hand. The records are lent on to the pass, to the choice and to the change, and the slice to `write_turn`; what is decided is in
 -- `TurnDeciding.antt`.
 use mathlib.Core.Path.{_≡_, refl, sym, _∙_, ap, subst}
 use Prim.Native.Nat.{ℕ}
