@@ -1,6 +1,7 @@
 pub mod Again
 pub mod CallSteps
 pub mod LentArray
+pub mod LentPart
 pub mod Loop
 pub mod Frees
 pub mod LargeConstants
