@@ -4,9 +4,10 @@ use crate::output::field;
 use crate::output::text;
 use plans::Place;
 use requests::Answer;
+use requests::devices::CAPACITY;
 use requests::refusals::number_of;
+use sessions::Assigned;
 use sessions::Session;
-use sessions::TurnAnswered;
 
 // `ok`, or `no` and the number.
 pub fn answer(a: Answer) {
@@ -63,12 +64,12 @@ fn place(id: u64, given: Place) {
     }
 }
 
-// The plan of a turn.
-pub fn plan(turned: TurnAnswered) {
+// The plan of a turn, in the first places.
+pub fn plan(plan: [Assigned; CAPACITY], taken: usize) {
     let mut i: usize = 0;
     while i < 8 {
-        if i < turned.taken {
-            let assigned = turned.plan[i];
+        if i < taken {
+            let assigned = plan[i];
             let given = assigned.place;
             place(assigned.id, given);
         }

@@ -2,11 +2,17 @@
 // docs/MAINTAINING.md has the notation. A line that is not in it is answered `?` and changes nothing.
 mod answers;
 mod asked;
+mod edits;
 mod formats;
+mod host;
+mod lending;
+mod lent_calls;
+mod lent_words;
 mod numbers;
 mod opening;
 mod output;
 mod reading;
+mod rows;
 mod script;
 mod session_calls;
 mod source;

@@ -45,6 +45,14 @@ pub fn field(n: u64) {
     decimal(n);
 }
 
+// A line that is not in the notation.
+pub fn unknown() {
+    text(b"?\n");
+}
+
+// The longest slice of a script.
+pub const LONGEST_SLICE: u64 = 8192;
+
 // The value of every number of a slice before a call.
 pub const KEPT: u64 = 0xEEEE;
 

@@ -3,9 +3,15 @@ use crate::asked::Asked;
 use crate::asked::add_numbers;
 use crate::asked::request_of;
 use crate::formats::numbers_in;
+use crate::host::Host;
+use crate::host::new_host;
+use crate::host::with_session;
+use crate::lent_words::is_lent;
+use crate::lent_words::lent_call;
 use crate::opening::opening;
 use crate::output::KEPT;
-use crate::output::text;
+use crate::output::LONGEST_SLICE;
+use crate::output::unknown;
 use crate::reading::reading;
 use crate::session_calls::answered;
 use crate::session_calls::turned;
@@ -15,19 +21,14 @@ use crate::words::word;
 use crate::words::words_of;
 use planner::add::add;
 use planner::drop::drop_request;
-use planner::open::new_session;
 use planner::open::open;
 use records::words::same;
 use sessions::Session;
 ghost use Prim.Native.Nat.{_≤_};
 ghost use lib.ListN.{length};
 
-// The longest slice of a script.
-const LONGEST_SLICE: u64 = 8192;
-
-// A line that is not in the notation.
-pub fn unknown(session: Session) -> Session {
-    text(b"?\n");
+fn unknown_session(session: Session) -> Session {
+    unknown();
     session
 }
 
@@ -36,7 +37,7 @@ fn add_call(session: Session, line: &[u8], words: Words) -> Session {
     let at = numbers.at;
     match request_of(line, words, numbers) {
         Asked::For(request) => answered(add(session, at[1], request)),
-        Asked::Nothing => unknown(session),
+        Asked::Nothing => unknown_session(session),
     }
 }
 
@@ -49,7 +50,7 @@ fn turn_in(session: Session, list: &mut [u64], count: usize) -> Session
 
 fn turn_call(session: Session, length: u64) -> Session {
     if LONGEST_SLICE < length {
-        return unknown(session);
+        return unknown_session(session);
     }
     let mut list = [KEPT; 8192];
     turn_in(session, &mut list, length as usize)
@@ -71,7 +72,7 @@ fn turns_in(
 
 fn turns_call(session: Session, at: [u64; 20]) -> Session {
     if LONGEST_SLICE < at[2] || LONGEST_SLICE < at[3] {
-        return unknown(session);
+        return unknown_session(session);
     }
     let mut list = [KEPT; 8192];
     let mut ends = [KEPT; 8192];
@@ -85,13 +86,9 @@ fn turns_call(session: Session, at: [u64; 20]) -> Session {
     )
 }
 
-// The call of a line without further words, with one number or three, or with all that open or the reader takes.
-fn call(session: Session, line: &[u8], words: Words) -> Session {
+// The call of a line with one number or three, or with all that open or the reader takes.
+fn session_call(session: Session, line: &[u8], words: Words) -> Session {
     let verb = word(line, words, 0);
-    let alone = numbers_in(line, words, b"v");
-    if same(verb, b"new") && alone.fits {
-        return new_session();
-    }
     let one = numbers_in(line, words, b"vd");
     let at = one.at;
     if same(verb, b"drop") && one.fits {
@@ -119,14 +116,28 @@ fn call(session: Session, line: &[u8], words: Words) -> Session {
     if same(verb, b"add") {
         return add_call(session, line, words);
     }
-    unknown(session)
+    unknown_session(session)
+}
+
+// The call of a line, of the one session or the other.
+fn call(host: Host, line: &[u8], words: Words) -> Host {
+    let verb = word(line, words, 0);
+    let alone = numbers_in(line, words, b"v");
+    if same(verb, b"new") && alone.fits {
+        return new_host();
+    }
+    if is_lent(verb) {
+        return lent_call(host, line, words);
+    }
+    let session = host.session;
+    with_session(host, session_call(session, line, words))
 }
 
 // A line of the script; one without words is passed over.
-pub fn run_line(session: Session, line: &[u8]) -> Session {
+pub fn run_line(host: Host, line: &[u8]) -> Host {
     let words = words_of(line);
     if words.count == 0 {
-        return session;
+        return host;
     }
-    call(session, line, words)
+    call(host, line, words)
 }

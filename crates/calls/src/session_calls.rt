@@ -20,7 +20,8 @@ pub fn answered(done: Answered) -> Session {
 // A turn with a slice.
 pub fn turned(session: Session, list: &mut [u64]) -> Session {
     let done = turn(session, list);
-    plan(done);
+    let assigned = done.plan;
+    plan(assigned, done.taken);
     let answer = done.answer;
     answer_line(answer);
     slice(b"list", list);

@@ -1,18 +1,18 @@
 // The script: standard input, line by line.
+use crate::host::Host;
+use crate::host::new_host;
+use crate::host::unknown_line;
 use crate::script::run_line;
-use crate::script::unknown;
 use libc::STDIN_FILENO;
-use planner::open::new_session;
-use sessions::Session;
 ghost use Prim.Native.Nat.{_≤_};
 ghost use lib.ListN.{length};
 
 // The number of bytes of a line for which there is no room.
 const TOO_LONG: usize = usize::MAX;
 
-// What a part of the script leaves: the session, and the number of bytes of the unfinished line.
+// What a part of the script leaves: the host, and the number of bytes of the unfinished line.
 struct Held {
-    session: Session,
+    host: Host,
     bytes: usize,
 }
 
@@ -26,23 +26,23 @@ fn hold(text: &mut [u8], bytes: usize, byte: u8) -> usize {
 }
 
 // A line at the start of a text.
-fn run_start(session: Session, text: &[u8], bytes: usize) -> Session
+fn run_start(host: Host, text: &[u8], bytes: usize) -> Host
     requires { ⌜ bytes ≤ length (now text) ⌝ }
 {
-    run_line(session, &text[..bytes])
+    run_line(host, &text[..bytes])
 }
 
 // The line that is held; a longer one is not in the notation.
-fn run_held(session: Session, text: &[u8], bytes: usize) -> Session {
+fn run_held(host: Host, text: &[u8], bytes: usize) -> Host {
     if text.len() < bytes {
-        return unknown(session);
+        return unknown_line(host);
     }
-    run_start(session, text, bytes)
+    run_start(host, text, bytes)
 }
 
 // A block of the script.
-fn run_block(session: Session, text: &mut [u8], held: usize, block: &[u8]) -> Held {
-    let mut next = session;
+fn run_block(host: Host, text: &mut [u8], held: usize, block: &[u8]) -> Held {
+    let mut next = host;
     let mut bytes = held;
     let mut i = 0;
     while i < block.len() {
@@ -56,7 +56,7 @@ fn run_block(session: Session, text: &mut [u8], held: usize, block: &[u8]) -> He
         }
     }
     Held {
-        session: next,
+        host: next,
         bytes: bytes,
     }
 }
@@ -65,7 +65,7 @@ fn run_block(session: Session, text: &mut [u8], held: usize, block: &[u8]) -> He
 pub fn run() {
     let mut block = io::buffer();
     let mut text = io::buffer();
-    let mut session = new_session();
+    let mut host = new_host();
     let mut bytes: usize = 0;
     let mut turns = u64::MAX;
     while turns > 0 {
@@ -73,12 +73,12 @@ pub fn run() {
         if n == 0 {
             break;
         }
-        let held = run_block(session, &mut text, bytes, &block[..n]);
-        session = held.session;
+        let held = run_block(host, &mut text, bytes, &block[..n]);
+        host = held.host;
         bytes = held.bytes;
         turns -= 1;
     }
     if 0 < bytes {
-        run_held(session, &text, bytes);
+        run_held(host, &text, bytes);
     }
 }

@@ -83,3 +83,12 @@ pub fn word<'a>(line: &'a [u8], words: Words, k: usize) -> &'a [u8] {
     }
     &line[..0]
 }
+
+// The line after its first word.
+pub fn past_first<'a>(line: &'a [u8], words: Words) -> &'a [u8] {
+    let end = words.ends[0];
+    if end <= line.len() {
+        return &line[end..];
+    }
+    &line[..0]
+}

@@ -5,10 +5,10 @@ use Rattle.calls.proofs.answers.plan.Statement.{statement}
 use Rattle.calls.proofs.answers.plan.Tie as tie
 
 abbrev Inv-loop : tie.InvT-loop
-Inv-loop turned i₀ i = i ≤ 8
+Inv-loop plan taken i₀ i = i ≤ 8
 
 abbrev μ-loop : tie.MeasureT-loop
-μ-loop turned i₀ i = 8 - i
+μ-loop plan taken i₀ i = 8 - i
 
 pub plan-spec : {M : Type 1} → statement M
 plan-spec =

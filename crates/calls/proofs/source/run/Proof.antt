@@ -7,10 +7,10 @@ use Rattle.calls.proofs.source.run.Statement.{statement}
 use Rattle.calls.proofs.source.run.Tie as tie
 
 abbrev Inv-loop : tie.InvT-loop
-Inv-loop block₀ text₀ session₀ bytes₀ turns₀ block text session bytes turns = (4096 ≡ length block) × (4096 ≡ length text)
+Inv-loop block₀ text₀ host₀ bytes₀ turns₀ block text host bytes turns = (4096 ≡ length block) × (4096 ≡ length text)
 
 abbrev μ-loop : tie.MeasureT-loop
-μ-loop block₀ text₀ session₀ bytes₀ turns₀ block text session bytes turns = turns
+μ-loop block₀ text₀ host₀ bytes₀ turns₀ block text host bytes turns = turns
 
 pub run-spec : {M : Type 1} → statement M
 run-spec =

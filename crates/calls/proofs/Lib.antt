@@ -1,0 +1,4 @@
+pub mod AnsweredRowsLocal
+pub mod LendingRuns
+pub mod RowsLocal
+pub mod TurnedRowsLocal

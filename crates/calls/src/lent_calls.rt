@@ -1,0 +1,61 @@
+// The calls of the lent session: each prints its answer and the records that it leaves, and answers the host afterwards.
+use crate::answers::answer_line;
+use crate::answers::plan;
+use crate::host::Host;
+use crate::host::lent_count;
+use crate::host::with_lent;
+use crate::lending::AnsweredRows;
+use crate::lending::add_rows;
+use crate::lending::drop_rows;
+use crate::lending::open_rows;
+use crate::lending::turn_rows;
+use crate::output::slice;
+use crate::rows::rows_line;
+use requests::Opening;
+use requests::Request;
+
+// The answer of an open, add or drop.
+fn answered(host: Host, done: AnsweredRows) -> Host {
+    let told = done.answered;
+    let answer = told.answer;
+    answer_line(answer);
+    let rows = done.rows;
+    rows_line(rows, lent_count(host));
+    let lent = told.session;
+    with_lent(host, lent, rows)
+}
+
+pub fn open_lent(host: Host, given: Opening) -> Host {
+    let rows = host.rows;
+    let lent = host.lent;
+    answered(host, open_rows(rows, lent_count(host), lent, given))
+}
+
+pub fn add_lent(host: Host, id: u64, request: Request) -> Host {
+    let rows = host.rows;
+    let lent = host.lent;
+    answered(host, add_rows(rows, lent_count(host), lent, id, request))
+}
+
+pub fn drop_lent(host: Host, id: u64) -> Host {
+    let rows = host.rows;
+    let lent = host.lent;
+    answered(host, drop_rows(rows, lent_count(host), lent, id))
+}
+
+// A turn with a slice.
+pub fn turn_lent(host: Host, list: &mut [u64]) -> Host {
+    let rows = host.rows;
+    let lent = host.lent;
+    let done = turn_rows(rows, lent_count(host), lent, list);
+    let told = done.turned;
+    let assigned = told.plan;
+    plan(assigned, told.taken);
+    let answer = told.answer;
+    answer_line(answer);
+    slice(b"list", list);
+    let left = done.rows;
+    rows_line(left, lent_count(host));
+    let next = told.session;
+    with_lent(host, next, left)
+}
