@@ -70,7 +70,7 @@ impl<Session: Calls> Host<Session> {
                 Some(String::new())
             }
             ["read", rest @ ..] => reading(rest),
-            ["rows" | "row" | "ropen" | "radd" | "rdrop" | "rturn", ..] => self.lent.answer(words),
+            ["rows" | "row" | "ropen" | "radd" | "rdrop" | "rturn" | "rrun", ..] => self.lent.answer(words),
             _ => call(&mut self.session, words),
         }
     }

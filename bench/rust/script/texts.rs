@@ -40,10 +40,15 @@ fn takes(turn: &Turn) -> String {
     text
 }
 
+/// A turn's plan and its answer.
+pub fn taken(result: &Result<Turn, u64>) -> String {
+    let plan = result.as_ref().map_or(String::new(), takes);
+    format!("{plan}{}", answer(result))
+}
+
 /// A turn's plan, its answer and the slice.
 pub fn turn(result: &Result<Turn, u64>, list: &[u64]) -> String {
-    let plan = result.as_ref().map_or(String::new(), takes);
-    format!("{plan}{}\n{}", answer(result), slice("list", list))
+    format!("{}\n{}", taken(result), slice("list", list))
 }
 
 pub fn told(state: State) -> String {

@@ -43,8 +43,8 @@ pub fn drop_lent(host: Host, id: u64) -> Host {
     answered(host, drop_rows(rows, lent_count(host), lent, id))
 }
 
-// A turn with a slice.
-pub fn turn_lent(host: Host, list: &mut [u64]) -> Host {
+// A turn with a slice: its plan and its answer.
+fn taken_lent(host: Host, list: &mut [u64]) -> Host {
     let rows = host.rows;
     let lent = host.lent;
     let done = turn_rows(rows, lent_count(host), lent, list);
@@ -53,9 +53,33 @@ pub fn turn_lent(host: Host, list: &mut [u64]) -> Host {
     plan(assigned, told.taken);
     let answer = told.answer;
     answer_line(answer);
-    slice(b"list", list);
     let left = done.rows;
-    rows_line(left, lent_count(host));
     let next = told.session;
     with_lent(host, next, left)
+}
+
+// The records that are lent.
+fn rows_left(host: Host) {
+    let rows = host.rows;
+    rows_line(rows, lent_count(host));
+}
+
+// A turn with a slice, its list and the records.
+pub fn turn_lent(host: Host, list: &mut [u64]) -> Host {
+    let next = taken_lent(host, list);
+    slice(b"list", list);
+    rows_left(next);
+    next
+}
+
+// Turns one after another with one slice, and the records after the last.
+pub fn turns_lent(host: Host, count: u64, list: &mut [u64]) -> Host {
+    let mut next = host;
+    let mut left = count;
+    while 0 < left {
+        next = taken_lent(next, list);
+        left -= 1;
+    }
+    rows_left(next);
+    next
 }

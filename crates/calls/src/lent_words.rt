@@ -11,6 +11,7 @@ use crate::lent_calls::add_lent;
 use crate::lent_calls::drop_lent;
 use crate::lent_calls::open_lent;
 use crate::lent_calls::turn_lent;
+use crate::lent_calls::turns_lent;
 use crate::opening::opening;
 use crate::output::KEPT;
 use crate::output::LONGEST_SLICE;
@@ -21,6 +22,9 @@ use records::words::same;
 ghost use Prim.Native.Nat.{_≤_};
 ghost use lib.ListN.{length};
 
+// The most turns of one line.
+const MOST_TURNS: u64 = 1024;
+
 // Whether a line with this first word is one of them.
 pub fn is_lent(verb: &[u8]) -> bool {
     if same(verb, b"rows") || same(verb, b"row") {
@@ -29,7 +33,10 @@ pub fn is_lent(verb: &[u8]) -> bool {
     if same(verb, b"ropen") || same(verb, b"radd") {
         return true;
     }
-    same(verb, b"rdrop") || same(verb, b"rturn")
+    if same(verb, b"rdrop") || same(verb, b"rturn") {
+        return true;
+    }
+    same(verb, b"rrun")
 }
 
 fn add_call(host: Host, line: &[u8], words: Words) -> Host {
@@ -56,6 +63,21 @@ fn turn_call(host: Host, length: u64) -> Host {
     turn_in(host, &mut list, length as usize)
 }
 
+// Turns with the first numbers of a list.
+fn turns_in(host: Host, turns: u64, list: &mut [u64], count: usize) -> Host
+    requires { ⌜ count ≤ length (now list) ⌝ }
+{
+    turns_lent(host, turns, &mut list[..count])
+}
+
+fn run_call(host: Host, turns: u64, length: u64) -> Host {
+    if MOST_TURNS < turns || LONGEST_SLICE < length {
+        return unknown_line(host);
+    }
+    let mut list = [KEPT; 8192];
+    turns_in(host, turns, &mut list, length as usize)
+}
+
 // The call or the edit of a line.
 pub fn lent_call(host: Host, line: &[u8], words: Words) -> Host {
     let verb = word(line, words, 0);
@@ -69,6 +91,11 @@ pub fn lent_call(host: Host, line: &[u8], words: Words) -> Host {
     }
     if same(verb, b"rturn") && one.fits {
         return turn_call(host, at[1]);
+    }
+    let two = numbers_in(line, words, b"vdd");
+    if same(verb, b"rrun") && two.fits {
+        let given = two.at;
+        return run_call(host, given[1], given[2]);
     }
     let numbers = numbers_in(line, words, b"vlddddc");
     if same(verb, b"ropen") && numbers.fits {
