@@ -8,6 +8,7 @@ pub mod ChoiceLocal
 pub mod ChangeLocal
 pub mod ChangeSteps
 pub mod ChangeRuns
+pub mod PassedRules
 pub mod SurveyLaw
 pub mod ChangeLaws
 pub mod QueueChanges
@@ -19,6 +20,7 @@ pub mod SessionLocal
 pub mod DecisionLocal
 pub mod RequestLocal
 pub mod DecisionRuns
+pub mod Marks
 pub mod ChoiceLaws
 pub mod SelectSteps
 pub mod ChoiceRuns

@@ -24,7 +24,7 @@ use Rattle.lent_sessions.specs.Records.{recordsOf}
 use Rattle.lent_planner.specs.Changes.{past, pastAll, ahead, source, nowhere, rearranged}
 use Rattle.lent_planner.specs.Choices.{marksAfter, marks}
 use Rattle.lent_planner.specs.declared.Change.{Change}
-use Rattle.lent_planner.proofs.ChoiceLaws.{marks-yes, marks-no, marks-nothing}
+use Rattle.lent_planner.proofs.Marks.{marks-yes, marks-no, marks-nothing}
 use Rattle.lent_planner.proofs.ChangeLaws.{length-changed, changed-in, changed-out, placed-ahead, placed-fresh, all-nowhere}
 use Rattle.lent_planner.proofs.QueueChanges.{at-padded, records-are}
 
