@@ -53,22 +53,26 @@ module _ {M : Type 1} (𝓤 : URA M) (H : Heap 𝓤) (A : Atoms 𝓤) (mem : Mem
   module _ (W : Given 𝓤 H A) (C : Calls 𝓤 H) (fm : FmC 𝓤 H (W .laws) C) where
     pub source-of-runs : Triple 𝓤 (C #source-of) Sources → (c : Change) → (i : ℕ) → Is Ch.S c (Ch.vals c) → i < 2 ^ 64 → i + c .skip + 8 < 2 ^ 64
         → ent 𝓤 (emp 𝓤) (C #source-of (Ch.val c ∷ vint w64 i ∷ []) (λ w. H .⇛ (guard 𝓤 (Is usize (source c i) (w ∷ [])) (emp 𝓤))))
-    source-of-runs known c i g0 g1 need = called-so 𝓤 H A W C fm #source-of Sources known ((tt, tt, tt, (c, (i, tt)), ((Ch.vals c), ((vint w64 i ∷ []), tt))), tt) (emp 𝓤) (λ w. H .⇛ (guard 𝓤 (Is usize (source c i) (w ∷ [])) (emp 𝓤)))
+    source-of-runs known c i g0 g1 need = called-so 𝓤 H A W C fm #source-of Sources known ((tt, tt, tt, (c, (i, tt)), ((Ch.vals c), ((vint w64 i ∷ []), tt))), tt) (emp 𝓤)
+        (λ w. H .⇛ (guard 𝓤 (Is usize (source c i) (w ∷ [])) (emp 𝓤)))
         (qed W [] ∵ says ! need $ nothing ! $ owned ! usize (Is usize) (uint-makes 𝓤 H A W w64) i _ (refl, g1) $ fjoin ! $ owned ! Ch.S (Is Ch.S) (Ch.made 𝓤 H A) c _ g0 $
         fjoin ! $ nothing ! $ join ! $ done !)
         (λ w. qed W (raw (Sources .post ((tt, tt, tt, (c, (i, tt)), ((Ch.vals c), ((vint w64 i ∷ []), tt))), tt) w) ∷ []) ∵ updating ! $
-        use1 W (later (some (λ (r : ℕ). (‵ ftrue ⊛ ‵ (usize .own r (w ∷ []))) ⊛ some (λ (ws : Lasts source-of.ended tt (c, (i, tt))). ‵ (lasts source-of.ended tt (c, (i, tt)) ws) ⊛ raw (fact 𝓤 (r ≡ (source c i))))))) (id⊢ 𝓤 _) $
+        use1 W (later (some (λ (r : ℕ). (‵ ftrue ⊛ ‵ (usize .own r (w ∷ []))) ⊛ some
+        (λ (ws : Lasts source-of.ended tt (c, (i, tt))). ‵ (lasts source-of.ended tt (c, (i, tt)) ws) ⊛ raw (fact 𝓤 (r ≡ (source c i))))))) (id⊢ 𝓤 _) $
         await ! tt $ pick ! (λ r.
         split ! $ move ! (1 ∷ []) $ pick ! (λ ws. split ! $ move ! (1 ∷ []) $ heard ! (r ≡ (source c i)) (λ e. move ! (1 ∷ []) $ split ! $ drop ! $
         peeks ! usize (Is usize) (shows 𝓤 H A usize) r (w ∷ []) (λ is. at-once ! $ check ! (subst (λ (x : ℕ). Is usize x (w ∷ [])) e is) $ keep ! [] $ done !)))))
 
     pub placed-at-runs : Triple 𝓤 (C #placed-at) Places → (c : Change) → (i : ℕ) → (e : Entry) → Is Ch.S c (Ch.vals c) → i < 2 ^ 64 → Is R e (El.vals e) → i + c .skip + 8 < 2 ^ 64
         → ent 𝓤 (emp 𝓤) (C #placed-at (Ch.val c ∷ vint w64 i ∷ El.val e ∷ []) (λ w. H .⇛ (guard 𝓤 (Is R (placed c i e) (w ∷ [])) (emp 𝓤))))
-    placed-at-runs known c i e g0 g1 g2 need = called-so 𝓤 H A W C fm #placed-at Places known ((tt, tt, tt, (c, (i, (e, tt))), ((Ch.vals c), ((vint w64 i ∷ []), ((El.vals e), tt)))), tt) (emp 𝓤) (λ w. H .⇛ (guard 𝓤 (Is R (placed c i e) (w ∷ [])) (emp 𝓤)))
+    placed-at-runs known c i e g0 g1 g2 need = called-so 𝓤 H A W C fm #placed-at Places known
+        ((tt, tt, tt, (c, (i, (e, tt))), ((Ch.vals c), ((vint w64 i ∷ []), ((El.vals e), tt)))), tt) (emp 𝓤) (λ w. H .⇛ (guard 𝓤 (Is R (placed c i e) (w ∷ [])) (emp 𝓤)))
         (qed W [] ∵ says ! need $ nothing ! $ owned ! R (Is R) (El.made 𝓤 H A) e _ g2 $ fjoin ! $ owned ! usize (Is usize) (uint-makes 𝓤 H A W w64) i _ (refl, g1) $
         fjoin ! $ owned ! Ch.S (Is Ch.S) (Ch.made 𝓤 H A) c _ g0 $ fjoin ! $ nothing ! $ join ! $ done !)
         (λ w. qed W (raw (Places .post ((tt, tt, tt, (c, (i, (e, tt))), ((Ch.vals c), ((vint w64 i ∷ []), ((El.vals e), tt)))), tt) w) ∷ []) ∵ updating ! $
-        use1 W (later (some (λ (r : Entry). (‵ ftrue ⊛ ‵ (R .own r (w ∷ []))) ⊛ some (λ (ws : Lasts placed-at.ended tt (c, (i, (e, tt)))). ‵ (lasts placed-at.ended tt (c, (i, (e, tt))) ws) ⊛ raw (fact 𝓤 (r ≡ (placed c i e))))))) (id⊢ 𝓤 _) $
+        use1 W (later (some (λ (r : Entry). (‵ ftrue ⊛ ‵ (R .own r (w ∷ []))) ⊛ some
+        (λ (ws : Lasts placed-at.ended tt (c, (i, (e, tt)))). ‵ (lasts placed-at.ended tt (c, (i, (e, tt))) ws) ⊛ raw (fact 𝓤 (r ≡ (placed c i e))))))) (id⊢ 𝓤 _) $
         await ! tt $ pick ! (λ r.
         split ! $ move ! (1 ∷ []) $ pick ! (λ ws. split ! $ move ! (1 ∷ []) $ heard ! (r ≡ (placed c i e)) (λ e. move ! (1 ∷ []) $ split ! $ drop ! $
         peeks ! R (Is R) (shows 𝓤 H A R) r (w ∷ []) (λ is. at-once ! $ check ! (subst (λ (x : Entry). Is R x (w ∷ [])) e is) $ keep ! [] $ done !)))))
@@ -81,13 +85,16 @@ module _ {M : Type 1} (𝓤 : URA M) (H : Heap 𝓤) (A : Atoms 𝓤) (mem : Mem
       to-rearrange = (((ν ∷ [], tt), (fullShare, tt), tt, (rows, (c, tt)), (sliceVal (b, o) (length ys) ∷ [], (Ch.vals c, tt))), tt)
 
       pub rearrange-runs : Triple 𝓤 (C #rearrange) Rearranges → Is Ch.S c (Ch.vals c) → Fitting c (length ys)
-          → ent 𝓤 (sep 𝓤 (sem 𝓤 H A (Owned R (b, o) (length ys) (named 0) (ν ∷ []) δ ys)) (A .lft (ν ∷ []) fullShare)) (C #rearrange (sliceVal (b, o) (length ys) ∷ Ch.val c ∷ []) (Leaves 𝓤 H A R (length ys) (λ w zs. (w ≡ vunit) × (zs ≡ rearranged c ys)) ν δ))
+          → ent 𝓤 (sep 𝓤 (sem 𝓤 H A (Owned R (b, o) (length ys) (named 0) (ν ∷ []) δ ys)) (A .lft (ν ∷ []) fullShare))
+          (C #rearrange (sliceVal (b, o) (length ys) ∷ Ch.val c ∷ []) (Leaves 𝓤 H A R (length ys) (λ w zs. (w ≡ vunit) × (zs ≡ rearranged c ys)) ν δ))
       rearrange-runs known gc need = called-so 𝓤 H A W C fm #rearrange Rearranges known to-rearrange _ (Leaves 𝓤 H A R (length ys) (λ w zs. (w ≡ vunit) × (zs ≡ rearranged c ys)) ν δ)
           (qed W (‵ (Owned R (b, o) (length ys) (named 0) (ν ∷ []) δ ys) ∷ ‵ (flft (ν ∷ []) fullShare) ∷ []) ∵ says ! need $
           nothing ! $ owned ! Ch.S (Is Ch.S) (Ch.made 𝓤 H A) c _ gc $ fjoin ! $ move ! (1 ∷ 0 ∷ []) $ fjoin ! $ nothing ! $ move ! (2 ∷ 0 ∷ []) $ join ! $ join ! $
           done !)
           (λ w. qed W (raw (Rearranges .post to-rearrange w) ∷ []) ∵ updating ! $
-          use1 W (later (some (λ (r : Unit {0}). ((‵ (flft (ν ∷ []) fullShare) ⊛ ‵ ftrue) ⊛ ‵ (Nothing .own r (w ∷ []))) ⊛ some (λ (ws : Lasts rearrange.ended (ν ∷ [], tt) (rows, (c, tt))). ‵ (lasts rearrange.ended (ν ∷ [], tt) (rows, (c, tt)) ws) ⊛ raw (fact 𝓤 (ws .0 ≡ rearranged c ys)))))) (id⊢ 𝓤 _) $
+          use1 W (later (some (λ (r : Unit {0}). ((‵ (flft (ν ∷ []) fullShare) ⊛ ‵ ftrue) ⊛ ‵ (Nothing .own r (w ∷ []))) ⊛ some
+          (λ (ws : Lasts rearrange.ended (ν ∷ [], tt) (rows, (c, tt))). ‵ (lasts rearrange.ended (ν ∷ [], tt) (rows, (c, tt)) ws) ⊛ raw
+          (fact 𝓤 (ws .0 ≡ rearranged c ys)))))) (id⊢ 𝓤 _) $
           await ! tt $ pick ! (λ r.
           split ! $ move ! (1 ∷ []) $ pick ! (λ ws. split ! $ move ! (1 ∷ []) $ heard ! (ws .0 ≡ rearranged c ys) (λ h. fsplit ! $ fsplit ! $ move ! (1 ∷ []) $
           feqL ! (λ l′.

@@ -56,22 +56,28 @@ module _ {M : Type 1} (𝓤 : URA M) (H : Heap 𝓤) (A : Atoms 𝓤) (mem : Mem
   module _ (W : Given 𝓤 H A) (C : Calls 𝓤 H) (fm : FmC 𝓤 H (W .laws) C) where
     pub begun-one-runs : Triple 𝓤 (C #begun-one) Begins → (st : Setup) → (n : ℕ) → Is Se.S st (Se.vals st) → n < 2 ^ 64
         → ent 𝓤 (emp 𝓤) (C #begun-one (Se.val st ∷ vint w64 n ∷ []) (λ w. H .⇛ (guard 𝓤 ((d : Choice) × Is Cc.S d (w ∷ []) × (HasChosen st [] d × (d .end ≡ n))) (emp 𝓤))))
-    begun-one-runs known st n g0 g1 = called-so 𝓤 H A W C fm #begun-one Begins known ((tt, tt, tt, (st, (n, tt)), ((Se.vals st), ((vint w64 n ∷ []), tt))), tt) (emp 𝓤) (λ w. H .⇛ (guard 𝓤 ((d : Choice) × Is Cc.S d (w ∷ []) × (HasChosen st [] d × (d .end ≡ n))) (emp 𝓤)))
+    begun-one-runs known st n g0 g1 = called-so 𝓤 H A W C fm #begun-one Begins known ((tt, tt, tt, (st, (n, tt)), ((Se.vals st), ((vint w64 n ∷ []), tt))), tt) (emp 𝓤)
+        (λ w. H .⇛ (guard 𝓤 ((d : Choice) × Is Cc.S d (w ∷ []) × (HasChosen st [] d × (d .end ≡ n))) (emp 𝓤)))
         (qed W [] ∵ nothing ! $ owned ! usize (Is usize) (uint-makes 𝓤 H A W w64) n _ (refl, g1) $ fjoin ! $ owned ! Se.S (Is Se.S) (Se.made 𝓤 H A) st _ g0 $ fjoin ! $
         nothing ! $ join ! $ nothing ! $ move ! (1 ∷ 0 ∷ []) $ join ! $ done !)
         (λ w. qed W (raw (Begins .post ((tt, tt, tt, (st, (n, tt)), ((Se.vals st), ((vint w64 n ∷ []), tt))), tt) w) ∷ []) ∵ updating ! $
-        use1 W (later (some (λ (r : Choice). (‵ ftrue ⊛ ‵ (Cc.S .own r (w ∷ []))) ⊛ some (λ (ws : Lasts begun-one.ended tt (st, (n, tt))). ‵ (lasts begun-one.ended tt (st, (n, tt)) ws) ⊛ raw (fact 𝓤 ((HasChosen st [] r × (r .end ≡ n)))))))) (id⊢ 𝓤 _) $
+        use1 W (later (some (λ (r : Choice). (‵ ftrue ⊛ ‵ (Cc.S .own r (w ∷ []))) ⊛ some
+        (λ (ws : Lasts begun-one.ended tt (st, (n, tt))). ‵ (lasts begun-one.ended tt (st, (n, tt)) ws) ⊛ raw (fact 𝓤 ((HasChosen st [] r × (r .end ≡ n))))))))
+        (id⊢ 𝓤 _) $
         await ! tt $ pick ! (λ r.
         split ! $ move ! (1 ∷ []) $ pick ! (λ ws. split ! $ move ! (1 ∷ []) $ heard ! ((HasChosen st [] r × (r .end ≡ n))) (λ e. move ! (1 ∷ []) $ split ! $ drop ! $
         peeks ! Cc.S (Is Cc.S) (shows 𝓤 H A Cc.S) r (w ∷ []) (λ is. at-once ! $ check ! (r, is, e) $ keep ! [] $ done !)))))
 
     pub choose-one-runs : Triple 𝓤 (C #choose-one) Chooses → (t : Choice) → (i : ℕ) → (e : Entry) → Is Cc.S t (Cc.vals t) → i < 2 ^ 64 → Is R e (El.vals e) → Ready t
         → ent 𝓤 (emp 𝓤) (C #choose-one (Cc.val t ∷ vint w64 i ∷ El.val e ∷ []) (λ w. H .⇛ (guard 𝓤 ((d : Choice) × Is Cc.S d (w ∷ []) × Chose t i e d) (emp 𝓤))))
-    choose-one-runs known t i e g0 g1 g2 need = called-so 𝓤 H A W C fm #choose-one Chooses known ((tt, tt, tt, (t, (i, (e, tt))), ((Cc.vals t), ((vint w64 i ∷ []), ((El.vals e), tt)))), tt) (emp 𝓤) (λ w. H .⇛ (guard 𝓤 ((d : Choice) × Is Cc.S d (w ∷ []) × Chose t i e d) (emp 𝓤)))
+    choose-one-runs known t i e g0 g1 g2 need = called-so 𝓤 H A W C fm #choose-one Chooses known
+        ((tt, tt, tt, (t, (i, (e, tt))), ((Cc.vals t), ((vint w64 i ∷ []), ((El.vals e), tt)))), tt) (emp 𝓤)
+        (λ w. H .⇛ (guard 𝓤 ((d : Choice) × Is Cc.S d (w ∷ []) × Chose t i e d) (emp 𝓤)))
         (qed W [] ∵ says ! need $ nothing ! $ owned ! R (Is R) (El.made 𝓤 H A) e _ g2 $ fjoin ! $ owned ! usize (Is usize) (uint-makes 𝓤 H A W w64) i _ (refl, g1) $
         fjoin ! $ owned ! Cc.S (Is Cc.S) (Cc.made 𝓤 H A) t _ g0 $ fjoin ! $ nothing ! $ join ! $ done !)
         (λ w. qed W (raw (Chooses .post ((tt, tt, tt, (t, (i, (e, tt))), ((Cc.vals t), ((vint w64 i ∷ []), ((El.vals e), tt)))), tt) w) ∷ []) ∵ updating ! $
-        use1 W (later (some (λ (r : Choice). (‵ ftrue ⊛ ‵ (Cc.S .own r (w ∷ []))) ⊛ some (λ (ws : Lasts choose-one.ended tt (t, (i, (e, tt)))). ‵ (lasts choose-one.ended tt (t, (i, (e, tt))) ws) ⊛ raw (fact 𝓤 (Chose t i e r)))))) (id⊢ 𝓤 _) $
+        use1 W (later (some (λ (r : Choice). (‵ ftrue ⊛ ‵ (Cc.S .own r (w ∷ []))) ⊛ some
+        (λ (ws : Lasts choose-one.ended tt (t, (i, (e, tt)))). ‵ (lasts choose-one.ended tt (t, (i, (e, tt))) ws) ⊛ raw (fact 𝓤 (Chose t i e r)))))) (id⊢ 𝓤 _) $
         await ! tt $ pick ! (λ r.
         split ! $ move ! (1 ∷ []) $ pick ! (λ ws. split ! $ move ! (1 ∷ []) $ heard ! (Chose t i e r) (λ e. move ! (1 ∷ []) $ split ! $ drop ! $
         peeks ! Cc.S (Is Cc.S) (shows 𝓤 H A Cc.S) r (w ∷ []) (λ is. at-once ! $ check ! (r, is, e) $ keep ! [] $ done !)))))
@@ -84,13 +90,18 @@ module _ {M : Type 1} (𝓤 : URA M) (H : Heap 𝓤) (A : Atoms 𝓤) (mem : Mem
       to-select = (((ν ∷ [], tt), (fullShare, tt), tt, (rows, (s, tt)), (sliceVal (b, o) (length ys) ∷ [], (Cc.vals s, tt))), tt)
 
       pub select-runs : Triple 𝓤 (C #select) Selects → Is Cc.S s (Cc.vals s) → HasChosen (s .setup) [] s × (s .end ≡ length ys)
-          → ent 𝓤 (sep 𝓤 (sem 𝓤 H A (Shared R (b, o) (named 0) (ν ∷ []) δ ys)) (A .lft (ν ∷ []) fullShare)) (C #select (sliceVal (b, o) (length ys) ∷ Cc.val s ∷ []) (λ w. H .⇛ (guard 𝓤 ((d : Choice) × Is Cc.S d (w ∷ []) × HasChosen (s .setup) (standing ys) d) (A .lft (ν ∷ []) fullShare))))
-      select-runs known gs need = called-so 𝓤 H A W C fm #select Selects known to-select _ (λ w. H .⇛ (guard 𝓤 ((d : Choice) × Is Cc.S d (w ∷ []) × HasChosen (s .setup) (standing ys) d) (A .lft (ν ∷ []) fullShare)))
+          → ent 𝓤 (sep 𝓤 (sem 𝓤 H A (Shared R (b, o) (named 0) (ν ∷ []) δ ys)) (A .lft (ν ∷ []) fullShare))
+          (C #select (sliceVal (b, o) (length ys) ∷ Cc.val s ∷ [])
+          (λ w. H .⇛ (guard 𝓤 ((d : Choice) × Is Cc.S d (w ∷ []) × HasChosen (s .setup) (standing ys) d) (A .lft (ν ∷ []) fullShare))))
+      select-runs known gs need = called-so 𝓤 H A W C fm #select Selects known to-select _
+          (λ w. H .⇛ (guard 𝓤 ((d : Choice) × Is Cc.S d (w ∷ []) × HasChosen (s .setup) (standing ys) d) (A .lft (ν ∷ []) fullShare)))
           (qed W (‵ (Shared R (b, o) (named 0) (ν ∷ []) δ ys) ∷ ‵ (flft (ν ∷ []) fullShare) ∷ []) ∵ says ! need $
           nothing ! $ owned ! Cc.S (Is Cc.S) (Cc.made 𝓤 H A) s _ gs $ fjoin ! $ move ! (1 ∷ 0 ∷ []) $ fjoin ! $ nothing ! $ move ! (2 ∷ 0 ∷ []) $ join ! $ join ! $
           done !)
           (λ w. qed W (raw (Selects .post to-select w) ∷ []) ∵ updating ! $
-          use1 W (later (some (λ (r : Choice). ((‵ (flft (ν ∷ []) fullShare) ⊛ ‵ ftrue) ⊛ ‵ (Cc.S .own r (w ∷ []))) ⊛ some (λ (ws : Lasts select.ended (ν ∷ [], tt) (rows, (s, tt))). ‵ (lasts select.ended (ν ∷ [], tt) (rows, (s, tt)) ws) ⊛ raw (fact 𝓤 (HasChosen (s .setup) (standing ys) r)))))) (id⊢ 𝓤 _) $
+          use1 W (later (some (λ (r : Choice). ((‵ (flft (ν ∷ []) fullShare) ⊛ ‵ ftrue) ⊛ ‵ (Cc.S .own r (w ∷ []))) ⊛ some
+          (λ (ws : Lasts select.ended (ν ∷ [], tt) (rows, (s, tt))). ‵ (lasts select.ended (ν ∷ [], tt) (rows, (s, tt)) ws) ⊛ raw
+          (fact 𝓤 (HasChosen (s .setup) (standing ys) r)))))) (id⊢ 𝓤 _) $
           await ! tt $ pick ! (λ r.
           split ! $ move ! (1 ∷ []) $ pick ! (λ ws. split ! $ move ! (1 ∷ []) $ heard ! (HasChosen (s .setup) (standing ys) r) (λ h. move ! (1 ∷ []) $ split ! $
           move ! (1 ∷ []) $

@@ -138,18 +138,21 @@ decides-open s rows o t h n e =
       answered = rw (accepted, opens-with s rows o t accepted e);
       rows-after =
           all-vacated rows (count .1)
-          ∙ sym (rows-accepted s rows (Open o) accepted ∙ ap (λ (p : Plain). recordsOf (length rows) (waiting (change p (Open o)))) plain ∙ ap (λ (p : Plain). recordsOf (length rows) (waiting p)) made);
+          ∙ sym (rows-accepted s rows (Open o) accepted ∙ ap (λ (p : Plain). recordsOf (length rows) (waiting (change p (Open o)))) plain ∙ ap
+          (λ (p : Plain). recordsOf (length rows) (waiting p)) made);
       fits = record { end = omega arith; skip = omega arith };
     }
 
 -- the records of the next queue
-pub next-rows : (s : LentSession) (rows : List Entry) (c : Call) (q : List Entry) → s .opened ≡ true → lentRefusal s rows c ≡ none → change (opened (s .setup) (standing rows)) c ≡ opened (s .setup) q
+pub next-rows : (s : LentSession) (rows : List Entry) (c : Call) (q : List Entry) → s .opened ≡ true → lentRefusal s rows c ≡ none → change
+    (opened (s .setup) (standing rows)) c ≡ opened (s .setup) q
     → rowsAfter s rows c ≡ recordsOf (length rows) q
 unfolding waiting
 next-rows s rows c q h accepted made =
     rows-accepted s rows c accepted ∙ ap (λ (p : Plain). recordsOf (length rows) (waiting (change p c))) (with-opened s rows h) ∙ ap (λ (p : Plain). recordsOf (length rows) (waiting p)) made
 
-pub decides-add : (s : LentSession) (rows : List Entry) (id : ℕ) (r : Request) (t : Survey) → s .opened ≡ true → Kept s rows id t → refusal (length rows) (opened (s .setup) (standing rows)) (Add id r) ≡ none → t .len < length rows
+pub decides-add : (s : LentSession) (rows : List Entry) (id : ℕ) (r : Request) (t : Survey) → s .opened ≡ true → Kept s rows id t → refusal (length rows)
+    (opened (s .setup) (standing rows)) (Add id r) ≡ none → t .len < length rows
     → Decides s rows (Add id r) (record { answered = record { answer = Accepted; session = s }; change = shifted (t .len) (t .len + 1) 1 (record { id = id; request = r }) })
 unfolding lentAnswered lentChanged answerFor change onQueue shifted
 decides-add s rows id r t h k none-row room =
@@ -166,7 +169,8 @@ decides-add s rows id r t h k none-row room =
       fits = record { end = omega (arith, room); skip = omega (arith, room) };
     }
 
-pub decides-drop : (s : LentSession) (rows : List Entry) (id : ℕ) (t : Survey) → s .opened ≡ true → Kept s rows id t → refusal (length rows) (opened (s .setup) (standing rows)) (Drop id) ≡ none → t .found ≡ true
+pub decides-drop : (s : LentSession) (rows : List Entry) (id : ℕ) (t : Survey) → s .opened ≡ true → Kept s rows id t → refusal (length rows)
+    (opened (s .setup) (standing rows)) (Drop id) ≡ none → t .found ≡ true
     → Decides s rows (Drop id) (record { answered = record { answer = Accepted; session = s }; change = shifted (t .at) (t .len) 1 vacant })
 unfolding lentAnswered lentChanged answerFor change onQueue shifted
 decides-drop s rows id t h k none-row found =
@@ -183,7 +187,9 @@ decides-drop s rows id t h k none-row found =
       answered = rw (accepted, session-accepted s rows (Drop id) accepted);
       rows-after =
           ap₂ (λ (i n : ℕ). rearranged (shifted i n 1 vacant) rows) (place .5) (k .finds .len ∙ ap length is)
-          ∙ one-dropped rows a b e (k .rows-sound .free) (placed-rows (s .setup) rows (k .rows-sound) ∙ ap (λ (q : List Entry). q ++ replicate (k .rows-sound .free) vacant) is) (few-records (s .setup) rows (k .rows-sound))
+          ∙ one-dropped rows a b e (k .rows-sound .free)
+          (placed-rows (s .setup) rows (k .rows-sound) ∙ ap (λ (q : List Entry). q ++ replicate (k .rows-sound .free) vacant) is)
+          (few-records (s .setup) rows (k .rows-sound))
           ∙ ap (recordsOf (length rows)) (sym left)
           ∙ sym (next-rows s rows (Drop id) (removed id (standing rows)) h accepted refl);
       fits = record { end = omega (arith, k .finds .len, size); skip = k .rows-sound .number .0 };

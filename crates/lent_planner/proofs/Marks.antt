@@ -15,7 +15,8 @@ use Rattle.sessions.proofs.Takes.{taken-yes, taken-no}
 use Rattle.lent_planner.specs.Choices.{marksAfter, marks}
 
 module _ (s : Setup) where
-  pub marks-yes : (i : ℕ) (done : List Entry) (e : Entry) (rest : List Entry) → fits s (done ++ e ∷ []) ≡ true → marksAfter s i done (e ∷ rest) ≡ i ∷ marksAfter s (i + 1) (done ++ e ∷ []) rest
+  pub marks-yes : (i : ℕ) (done : List Entry) (e : Entry) (rest : List Entry) → fits s (done ++ e ∷ []) ≡ true → marksAfter s i done (e ∷ rest) ≡ i ∷ marksAfter s (i + 1)
+      (done ++ e ∷ []) rest
   unfolding marksAfter
   marks-yes i done e rest h = rw (h, marksAfter)
 
@@ -44,7 +45,8 @@ module _ (s : Setup) where
       marks-no i done e [] f ∙ marks-nothing (i + 1) done ∙ sym (marks-nothing i done)
 
   -- one record behind the queue
-  behind-yes : (i : ℕ) (done q : List Entry) (e : Entry) → fits s (done ++ (takenAfter (fits s) done q ++ e ∷ [])) ≡ true → marksAfter s i done (q ++ e ∷ []) ≡ marksAfter s i done q ++ (i + length q) ∷ []
+  behind-yes : (i : ℕ) (done q : List Entry) (e : Entry) → fits s (done ++ (takenAfter (fits s) done q ++ e ∷ [])) ≡ true → marksAfter s i done (q ++ e ∷ []) ≡ marksAfter
+      s i done q ++ (i + length q) ∷ []
   behind-yes i done [] e h = last-yes i done e h
   behind-yes i done (x ∷ q) e h = go (fits s (done ++ x ∷ [])) refl (λ d y. behind-yes (i + 1) d q y)
     where
@@ -52,11 +54,13 @@ module _ (s : Setup) where
       further k = omega arith
 
       go : (b : Bool) → fits s (done ++ x ∷ []) ≡ b
-          → ((d : List Entry) (y : Entry) → fits s (d ++ (takenAfter (fits s) d q ++ y ∷ [])) ≡ true → marksAfter s (i + 1) d (q ++ y ∷ []) ≡ marksAfter s (i + 1) d q ++ (i + 1 + length q) ∷ [])
+          → ((d : List Entry) (y : Entry) → fits s (d ++ (takenAfter (fits s) d q ++ y ∷ [])) ≡ true → marksAfter s (i + 1) d (q ++ y ∷ []) ≡ marksAfter s (i + 1) d q ++
+          (i + 1 + length q) ∷ [])
           → marksAfter s i done (x ∷ q ++ e ∷ []) ≡ marksAfter s i done (x ∷ q) ++ (i + suc (length q)) ∷ []
       go true k below =
           let f : fits s ((done ++ x ∷ []) ++ (takenAfter (fits s) (done ++ x ∷ []) q ++ e ∷ [])) ≡ true =
-          ap (fits s) (append-assoc done (x ∷ []) (takenAfter (fits s) (done ++ x ∷ []) q ++ e ∷ [])) ∙ ap (λ (l : List Entry). fits s (done ++ (l ++ e ∷ []))) (sym (taken-yes (fits s) done x q k)) ∙ h in
+          ap (fits s) (append-assoc done (x ∷ []) (takenAfter (fits s) (done ++ x ∷ []) q ++ e ∷ [])) ∙ ap (λ (l : List Entry). fits s (done ++ (l ++ e ∷ [])))
+          (sym (taken-yes (fits s) done x q k)) ∙ h in
           marks-yes i done x (q ++ e ∷ []) k
           ∙ ap (λ (l : List ℕ). i ∷ l) (below (done ++ x ∷ []) e f ∙ ap (λ (m : ℕ). marksAfter s (i + 1) (done ++ x ∷ []) q ++ m ∷ []) (further (length q)))
           ∙ ap (λ (l : List ℕ). l ++ (i + suc (length q)) ∷ []) (sym (marks-yes i done x q k))
@@ -76,7 +80,8 @@ module _ (s : Setup) where
           → marksAfter s i done (x ∷ q ++ e ∷ []) ≡ marksAfter s i done (x ∷ q)
       go true k below =
           let f : fits s ((done ++ x ∷ []) ++ (takenAfter (fits s) (done ++ x ∷ []) q ++ e ∷ [])) ≡ false =
-          ap (fits s) (append-assoc done (x ∷ []) (takenAfter (fits s) (done ++ x ∷ []) q ++ e ∷ [])) ∙ ap (λ (l : List Entry). fits s (done ++ (l ++ e ∷ []))) (sym (taken-yes (fits s) done x q k)) ∙ h in
+          ap (fits s) (append-assoc done (x ∷ []) (takenAfter (fits s) (done ++ x ∷ []) q ++ e ∷ [])) ∙ ap (λ (l : List Entry). fits s (done ++ (l ++ e ∷ [])))
+          (sym (taken-yes (fits s) done x q k)) ∙ h in
           marks-yes i done x (q ++ e ∷ []) k ∙ ap (λ (l : List ℕ). i ∷ l) (below (done ++ x ∷ []) e f) ∙ sym (marks-yes i done x q k)
       go false k below =
           let f : fits s (done ++ (takenAfter (fits s) done q ++ e ∷ [])) ≡ false = ap (λ (l : List Entry). fits s (done ++ (l ++ e ∷ []))) (sym (taken-no (fits s) done x q k)) ∙ h in
@@ -97,7 +102,8 @@ module _ (s : Setup) where
   length-marks i done [] = ap length (marks-nothing i done) ∙ sym (ap length (taken-nothing done))
   length-marks i done (e ∷ q) = go (fits s (done ++ e ∷ [])) refl (λ d. length-marks (i + 1) d q)
     where
-      go : (b : Bool) → fits s (done ++ e ∷ []) ≡ b → ((d : List Entry) → length (marksAfter s (i + 1) d q) ≡ length (takenAfter (fits s) d q)) → length (marksAfter s i done (e ∷ q)) ≡ length (takenAfter (fits s) done (e ∷ q))
+      go : (b : Bool) → fits s (done ++ e ∷ []) ≡ b → ((d : List Entry) → length (marksAfter s (i + 1) d q) ≡ length (takenAfter (fits s) d q)) → length
+          (marksAfter s i done (e ∷ q)) ≡ length (takenAfter (fits s) done (e ∷ q))
       go true k below = ap length (marks-yes i done e q k) ∙ ap suc (below (done ++ e ∷ [])) ∙ sym (ap length (taken-yes (fits s) done e q k))
       go false k below = ap length (marks-no i done e q k) ∙ below done ∙ sym (ap length (taken-no (fits s) done e q k))
 

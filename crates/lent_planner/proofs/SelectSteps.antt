@@ -44,7 +44,8 @@ module _ (s : Setup) (ys : List Entry) where
       let whole : standing ys ≡ take i ys = w ∙ ap (λ (r : List Entry). take i ys ++ standing r) (drop-of-length-le ys all) ∙ ap (λ (r : List Entry). take i ys ++ r) standing-none ∙ append-nil (take i ys) in
       subst (λ (q : List Entry). HasChosen s q t) (sym whole) c
 
-  module _ (i : ℕ) (t r : Choice) (inside : i < length ys) (c : HasChosen s (take i ys) t) (e : t .end ≡ length ys) (w : standing ys ≡ take i ys ++ standing (drop i ys)) (step : Chose t i (getD ys i vacant) r) where
+  module _ (i : ℕ) (t r : Choice) (inside : i < length ys) (c : HasChosen s (take i ys) t) (e : t .end ≡ length ys) (w : standing ys ≡ take i ys ++ standing (drop i ys))
+      (step : Chose t i (getD ys i vacant) r) where
     abbrev x : Entry
     x = getD ys i vacant
 
@@ -69,10 +70,12 @@ module _ (s : Setup) (ys : List Entry) where
         let n : x .id ≡ 0 → ⊥ = eqb-false (x .id) 0 h in
         let d : HasChosen s (take (i + 1) ys) r = subst (λ (q : List Entry). HasChosen s q r) (sym one-more) (step .goes n s (take i ys) c (length-take-le i ys (omega arith))) in
         let rest : standing ys ≡ take (i + 1) ys ++ standing (drop (i + 1) ys) =
-        split-here ∙ ap (λ (l : List Entry). take i ys ++ l) (standing-waiting x (drop (i + 1) ys) h) ∙ sym (append-assoc (take i ys) (x ∷ []) (standing (drop (i + 1) ys))) ∙ ap (λ (l : List Entry). l ++ standing (drop (i + 1) ys)) (sym one-more) in
+        split-here ∙ ap (λ (l : List Entry). take i ys ++ l) (standing-waiting x (drop (i + 1) ys) h) ∙ sym
+        (append-assoc (take i ys) (x ∷ []) (standing (drop (i + 1) ys))) ∙ ap (λ (l : List Entry). l ++ standing (drop (i + 1) ys)) (sym one-more) in
         which (step .end n) d rest
       where
-        which : (r .end ≡ t .end) ⊎ ((r .end ≡ 0) × (usableCount (t .setup) ≤ r .count)) → HasChosen s (take (i + 1) ys) r → standing ys ≡ take (i + 1) ys ++ standing (drop (i + 1) ys) → Far (i + 1) r
+        which : (r .end ≡ t .end) ⊎ ((r .end ≡ 0) × (usableCount (t .setup) ≤ r .count)) → HasChosen s (take (i + 1) ys) r → standing ys ≡ take (i + 1) ys ++ standing
+            (drop (i + 1) ys) → Far (i + 1) r
         which (inl same) d rest = going (same ∙ e) (omega arith) d rest
         which (inr full) d rest =
             over (full .0) (subst (λ (q : List Entry). HasChosen s q r) (sym rest) (chosen-full d (rw (c .setup) at (full .1)) (standing (drop (i + 1) ys))))

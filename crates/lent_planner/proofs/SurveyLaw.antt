@@ -87,7 +87,8 @@ first-vacant : (left : List ℕ) (t : Survey) (x : Entry) (xs : List Entry) → 
     → t .broken ≡ false → eqb (x .id) 0 ≡ true → AfterEnd t (surveyFrom left t (x ∷ xs)) (allVacant (x ∷ xs))
 first-vacant left t x xs law b k = zero (allZero (x .request)) refl
   where
-    again : (z : Bool) → allZero (x .request) ≡ z → AfterEnd (ended t z) (surveyFrom left (ended t z) xs) (both z (allVacant xs)) → AfterEnd t (surveyFrom left t (x ∷ xs)) (allVacant (x ∷ xs))
+    again : (z : Bool) → allZero (x .request) ≡ z → AfterEnd (ended t z) (surveyFrom left (ended t z) xs) (both z (allVacant xs)) → AfterEnd t
+        (surveyFrom left t (x ∷ xs)) (allVacant (x ∷ xs))
     again z hz rest =
         rw (from-next left t x xs (ended t (allZero (x .request)), left) (step-ended left t x b k), vacant-split x xs k, hz)
         (ended-same t z (surveyFrom left (ended t z) xs) (both z (allVacant xs)) rest)
@@ -270,7 +271,8 @@ surveys s left seen t (e ∷ es) hs hb he rest = go (eqb (e .id) 0) refl (λ l s
             rw (from-next left t e es (counted t (e .id), takenId left (e .id)) (step-counted left t e hb k m), standing-waiting e es k, kept-is)
             (record {
               broken = below-e .broken;
-              finds = λ h. finds-next t (counted t (e .id)) _ e (standing es) c (not-standing (e .id) es (after-kept s (e ∷ seen) es h .1 (e .id) (may-id s e hw) (waits-front (e .id) e seen refl))) (below-e .finds h);
+              finds = λ h. finds-next t (counted t (e .id)) _ e (standing es) c
+                  (not-standing (e .id) es (after-kept s (e ∷ seen) es h .1 (e .id) (may-id s e hw) (waits-front (e .id) e seen refl))) (below-e .finds h);
             })
 
 -- ---- the whole pass

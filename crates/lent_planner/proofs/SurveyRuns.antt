@@ -55,7 +55,8 @@ module _ {M : Type 1} (𝓤 : URA M) (H : Heap 𝓤) (A : Atoms 𝓤) (mem : Mem
     all-left-runs known = called-so 𝓤 H A W C fm #all-left AllLeft known ((tt, tt, tt, tt, tt), tt) (emp 𝓤) (λ w. H .⇛ (guard 𝓤 (Is (Array u64 1024) allLeft (w ∷ [])) (emp 𝓤)))
         (qed W [] ∵ nothing ! $ nothing ! $ join ! $ nothing ! $ move ! (1 ∷ 0 ∷ []) $ join ! $ done !)
         (λ w. qed W (raw (AllLeft .post ((tt, tt, tt, tt, tt), tt) w) ∷ []) ∵ updating ! $
-        use1 W (later (some (λ (r : List ℕ). (‵ ftrue ⊛ ‵ (Array u64 1024 .own r (w ∷ []))) ⊛ some (λ (ws : Lasts all-left.ended tt tt). ‵ (lasts all-left.ended tt tt ws) ⊛ raw (fact 𝓤 (r ≡ allLeft)))))) (id⊢ 𝓤 _) $
+        use1 W (later (some (λ (r : List ℕ). (‵ ftrue ⊛ ‵ (Array u64 1024 .own r (w ∷ []))) ⊛ some
+        (λ (ws : Lasts all-left.ended tt tt). ‵ (lasts all-left.ended tt tt ws) ⊛ raw (fact 𝓤 (r ≡ allLeft)))))) (id⊢ 𝓤 _) $
         await ! tt $ pick ! (λ r.
         split ! $ move ! (1 ∷ []) $ pick ! (λ ws. split ! $ move ! (1 ∷ []) $ heard ! (r ≡ allLeft) (λ e. move ! (1 ∷ []) $ split ! $ drop ! $
         peeks ! (Array u64 1024) (Is (Array u64 1024)) (shows 𝓤 H A (Array u64 1024)) r (w ∷ []) (λ is. at-once ! $
@@ -73,13 +74,16 @@ module _ {M : Type 1} (𝓤 : URA M) (H : Heap 𝓤) (A : Atoms 𝓤) (mem : Mem
       Stepped w zs = Is Sv.S (surveyStep left t e .0) (w ∷ []) × (zs ≡ surveyStep left t e .1)
 
       pub step-runs : Triple 𝓤 (C #step) Step → Is Sv.S t (Sv.vals t) → Is R e (El.vals e) → t .len + 1 < 2 ^ 64
-          → ent 𝓤 (sep 𝓤 (sem 𝓤 H A (Owned u64 (b, o) (length left) (named 0) (ν ∷ []) δ left)) (A .lft (ν ∷ []) fullShare)) (C #step (sliceVal (b, o) (length left) ∷ Sv.val t ∷ El.val e ∷ []) (Leaves 𝓤 H A u64 (length left) Stepped ν δ))
+          → ent 𝓤 (sep 𝓤 (sem 𝓤 H A (Owned u64 (b, o) (length left) (named 0) (ν ∷ []) δ left)) (A .lft (ν ∷ []) fullShare))
+          (C #step (sliceVal (b, o) (length left) ∷ Sv.val t ∷ El.val e ∷ []) (Leaves 𝓤 H A u64 (length left) Stepped ν δ))
       step-runs known gt ge l = called-so 𝓤 H A W C fm #step Step known to-step _ (Leaves 𝓤 H A u64 (length left) Stepped ν δ)
           (qed W (‵ (Owned u64 (b, o) (length left) (named 0) (ν ∷ []) δ left) ∷ ‵ (flft (ν ∷ []) fullShare) ∷ []) ∵ says ! l $
           nothing ! $ owned ! R (Is R) (El.made 𝓤 H A) e _ ge $ fjoin ! $ owned ! Sv.S (Is Sv.S) (Sv.made 𝓤 H A) t _ gt $ fjoin ! $ move ! (1 ∷ 0 ∷ []) $ fjoin ! $
           nothing ! $ move ! (2 ∷ 0 ∷ []) $ join ! $ join ! $ done !)
           (λ w. qed W (raw (Step .post to-step w) ∷ []) ∵ updating ! $
-          use1 W (later (some (λ (r : Survey). ((‵ (flft (ν ∷ []) fullShare) ⊛ ‵ ftrue) ⊛ ‵ (Sv.S .own r (w ∷ []))) ⊛ some (λ (ws : Lasts step.ended (ν ∷ [], tt) (ref, (t, (e, tt)))). ‵ (lasts step.ended (ν ∷ [], tt) (ref, (t, (e, tt))) ws) ⊛ raw (fact 𝓤 ((r, ws .0) ≡ surveyStep left t e)))))) (id⊢ 𝓤 _) $
+          use1 W (later (some (λ (r : Survey). ((‵ (flft (ν ∷ []) fullShare) ⊛ ‵ ftrue) ⊛ ‵ (Sv.S .own r (w ∷ []))) ⊛ some
+          (λ (ws : Lasts step.ended (ν ∷ [], tt) (ref, (t, (e, tt)))). ‵ (lasts step.ended (ν ∷ [], tt) (ref, (t, (e, tt))) ws) ⊛ raw
+          (fact 𝓤 ((r, ws .0) ≡ surveyStep left t e)))))) (id⊢ 𝓤 _) $
           await ! tt $ pick ! (λ r.
           split ! $ move ! (1 ∷ []) $ pick ! (λ ws. split ! $ move ! (1 ∷ []) $ heard ! ((r, ws .0) ≡ surveyStep left t e) (λ h. fsplit ! $ fsplit ! $ move ! (1 ∷ []) $
           feqL ! (λ l′.
@@ -97,13 +101,16 @@ module _ {M : Type 1} (𝓤 : URA M) (H : Heap 𝓤) (A : Atoms 𝓤) (mem : Mem
       to-survey = (((ν ∷ [], tt), (fullShare, tt), tt, (rows, (s, tt)), (sliceVal (b, o) (length ys) ∷ [], (Sv.vals s, tt))), tt)
 
       pub survey-runs : Triple 𝓤 (C #survey) Surveys → Is Sv.S s (Sv.vals s) → s .len ≡ 0
-          → ent 𝓤 (sep 𝓤 (sem 𝓤 H A (Shared R (b, o) (named 0) (ν ∷ []) δ ys)) (A .lft (ν ∷ []) fullShare)) (C #survey (sliceVal (b, o) (length ys) ∷ Sv.val s ∷ []) (λ w. H .⇛ (guard 𝓤 (Is Sv.S (surveyed s ys) (w ∷ [])) (A .lft (ν ∷ []) fullShare))))
+          → ent 𝓤 (sep 𝓤 (sem 𝓤 H A (Shared R (b, o) (named 0) (ν ∷ []) δ ys)) (A .lft (ν ∷ []) fullShare))
+          (C #survey (sliceVal (b, o) (length ys) ∷ Sv.val s ∷ []) (λ w. H .⇛ (guard 𝓤 (Is Sv.S (surveyed s ys) (w ∷ [])) (A .lft (ν ∷ []) fullShare))))
       survey-runs known gs z = called-so 𝓤 H A W C fm #survey Surveys known to-survey _ (λ w. H .⇛ (guard 𝓤 (Is Sv.S (surveyed s ys) (w ∷ [])) (A .lft (ν ∷ []) fullShare)))
           (qed W (‵ (Shared R (b, o) (named 0) (ν ∷ []) δ ys) ∷ ‵ (flft (ν ∷ []) fullShare) ∷ []) ∵ says ! z $
           nothing ! $ owned ! Sv.S (Is Sv.S) (Sv.made 𝓤 H A) s _ gs $ fjoin ! $ move ! (1 ∷ 0 ∷ []) $ fjoin ! $ nothing ! $ move ! (2 ∷ 0 ∷ []) $ join ! $ join ! $
           done !)
           (λ w. qed W (raw (Surveys .post to-survey w) ∷ []) ∵ updating ! $
-          use1 W (later (some (λ (r : Survey). ((‵ (flft (ν ∷ []) fullShare) ⊛ ‵ ftrue) ⊛ ‵ (Sv.S .own r (w ∷ []))) ⊛ some (λ (ws : Lasts survey.ended (ν ∷ [], tt) (rows, (s, tt))). ‵ (lasts survey.ended (ν ∷ [], tt) (rows, (s, tt)) ws) ⊛ raw (fact 𝓤 (r ≡ surveyed s ys)))))) (id⊢ 𝓤 _) $
+          use1 W (later (some (λ (r : Survey). ((‵ (flft (ν ∷ []) fullShare) ⊛ ‵ ftrue) ⊛ ‵ (Sv.S .own r (w ∷ []))) ⊛ some
+          (λ (ws : Lasts survey.ended (ν ∷ [], tt) (rows, (s, tt))). ‵ (lasts survey.ended (ν ∷ [], tt) (rows, (s, tt)) ws) ⊛ raw (fact 𝓤 (r ≡ surveyed s ys))))))
+          (id⊢ 𝓤 _) $
           await ! tt $ pick ! (λ r.
           split ! $ move ! (1 ∷ []) $ pick ! (λ ws. split ! $ move ! (1 ∷ []) $ heard ! (r ≡ surveyed s ys) (λ h. move ! (1 ∷ []) $ split ! $ move ! (1 ∷ []) $
           peeks ! Sv.S (Is Sv.S) (shows 𝓤 H A Sv.S) r (w ∷ []) (λ is. move ! (1 ∷ []) $ split ! $ at-once ! $ check ! (subst (λ (x : Survey). Is Sv.S x (w ∷ [])) h is) $

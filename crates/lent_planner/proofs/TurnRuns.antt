@@ -60,20 +60,24 @@ module _ {M : Type 1} (𝓤 : URA M) (H : Heap 𝓤) (A : Atoms 𝓤) (mem : Mem
   module _ (W : Given 𝓤 H A) (C : Calls 𝓤 H) (fm : FmC 𝓤 H (W .laws) C) where
     pub change-of-runs : Triple 𝓤 (C #change-of) ChangesOf → (d : TurnDecision) → Is Td.S d (Td.vals d)
         → ent 𝓤 (emp 𝓤) (C #change-of (Td.val d ∷ []) (λ w. H .⇛ (guard 𝓤 (Is Ch.S (d .change) (w ∷ [])) (emp 𝓤))))
-    change-of-runs known d g0 = called-so 𝓤 H A W C fm #change-of ChangesOf known ((tt, tt, tt, (d, tt), ((Td.vals d), tt)), tt) (emp 𝓤) (λ w. H .⇛ (guard 𝓤 (Is Ch.S (d .change) (w ∷ [])) (emp 𝓤)))
+    change-of-runs known d g0 = called-so 𝓤 H A W C fm #change-of ChangesOf known ((tt, tt, tt, (d, tt), ((Td.vals d), tt)), tt) (emp 𝓤)
+        (λ w. H .⇛ (guard 𝓤 (Is Ch.S (d .change) (w ∷ [])) (emp 𝓤)))
         (qed W [] ∵ nothing ! $ owned ! Td.S (Is Td.S) (Td.made 𝓤 H A) d _ g0 $ fjoin ! $ nothing ! $ join ! $ nothing ! $ move ! (1 ∷ 0 ∷ []) $ join ! $ done !)
         (λ w. qed W (raw (ChangesOf .post ((tt, tt, tt, (d, tt), ((Td.vals d), tt)), tt) w) ∷ []) ∵ updating ! $
-        use1 W (later (some (λ (r : Change). (‵ ftrue ⊛ ‵ (Ch.S .own r (w ∷ []))) ⊛ some (λ (ws : Lasts change-of.ended tt (d, tt)). ‵ (lasts change-of.ended tt (d, tt) ws) ⊛ raw (fact 𝓤 (r ≡ (d .change))))))) (id⊢ 𝓤 _) $
+        use1 W (later (some (λ (r : Change). (‵ ftrue ⊛ ‵ (Ch.S .own r (w ∷ []))) ⊛ some
+        (λ (ws : Lasts change-of.ended tt (d, tt)). ‵ (lasts change-of.ended tt (d, tt) ws) ⊛ raw (fact 𝓤 (r ≡ (d .change))))))) (id⊢ 𝓤 _) $
         await ! tt $ pick ! (λ r.
         split ! $ move ! (1 ∷ []) $ pick ! (λ ws. split ! $ move ! (1 ∷ []) $ heard ! (r ≡ (d .change)) (λ e. move ! (1 ∷ []) $ split ! $ drop ! $
         peeks ! Ch.S (Is Ch.S) (shows 𝓤 H A Ch.S) r (w ∷ []) (λ is. at-once ! $ check ! (subst (λ (x : Change). Is Ch.S x (w ∷ [])) e is) $ keep ! [] $ done !)))))
 
     pub turned-of-runs : Triple 𝓤 (C #turned-of) TurnedOf → (d : TurnDecision) → Is Td.S d (Td.vals d)
         → ent 𝓤 (emp 𝓤) (C #turned-of (Td.val d ∷ []) (λ w. H .⇛ (guard 𝓤 (Is Lt.S (d .turned) (w ∷ [])) (emp 𝓤))))
-    turned-of-runs known d g0 = called-so 𝓤 H A W C fm #turned-of TurnedOf known ((tt, tt, tt, (d, tt), ((Td.vals d), tt)), tt) (emp 𝓤) (λ w. H .⇛ (guard 𝓤 (Is Lt.S (d .turned) (w ∷ [])) (emp 𝓤)))
+    turned-of-runs known d g0 = called-so 𝓤 H A W C fm #turned-of TurnedOf known ((tt, tt, tt, (d, tt), ((Td.vals d), tt)), tt) (emp 𝓤)
+        (λ w. H .⇛ (guard 𝓤 (Is Lt.S (d .turned) (w ∷ [])) (emp 𝓤)))
         (qed W [] ∵ nothing ! $ owned ! Td.S (Is Td.S) (Td.made 𝓤 H A) d _ g0 $ fjoin ! $ nothing ! $ join ! $ nothing ! $ move ! (1 ∷ 0 ∷ []) $ join ! $ done !)
         (λ w. qed W (raw (TurnedOf .post ((tt, tt, tt, (d, tt), ((Td.vals d), tt)), tt) w) ∷ []) ∵ updating ! $
-        use1 W (later (some (λ (r : LentTurned). (‵ ftrue ⊛ ‵ (Lt.S .own r (w ∷ []))) ⊛ some (λ (ws : Lasts turned-of.ended tt (d, tt)). ‵ (lasts turned-of.ended tt (d, tt) ws) ⊛ raw (fact 𝓤 (r ≡ (d .turned))))))) (id⊢ 𝓤 _) $
+        use1 W (later (some (λ (r : LentTurned). (‵ ftrue ⊛ ‵ (Lt.S .own r (w ∷ []))) ⊛ some
+        (λ (ws : Lasts turned-of.ended tt (d, tt)). ‵ (lasts turned-of.ended tt (d, tt) ws) ⊛ raw (fact 𝓤 (r ≡ (d .turned))))))) (id⊢ 𝓤 _) $
         await ! tt $ pick ! (λ r.
         split ! $ move ! (1 ∷ []) $ pick ! (λ ws. split ! $ move ! (1 ∷ []) $ heard ! (r ≡ (d .turned)) (λ e. move ! (1 ∷ []) $ split ! $ drop ! $
         peeks ! Lt.S (Is Lt.S) (shows 𝓤 H A Lt.S) r (w ∷ []) (λ is. at-once ! $ check ! (subst (λ (x : LentTurned). Is Lt.S x (w ∷ [])) e is) $ keep ! [] $ done !)))))
@@ -90,7 +94,8 @@ module _ {M : Type 1} (𝓤 : URA M) (H : Heap 𝓤) (A : Atoms 𝓤) (mem : Mem
     WroteTurn w us = (d : TurnDecision) × Is Td.S d (w ∷ []) × TurnDecidesFor s n x t ms us d
 
     pub write-turn-runs : Triple 𝓤 (C #write-turn) WritesTurn → Is Ls.S s (Ls.vals s) → n < 2 ^ 64 → Is Sv.S x (Sv.vals x) → Is Cc.S t (Cc.vals t) → t .count ≤ 8
-        → ent 𝓤 (sep 𝓤 (sem 𝓤 H A (Owned u64 (b, o) (length ms) (named 0) (ν ∷ []) δ ms)) (A .lft (ν ∷ []) fullShare)) (C #write-turn (sliceVal (b, o) (length ms) ∷ Ls.val s ∷ vint w64 n ∷ Sv.val x ∷ Cc.val t ∷ []) (Leaves 𝓤 H A u64 (length ms) WroteTurn ν δ))
+        → ent 𝓤 (sep 𝓤 (sem 𝓤 H A (Owned u64 (b, o) (length ms) (named 0) (ν ∷ []) δ ms)) (A .lft (ν ∷ []) fullShare))
+        (C #write-turn (sliceVal (b, o) (length ms) ∷ Ls.val s ∷ vint w64 n ∷ Sv.val x ∷ Cc.val t ∷ []) (Leaves 𝓤 H A u64 (length ms) WroteTurn ν δ))
     write-turn-runs known gs gn gx gt need = called-so 𝓤 H A W C fm #write-turn WritesTurn known to-write _ (Leaves 𝓤 H A u64 (length ms) WroteTurn ν δ)
         (qed W (‵ (Owned u64 (b, o) (length ms) (named 0) (ν ∷ []) δ ms) ∷ ‵ (flft (ν ∷ []) fullShare) ∷ []) ∵ says ! need $
         nothing ! $ owned ! Cc.S (Is Cc.S) (Cc.made 𝓤 H A) t _ gt $ fjoin ! $ owned ! Sv.S (Is Sv.S) (Sv.made 𝓤 H A) x _ gx $ fjoin ! $
@@ -98,7 +103,9 @@ module _ {M : Type 1} (𝓤 : URA M) (H : Heap 𝓤) (A : Atoms 𝓤) (mem : Mem
         fjoin ! $
         nothing ! $ move ! (2 ∷ 0 ∷ []) $ join ! $ join ! $ done !)
         (λ w. qed W (raw (WritesTurn .post to-write w) ∷ []) ∵ updating ! $
-        use1 W (later (some (λ (r : TurnDecision). ((‵ (flft (ν ∷ []) fullShare) ⊛ ‵ ftrue) ⊛ ‵ (Td.S .own r (w ∷ []))) ⊛ some (λ (ws : Lasts write-turn.ended (ν ∷ [], tt) (out, (s, (n, (x, (t, tt)))))). ‵ (lasts write-turn.ended (ν ∷ [], tt) (out, (s, (n, (x, (t, tt))))) ws) ⊛ raw (fact 𝓤 (TurnDecidesFor s n x t ms (ws .0) r)))))) (id⊢ 𝓤 _) $
+        use1 W (later (some (λ (r : TurnDecision). ((‵ (flft (ν ∷ []) fullShare) ⊛ ‵ ftrue) ⊛ ‵ (Td.S .own r (w ∷ []))) ⊛ some
+        (λ (ws : Lasts write-turn.ended (ν ∷ [], tt) (out, (s, (n, (x, (t, tt)))))). ‵ (lasts write-turn.ended (ν ∷ [], tt) (out, (s, (n, (x, (t, tt))))) ws) ⊛ raw
+        (fact 𝓤 (TurnDecidesFor s n x t ms (ws .0) r)))))) (id⊢ 𝓤 _) $
         await ! tt $ pick ! (λ r.
         split ! $ move ! (1 ∷ []) $ pick ! (λ ws. split ! $ move ! (1 ∷ []) $ heard ! (TurnDecidesFor s n x t ms (ws .0) r) (λ h. fsplit ! $ fsplit ! $ move ! (1 ∷ []) $
         feqL ! (λ l′.

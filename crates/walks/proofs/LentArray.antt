@@ -59,15 +59,23 @@ module _ {M : Type 1} {𝓤 : URA M} {H : Heap 𝓤} {A : Atoms 𝓤} {K : Type 
       spelt t (Array R m) (Is (Array R m)) (shows 𝓤 H A (Array R m)) (array-vals vals) (array-tells R vals tl m) fullShare xs us l 0 $
       use1 W (‵ (fat fullShare (tyArray (lone (R .mir)) m) l 0 (arrayOf R vals xs))) (W .laws .raw-at fullShare (tyArray (lone (R .mir)) m) l 0 (arrayOf R vals xs)) $ s))
 
-module _ {M : Type 1} {𝓤 : URA M} {H : Heap 𝓤} {A : Atoms 𝓤} {K : Type 0} {W : Given 𝓤 H A} {Γ : List (Item 𝓤)} {E : Env 𝓤 H} {C : Calls 𝓤 H} {Λ : Loops 𝓤 H} {p : Post 𝓤 H} {f : Name} {os : List Operand} {d : Place} {rest : Body} where
-  pub calls-array : K → FmC 𝓤 H (W .laws) C → (R : RattleType) → Single (R .mir) → (vals : R .Denot → List Val) → Tells R (Is R) vals → (ℓ : Lifetime) (m l : ℕ) (xs : List (R .Denot)) → Room R m → (vs : List Val) (Says : Val → List (R .Denot) → Type 0)
-      → ((ν : ℕ) (δ : GName) → length xs ≡ m → ent 𝓤 (sep 𝓤 (sem 𝓤 H A (Owned R (l, 0) (length xs) ℓ (ν ∷ []) δ xs)) (A .lft (ν ∷ []) fullShare)) (C f vs (Leaves 𝓤 H A R (length xs) Says ν δ)))
+module _ {M : Type 1} {𝓤 : URA M} {H : Heap 𝓤} {A : Atoms 𝓤} {K : Type 0} {W : Given 𝓤 H A} {Γ : List (Item 𝓤)} {E : Env 𝓤 H} {C : Calls 𝓤 H} {Λ : Loops 𝓤 H}
+    {p : Post 𝓤 H} {f : Name} {os : List Operand} {d : Place} {rest : Body} where
+  pub calls-array : K → FmC 𝓤 H (W .laws) C → (R : RattleType) → Single (R .mir) → (vals : R .Denot → List Val) → Tells R (Is R) vals → (ℓ : Lifetime) (m l : ℕ)
+      (xs : List (R .Denot)) → Room R m → (vs : List Val) (Says : Val → List (R .Denot) → Type 0)
+      → ((ν : ℕ) (δ : GName) → length xs ≡ m → ent 𝓤 (sep 𝓤 (sem 𝓤 H A (Owned R (l, 0) (length xs) ℓ (ν ∷ []) δ xs)) (A .lft (ν ∷ []) fullShare))
+      (C f vs (Leaves 𝓤 H A R (length xs) Says ν δ)))
       → ((i j : Item 𝓤) → Opds K W (i ∷ j ∷ Γ) E os vs)
-      → ((w : Val) (zs : List (R .Denot)) → Says w zs → Seq K W (‵ (fat fullShare (tyArray (lone (R .mir)) m) l 0 (arrayOf R vals zs)) ∷ ‵ (Array R m .own zs (array-vals vals zs)) ∷ Γ) (lands C Λ E d w rest p))
+      → ((w : Val) (zs : List (R .Denot)) → Says w zs → Seq K W
+      (‵ (fat fullShare (tyArray (lone (R .mir)) m) l 0 (arrayOf R vals zs)) ∷ ‵ (Array R m .own zs (array-vals vals zs)) ∷ Γ) (lands C Λ E d w rest p))
       → Seq K W (‵ (fat fullShare (tyArray (lone (R .mir)) m) l 0 (arrayOf R vals xs)) ∷ ‵ (Array R m .own xs (array-vals vals xs)) ∷ Γ) (runs C Λ E (seq (call f os d) rest) p)
   calls-array t fm R single vals tl ℓ m l xs room vs Says met ops k = array-out t R single vals m l xs (λ len. lft-new t tt (λ ν. move t (1 ∷ []) $
-      use1 W (later (some (λ (δ : GName). ‵ (Owned R (l, 0) (length xs) ℓ (ν ∷ []) δ xs) ⊛ ‵ (flent (ν ∷ []) (Held R (length xs) l 0 δ))))) (lends-slice 𝓤 H A W R ℓ (ν ∷ []) xs l 0 (subst (Room R) (sym len) room)) $ await t tt $ pick t (λ δ. split t $
-      move t (0 ∷ 2 ∷ []) $ join t $ calls-from t fm (‵ (Owned R (l, 0) (length xs) ℓ (ν ∷ []) δ xs) ⊛ ‵ (flft (ν ∷ []) fullShare)) vs (Leaves 𝓤 H A R (length xs) Says ν δ) (met ν δ len) (ops _ _) (λ w.
-      use1 W (later (some (λ (zs : List (R .Denot)). given (Says w zs × (length zs ≡ length xs)) (‵ (flft (ν ∷ []) fullShare) ⊛ ‵ (finally R δ zs))))) (id⊢ 𝓤 (Leaves 𝓤 H A R (length xs) Says ν δ w)) $ await t tt $ pick t (λ zs. learn t (λ g. split t $
-      lft-end t tt $ move t (0 ∷ 2 ∷ 1 ∷ []) $ use3 W (later (‵ (Arr (mem R) (length xs) .lies zs l 0))) (slice-back 𝓤 H A W R (ν ∷ []) δ zs (length xs) l 0) $ await t tt $ fsplit t $ drop t $
+      use1 W (later (some (λ (δ : GName). ‵ (Owned R (l, 0) (length xs) ℓ (ν ∷ []) δ xs) ⊛ ‵ (flent (ν ∷ []) (Held R (length xs) l 0 δ)))))
+      (lends-slice 𝓤 H A W R ℓ (ν ∷ []) xs l 0 (subst (Room R) (sym len) room)) $ await t tt $ pick t (λ δ. split t $
+      move t (0 ∷ 2 ∷ []) $ join t $ calls-from t fm (‵ (Owned R (l, 0) (length xs) ℓ (ν ∷ []) δ xs) ⊛ ‵ (flft (ν ∷ []) fullShare)) vs
+      (Leaves 𝓤 H A R (length xs) Says ν δ) (met ν δ len) (ops _ _) (λ w.
+      use1 W (later (some (λ (zs : List (R .Denot)). given (Says w zs × (length zs ≡ length xs)) (‵ (flft (ν ∷ []) fullShare) ⊛ ‵ (finally R δ zs)))))
+      (id⊢ 𝓤 (Leaves 𝓤 H A R (length xs) Says ν δ w)) $ await t tt $ pick t (λ zs. learn t (λ g. split t $
+      lft-end t tt $ move t (0 ∷ 2 ∷ 1 ∷ []) $ use3 W (later (‵ (Arr (mem R) (length xs) .lies zs l 0))) (slice-back 𝓤 H A W R (ν ∷ []) δ zs (length xs) l 0) $ await t tt
+      $ fsplit t $ drop t $
       array-in t R vals tl m l zs (g .1 ∙ len) $ k w zs (g .0)))))))

@@ -23,7 +23,8 @@ lt-or-le (suc i) (suc n) = ⊎-elim (λ (l : i < n). inl (omega arith)) (λ (l :
 pub nearer : (n i : ℕ) → i < n → n - (i + 1) < n - i
 nearer n i l = omega arith
 
-module _ {M : Type 1} (𝓤 : URA M) (H : Heap 𝓤) (A : Atoms 𝓤) (W : Given 𝓤 H A) (𝓣 : Tables 𝓤 H) (E : Env 𝓤 H) (turn : Body) (Left : Out → SProp 𝓤) (X : Type 0) (At : X → List (Item 𝓤)) (Fact : X → Type 0) (measure : X → ℕ) where
+module _ {M : Type 1} (𝓤 : URA M) (H : Heap 𝓤) (A : Atoms 𝓤) (W : Given 𝓤 H A) (𝓣 : Tables 𝓤 H) (E : Env 𝓤 H) (turn : Body) (Left : Out → SProp 𝓤) (X : Type 0)
+    (At : X → List (Item 𝓤)) (Fact : X → Type 0) (measure : X → ℕ) where
   abbrev Holds : ℕ → X → SProp 𝓤
   Holds t x = guard 𝓤 (Fact x × (measure x ≡ t)) (⋆ 𝓤 H A (At x))
 
@@ -37,9 +38,12 @@ module _ {M : Type 1} (𝓤 : URA M) (H : Heap 𝓤) (A : Atoms 𝓤) (W : Given
   inv x f = via 𝓤 (Holds (measure x) x) (guardI 𝓤 (Fact x × (measure x ≡ measure x)) (⋆ 𝓤 H A (At x)) (f, refl)) (exI 𝓤 (Holds (measure x)) x)
 
   below : (t : ℕ) (x : X) → Fact x → measure x < t → ent 𝓤 (⋆ 𝓤 H A (At x)) (Below t)
-  below t x f l = via 𝓤 (Inv (measure x)) (inv x f) (via 𝓤 (guard 𝓤 (measure x < t) (Inv (measure x))) (guardI 𝓤 (measure x < t) (Inv (measure x)) l) (exI 𝓤 (λ (u : ℕ). guard 𝓤 (u < t) (Inv u)) (measure x)))
+  below t x f l = via 𝓤 (Inv (measure x)) (inv x f)
+      (via 𝓤 (guard 𝓤 (measure x < t) (Inv (measure x))) (guardI 𝓤 (measure x < t) (Inv (measure x)) l) (exI 𝓤 (λ (u : ℕ). guard 𝓤 (u < t) (Inv u)) (measure x)))
 
-  pub looped : ((x : X) → Fact x → (Again : SProp 𝓤) → ((y : X) → Fact y → measure y < measure x → ent 𝓤 (⋆ 𝓤 H A (At y)) Again) → ent 𝓤 (⋆ 𝓤 H A (At x)) (Wp 𝓤 H (𝓣 .C) (𝓣 .Λ) E turn (afterTurn 𝓤 H Again Left)))
+  pub looped : ((x : X) → Fact x → (Again : SProp 𝓤) → ((y : X) → Fact y → measure y < measure x → ent 𝓤 (⋆ 𝓤 H A (At y)) Again) → ent 𝓤 (⋆ 𝓤 H A (At x))
+      (Wp 𝓤 H (𝓣 .C) (𝓣 .Λ) E turn (afterTurn 𝓤 H Again Left)))
       → (x : X) → Fact x → ent 𝓤 (⋆ 𝓤 H A (At x)) (Wp 𝓤 H (𝓣 .C) (𝓣 .Λ) E (loop turn) Left)
   looped k x f = via 𝓤 (Inv (measure x)) (inv x f) (loop-rule 𝓤 H (W .laws) 𝓣 _<_ (Nat·lt-wfRel .wf) E turn Left Inv
-      (λ t. exE 𝓤 (Holds t) (λ y. guardE 𝓤 (Fact y × (measure y ≡ t)) (⋆ 𝓤 H A (At y)) (λ g. k y (g .0) (Below t) (λ z h l. below t z h (subst (λ (u : ℕ). measure z < u) (g .1) l))))) (measure x))
+      (λ t. exE 𝓤 (Holds t) (λ y. guardE 𝓤 (Fact y × (measure y ≡ t)) (⋆ 𝓤 H A (At y))
+      (λ g. k y (g .0) (Below t) (λ z h l. below t z h (subst (λ (u : ℕ). measure z < u) (g .1) l))))) (measure x))

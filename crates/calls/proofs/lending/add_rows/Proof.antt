@@ -63,51 +63,87 @@ use Rattle.calls.proofs.lending.add_rows.Code as code
 abbrev stayed : Stays (me.ended .signature .params) (me.ended .kept)
 stayed = (stay-none (λ _. Rs.S) yes, (stay-none (λ _. usize) yes, (stay-none (λ _. Ls.S) yes, (stay-none (λ _. u64) yes, (stay-none (λ _. Rq.S) yes, tt)))))
 
-module _ {M : Type 1} (𝓤 : URA M) (H : Heap 𝓤) (A : Atoms 𝓤) (W : Given 𝓤 H A) (mem : Memory → SProp 𝓤) (run : Routine → Fun 𝓤) (xs : List Entry) (k : ℕ) (session : LentSession) (id : ℕ) (request : Request) (gxs : Is Rs.S xs (Rs.vals xs)) (gk : k < 2 ^ 64) (gsession : Is Ls.S session (Ls.vals session)) (gid : id < 2 ^ 64) (grequest : Is Rq.S request (Rq.vals request)) where
+module _ {M : Type 1} (𝓤 : URA M) (H : Heap 𝓤) (A : Atoms 𝓤) (W : Given 𝓤 H A) (mem : Memory → SProp 𝓤) (run : Routine → Fun 𝓤) (xs : List Entry) (k : ℕ)
+    (session : LentSession) (id : ℕ) (request : Request) (gxs : Is Rs.S xs (Rs.vals xs)) (gk : k < 2 ^ 64) (gsession : Is Ls.S session (Ls.vals session))
+    (gid : id < 2 ^ 64) (grequest : Is Rq.S request (Rq.vals request)) where
   abbrev at : Vals me.signature tt
   at = (Rs.vals xs, (vint w64 k ∷ [], (Ls.vals session, (vint w64 id ∷ [], (Rq.vals request, tt)))))
 
   abbrev Post : Val → SProp 𝓤
   Post = walkOf 𝓤 H A me.ended stayed (me.clauses 𝓤 H A mem run) .post ((tt, tt, tt, (xs, (k, (session, (id, (request, tt))))), at), tt)
 
-  exits : (w : Val) (r : AnsweredRows) → Is Ar.S r (w ∷ []) → (r .answered ≡ lentAnswered session (take k xs) (Add id request)) × (r .rows ≡ (rowsAfter session (take k xs) (Add id request) ++ past k xs)) → ent 𝓤 (emp 𝓤) (Post w)
+  exits : (w : Val) (r : AnsweredRows) → Is Ar.S r (w ∷ []) → (r .answered ≡ lentAnswered session (take k xs) (Add id request)) ×
+      (r .rows ≡ (rowsAfter session (take k xs) (Add id request) ++ past k xs)) → ent 𝓤 (emp 𝓤) (Post w)
   exits w r is e =
-      qed W [] ∵ suffices ! _ (ends-at 𝓤 H A me.ended stayed (me.clauses 𝓤 H A mem run) W ((tt, tt, tt, (xs, (k, (session, (id, (request, tt))))), at), tt) w r (tt, (tt, (tt, (tt, (tt, tt))))) (tt, (tt, (tt, (tt, (tt, tt)))))) $ says ! e $
-      nothing ! $ frame ! $ nothing ! $ owned ! Rq.S (Is Rq.S) (Rq.made 𝓤 H A) request _ grequest $ fjoin ! $ owned ! u64 (Is u64) (uint-makes 𝓤 H A W w64) id _ (refl, gid) $ fjoin ! $ owned ! Ls.S (Is Ls.S) (Ls.made 𝓤 H A) session _ gsession $ fjoin ! $ owned ! usize (Is usize) (uint-makes 𝓤 H A W w64) k _ (refl, gk) $ fjoin ! $
+      qed W [] ∵ suffices ! _ (ends-at 𝓤 H A me.ended stayed (me.clauses 𝓤 H A mem run) W ((tt, tt, tt, (xs, (k, (session, (id, (request, tt))))), at), tt) w r
+      (tt, (tt, (tt, (tt, (tt, tt))))) (tt, (tt, (tt, (tt, (tt, tt)))))) $ says ! e $
+      nothing ! $ frame ! $ nothing ! $ owned ! Rq.S (Is Rq.S) (Rq.made 𝓤 H A) request _ grequest $ fjoin ! $ owned ! u64 (Is u64) (uint-makes 𝓤 H A W w64) id _
+      (refl, gid) $ fjoin ! $ owned ! Ls.S (Is Ls.S) (Ls.made 𝓤 H A) session _ gsession $ fjoin ! $ owned ! usize (Is usize) (uint-makes 𝓤 H A W w64) k _ (refl, gk) $
+      fjoin ! $
       owned ! Rs.S (Is Rs.S) (Rs.made 𝓤 H A W) xs _ gxs $ fjoin ! $ frame ! $ owned ! Ar.S (Is Ar.S) (Ar.made 𝓤 H A) r _ is $ done !
 
-  module _ (C : Calls 𝓤 H) (Λ : Loops 𝓤 H) (fm : FmC 𝓤 H (W .laws) C) (k-add : Triple 𝓤 (C #add) (Adds 𝓤 H A mem run)) (k-with : Triple 𝓤 (C #answered-with) (AnsweredWith 𝓤 H A mem run)) where
-    walk : k ≤ 512 → ent 𝓤 (onEntry 𝓤 H A me.signature tt tt (xs, (k, (session, (id, (request, tt))))) at) (WpFn 𝓤 H C Λ code.function (Rs.val xs ∷ vint w64 k ∷ Ls.val session ∷ vint w64 id ∷ Rq.val request ∷ []) Post)
+  module _ (C : Calls 𝓤 H) (Λ : Loops 𝓤 H) (fm : FmC 𝓤 H (W .laws) C) (k-add : Triple 𝓤 (C #add) (Adds 𝓤 H A mem run))
+      (k-with : Triple 𝓤 (C #answered-with) (AnsweredWith 𝓤 H A mem run)) where
+    walk : k ≤ 512 → ent 𝓤 (onEntry 𝓤 H A me.signature tt tt (xs, (k, (session, (id, (request, tt))))) at)
+        (WpFn 𝓤 H C Λ code.function (Rs.val xs ∷ vint w64 k ∷ Ls.val session ∷ vint w64 id ∷ Rq.val request ∷ []) Post)
     walk few =
-        qed W (‵ ftrue ∷ ‵ (owns (Rs.S ∷ usize ∷ Ls.S ∷ u64 ∷ Rq.S ∷ []) (xs, (k, (session, (id, (request, tt))))) at) ∷ []) ∵ enter ! C Λ code.function (Rs.val xs ∷ vint w64 k ∷ Ls.val session ∷ vint w64 id ∷ Rq.val request ∷ []) _ $
-        alloc1 ! (λ l₀. alloc1 ! (λ l₁. alloc1 ! (λ l₂. alloc1 ! (λ l₃. alloc1 ! (λ l₄. alloc1 ! (λ l₅. alloc1 ! (λ l₆. alloc1 ! (λ l₇. alloc1 ! (λ l₈. alloc1 ! (λ l₉. alloc1 ! (λ l₁₀. alloc0 ! $ params1 ! $
-        pass1 ! (init ! 18 refl (Rs.typed 𝓤 H A W xs gxs)) $ pass1 ! (init ! 16 refl (tt, record { fits = gk })) $ pass1 ! (init ! 14 refl (Ls.typed 𝓤 H A W session gsession)) $ pass1 ! (init ! 12 refl (tt, record { fits = gid })) $ pass1 ! (init ! 10 refl (Rq.typed 𝓤 H A W request grequest)) $ pass0 ! $
+        qed W (‵ ftrue ∷ ‵ (owns (Rs.S ∷ usize ∷ Ls.S ∷ u64 ∷ Rq.S ∷ []) (xs, (k, (session, (id, (request, tt))))) at) ∷ []) ∵ enter ! C Λ code.function
+        (Rs.val xs ∷ vint w64 k ∷ Ls.val session ∷ vint w64 id ∷ Rq.val request ∷ []) _ $
+        alloc1 ! (λ l₀. alloc1 ! (λ l₁.
+        alloc1 ! (λ l₂. alloc1 ! (λ l₃.
+        alloc1 ! (λ l₄. alloc1 ! (λ l₅. alloc1 ! (λ l₆. alloc1 ! (λ l₇. alloc1 ! (λ l₈. alloc1 ! (λ l₉. alloc1 ! (λ l₁₀. alloc0 ! $ params1 ! $
+        pass1 ! (init ! 18 refl (Rs.typed 𝓤 H A W xs gxs)) $ pass1 ! (init ! 16 refl (tt, record { fits = gk })) $
+        pass1 ! (init ! 14 refl (Ls.typed 𝓤 H A W session gsession)) $ pass1 ! (init ! 12 refl (tt, record { fits = gid })) $
+        pass1 ! (init ! 10 refl (Rq.typed 𝓤 H A W request grequest)) $ pass0 ! $
         assigns ! (of-opd ! (load ! (from ! (stop !)) (look ! 18 refl))) (from ! (stop !)) (init ! 8 refl (Rs.typed 𝓤 H A W xs gxs)) $
         assigns ! (addr ! (from ! (stop !))) (from ! (stop !)) (init ! 4 refl (tt, tt)) $
-        assigns ! (agg ! (and-then ! (load ! (from ! (stop !)) (look ! 4 refl)) (and-then ! (load ! (from ! (stop !)) (look ! 16 refl)) (no-more !)))) (from ! (stop !)) (init ! 2 refl (tt, (tt, (record { fits = gk }, tt)))) $
+        assigns ! (agg ! (and-then ! (load ! (from ! (stop !)) (look ! 4 refl)) (and-then ! (load ! (from ! (stop !)) (look ! 16 refl)) (no-more !)))) (from ! (stop !))
+        (init ! 2 refl (tt, (tt, (record { fits = gk }, tt)))) $
         move ! (8 ∷ []) $ owned ! Rs.S (Is Rs.S) (Rs.made 𝓤 H A W) xs _ gxs $ move ! (1 ∷ 0 ∷ []) $
         -- [the array; what it owns; the other locals]
-        calls-part ! fm R tt El.vals El.tells (named 0) 512 l₆ k xs few (lit< tt, lit< tt) (sliceVal (l₆, 0) k ∷ Ls.val session ∷ vint w64 id ∷ Rq.val request ∷ []) (Answers session (take k xs) (Add id request))
-        (λ ν δ first. subst (λ (c : ℕ). ent 𝓤 (sep 𝓤 (sem 𝓤 H A (Owned R (l₆, 0) (length (take k xs)) (named 0) (ν ∷ []) δ (take k xs))) (A .lft (ν ∷ []) fullShare)) (C #add (sliceVal (l₆, 0) c ∷ Ls.val session ∷ vint w64 id ∷ Rq.val request ∷ []) (Leaves 𝓤 H A R (length (take k xs)) (Answers session (take k xs) (Add id request)) ν δ))) first
+        calls-part ! fm R tt El.vals El.tells (named 0) 512 l₆ k xs few (lit< tt, lit< tt) (sliceVal (l₆, 0) k ∷ Ls.val session ∷ vint w64 id ∷ Rq.val request ∷ [])
+        (Answers session (take k xs) (Add id request))
+        (λ ν δ first. subst (λ (c : ℕ). ent 𝓤 (sep 𝓤 (sem 𝓤 H A (Owned R (l₆, 0) (length (take k xs)) (named 0) (ν ∷ []) δ (take k xs))) (A .lft (ν ∷ []) fullShare))
+        (C #add (sliceVal (l₆, 0) c ∷ Ls.val session ∷ vint w64 id ∷ Rq.val request ∷ [])
+        (Leaves 𝓤 H A R (length (take k xs)) (Answers session (take k xs) (Add id request)) ν δ))) first
         (add-runs 𝓤 H A mem run W C fm l₆ (take k xs) ν δ k-add session id request gsession gid grequest))
-        (λ i j. and-then ! (load ! (from ! (stop !)) (look ! 4 refl)) (and-then ! (load ! (from ! (stop !)) (look ! 15 refl)) (and-then ! (load ! (from ! (stop !)) (look ! 13 refl)) (and-then ! (load ! (from ! (stop !)) (look ! 11 refl)) (no-more !))))) (λ w zs g.
+        (λ i j. and-then ! (load ! (from ! (stop !)) (look ! 4 refl))
+        (and-then ! (load ! (from ! (stop !)) (look ! 15 refl))
+        (and-then ! (load ! (from ! (stop !)) (look ! 13 refl)) (and-then ! (load ! (from ! (stop !)) (look ! 11 refl)) (no-more !))))) (λ w zs g.
         move ! (1 ∷ []) $ peeks ! Rs.S (Is Rs.S) (shows 𝓤 H A Rs.S) (zs ++ past k xs) (Rs.vals (zs ++ past k xs)) (λ gz. move ! (1 ∷ 0 ∷ []) $
-        land ! (from ! (stop !)) (init ! 8 refl (La.typed-at 𝓤 H A W (g .0) w (g .1))) $ rewrite ! 8 (λ (y : Val). ‵ (fat fullShare La.ty l₇ 0 y)) (ap only (La.tells (g .0) (w ∷ []) (g .1))) refl $
+        land ! (from ! (stop !)) (init ! 8 refl (La.typed-at 𝓤 H A W (g .0) w (g .1))) $ rewrite ! 8 (λ (y : Val). ‵ (fat fullShare La.ty l₇ 0 y))
+        (ap only (La.tells (g .0) (w ∷ []) (g .1))) refl $
         assigns ! (of-opd ! (load ! (from ! (stop !)) (look ! 0 refl))) (from ! (stop !)) (init ! 2 refl (Rs.typed 𝓤 H A W (zs ++ past k xs) gz)) $
-        calls-plain ! fm (La.val (g .0) ∷ Rs.val (zs ++ past k xs) ∷ []) (λ x. (r : AnsweredRows) × Is Ar.S r (x ∷ []) × (r .answered ≡ g .0) × (r .rows ≡ (zs ++ past k xs))) (answered-with-runs 𝓤 H A mem run W C fm k-with (g .0) (zs ++ past k xs) (subst (Is La.S (g .0)) (La.tells (g .0) (w ∷ []) (g .1)) (g .1)) gz)
+        calls-plain ! fm (La.val (g .0) ∷ Rs.val (zs ++ past k xs) ∷ [])
+        (λ x. (r : AnsweredRows) × Is Ar.S r (x ∷ []) × (r .answered ≡ g .0) × (r .rows ≡ (zs ++ past k xs)))
+        (answered-with-runs 𝓤 H A mem run W C fm k-with (g .0) (zs ++ past k xs) (subst (Is La.S (g .0)) (La.tells (g .0) (w ∷ []) (g .1)) (g .1)) gz)
         (and-then ! (load ! (from ! (stop !)) (look ! 9 refl)) (and-then ! (load ! (from ! (stop !)) (look ! 3 refl)) (no-more !))) (λ x gx.
         land ! (from ! (stop !)) (init ! 21 refl (Ar.typed-at 𝓤 H A W (gx .0) x (gx .1))) $ returns ! (look ! 21 refl) $
-        forget ! 21 refl $ forget ! 19 refl $ forget ! 17 refl $ forget ! 15 refl $ forget ! 13 refl $ forget ! 11 refl $ forget ! 0 refl $ forget ! 8 refl $ forget ! 6 refl $ forget ! 4 refl $ forget ! 2 refl $
+        forget ! 21 refl $ forget ! 19 refl $ forget ! 17 refl $ forget ! 15 refl $ forget ! 13 refl $ forget ! 11 refl $ forget ! 0 refl $ forget ! 8 refl $ forget ! 6
+        refl $ forget ! 4 refl $ forget ! 2 refl $
         move ! (21 ∷ 22 ∷ 19 ∷ 20 ∷ 17 ∷ 18 ∷ 15 ∷ 16 ∷ 13 ∷ 14 ∷ 11 ∷ 12 ∷ 0 ∷ 10 ∷ 8 ∷ 9 ∷ 6 ∷ 7 ∷ 4 ∷ 5 ∷ 2 ∷ 3 ∷ []) $ free-all ! _ $
         keep ! [] $ by ! (exits x (gx .0) (gx .1) (gx .2 ∙ g .2, gx .3 ∙ ap (λ (rest : List Entry). rest ++ past k xs) (g .3)))))))))))))))))
 
-module _ {M : Type 1} (𝓤 : URA M) (H : Heap 𝓤) (A : Atoms 𝓤) (W : Given 𝓤 H A) (mem : Memory → SProp 𝓤) (run : Routine → Fun 𝓤) (𝓣 : Tables 𝓤 H) (k-add : Triple 𝓤 (𝓣 .C #add) (Adds 𝓤 H A mem run)) (k-with : Triple 𝓤 (𝓣 .C #answered-with) (AnsweredWith 𝓤 H A mem run)) where
+module _ {M : Type 1} (𝓤 : URA M) (H : Heap 𝓤) (A : Atoms 𝓤) (W : Given 𝓤 H A) (mem : Memory → SProp 𝓤) (run : Routine → Fun 𝓤) (𝓣 : Tables 𝓤 H)
+    (k-add : Triple 𝓤 (𝓣 .C #add) (Adds 𝓤 H A mem run)) (k-with : Triple 𝓤 (𝓣 .C #answered-with) (AnsweredWith 𝓤 H A mem run)) where
   walks : Walks 𝓤 H A me.ended stayed (WpFn 𝓤 H (𝓣 .C) (𝓣 .Λ) code.function) (me.clauses 𝓤 H A mem run)
-  walks = walked 𝓤 H A me.ended stayed (me.clauses 𝓤 H A mem run) (WpFn 𝓤 H (𝓣 .C) (𝓣 .Λ) code.function) (λ κs. (Rs.vals, (uint-vals w64, (Ls.vals, (uint-vals w64, (Rq.vals, tt)))))) (λ κs. (Rs.tells, (uint-tells w64, (Ls.tells, (uint-tells w64, (Rq.tells, tt))))))
-      (λ κs qs bounds a g are. needs 𝓤 (a .1 .0 ≤ 512) _ (walk 𝓤 H A W mem run (a .0) (a .1 .0) (a .1 .1 .0) (a .1 .1 .1 .0) (a .1 .1 .1 .1 .0) (are .0) (are .1 .0 .1) (are .1 .1 .0) (are .1 .1 .1 .0 .1) (are .1 .1 .1 .1 .0) (𝓣 .C) (𝓣 .Λ) (fmOf 𝓤 H (W .laws) 𝓣) k-add k-with))
+  walks = walked 𝓤 H A me.ended stayed (me.clauses 𝓤 H A mem run) (WpFn 𝓤 H (𝓣 .C) (𝓣 .Λ) code.function)
+      (λ κs. (Rs.vals, (uint-vals w64, (Ls.vals, (uint-vals w64, (Rq.vals, tt)))))) (λ κs. (Rs.tells, (uint-tells w64, (Ls.tells, (uint-tells w64, (Rq.tells, tt))))))
+      (λ κs qs bounds a g are. needs 𝓤 (a .1 .0 ≤ 512) _
+      (walk 𝓤 H A W mem run (a .0) (a .1 .0) (a .1 .1 .0) (a .1 .1 .1 .0) (a .1 .1 .1 .1 .0) (are .0) (are .1 .0 .1) (are .1 .1 .0) (are .1 .1 .1 .0 .1)
+      (are .1 .1 .1 .1 .0) (𝓣 .C) (𝓣 .Λ) (fmOf 𝓤 H (W .laws) 𝓣) k-add k-with))
 
   meets : Meets 𝓤 H A me.signature (WpFn 𝓤 H (𝓣 .C) (𝓣 .Λ) code.function) (me.spec 𝓤 H A mem run)
-  meets = walk-meets 𝓤 H A me.ended stayed W (goes-none 𝓤 H A W 0 (λ _. Rs.S) yes (λ κs x f. refl), (goes-none 𝓤 H A W 0 (λ _. usize) yes (λ κs x f. refl), (goes-none 𝓤 H A W 0 (λ _. Ls.S) yes (λ κs x f. refl), (goes-none 𝓤 H A W 0 (λ _. u64) yes (λ κs x f. refl), (goes-none 𝓤 H A W 0 (λ _. Rq.S) yes (λ κs x f. refl), tt))))) (me.clauses 𝓤 H A mem run)
+  meets = walk-meets 𝓤 H A me.ended stayed W (
+    goes-none 𝓤 H A W 0 (λ _. Rs.S) yes (λ κs x f. refl),
+    (
+      goes-none 𝓤 H A W 0 (λ _. usize) yes (λ κs x f. refl),
+      (
+        goes-none 𝓤 H A W 0 (λ _. Ls.S) yes (λ κs x f. refl),
+        (goes-none 𝓤 H A W 0 (λ _. u64) yes (λ κs x f. refl), (goes-none 𝓤 H A W 0 (λ _. Rq.S) yes (λ κs x f. refl), tt)),
+      ),
+    ),
+  ) (me.clauses 𝓤 H A mem run)
       (WpFn 𝓤 H (𝓣 .C) (𝓣 .Λ) code.function) (WpFn-mono 𝓤 H (W .laws) 𝓣 code.function) walks
 
 pub add-rows-spec : {M : Type 1} → stated.statement M

@@ -67,7 +67,8 @@ stayed = (stay-none-slice (0 ∷ []) tt (plain (λ _. R)) yes, (stay-none (λ _.
 abbrev word : Ty
 word = tyInt w64
 
-module _ {M : Type 1} (𝓤 : URA M) (H : Heap 𝓤) (A : Atoms 𝓤) (W : Given 𝓤 H A) (mem : Memory → SProp 𝓤) (run : Routine → Fun 𝓤) (κ : Lft) (q : Share) (b o : ℕ) (γ : GName) (ys : List Entry) (s : Choice) where
+module _ {M : Type 1} (𝓤 : URA M) (H : Heap 𝓤) (A : Atoms 𝓤) (W : Given 𝓤 H A) (mem : Memory → SProp 𝓤) (run : Routine → Fun 𝓤) (κ : Lft) (q : Share) (b o : ℕ)
+    (γ : GName) (ys : List Entry) (s : Choice) where
   abbrev n : ℕ
   n = length ys
 
@@ -83,7 +84,8 @@ module _ {M : Type 1} (𝓤 : URA M) (H : Heap 𝓤) (A : Atoms 𝓤) (W : Given
   exits : (r : Choice) → Is Cc.S r (Cc.vals r) → HasChosen (s .setup) (standing ys) r → ent 𝓤 (⋆ 𝓤 H A (‵ (flft κ q) ∷ Own ∷ [])) (Post (Cc.val r))
   exits r g e =
       qed W (‵ (flft κ q) ∷ Own ∷ []) ∵
-      suffices ! _ (ends-at 𝓤 H A select.ended stayed (select.clauses 𝓤 H A mem run) W (((κ, tt), (q, tt), tt, (record { ptr = (b, o); name = γ; now = ys }, (s, tt)), at), tt) (Cc.val r) r (tt, (tt, tt)) (tt, (tt, tt))) $
+      suffices ! _ (ends-at 𝓤 H A select.ended stayed (select.clauses 𝓤 H A mem run) W
+      (((κ, tt), (q, tt), tt, (record { ptr = (b, o); name = γ; now = ys }, (s, tt)), at), tt) (Cc.val r) r (tt, (tt, tt)) (tt, (tt, tt))) $
       says ! e $
       nothing ! $ move ! (1 ∷ 0 ∷ []) $ join ! $ frame ! $ frame ! $ owned ! Cc.S (Is Cc.S) (Cc.made 𝓤 H A) r _ g $ done !
 
@@ -104,13 +106,15 @@ module _ {M : Type 1} (𝓤 : URA M) (H : Heap 𝓤) (A : Atoms 𝓤) (W : Given
     abbrev Frame : List (Item 𝓤)
     Frame = ‵ (fat fullShare slice l₁ 0 (sliceVal (b, o) n)) ∷ ‵ (fat fullShare Cc.ty l₂ 0 (Cc.val s)) ∷ ‵ (froom Cc.ty l₀ 0)
         ∷ ‵ (row R q′ ys b o) ∷ ‵ (fobor κ q (arr-parts (shares R) n .part q′ ys b o)) ∷ Own
-        ∷ ‵ (fdies Cc.ty l₀) ∷ ‵ (fdies slice l₁) ∷ ‵ (fdies Cc.ty l₂) ∷ ‵ (fdies Cc.ty l₃) ∷ ‵ (fdies word l₄) ∷ ‵ (fdies tyBool l₅) ∷ ‵ (fdies word l₆) ∷ ‵ (fdies tyPtr l₇) ∷ ‵ (fdies El.ty l₈) ∷ []
+        ∷ ‵ (fdies Cc.ty l₀) ∷ ‵ (fdies slice l₁) ∷ ‵ (fdies Cc.ty l₂) ∷ ‵ (fdies Cc.ty l₃) ∷ ‵ (fdies word l₄) ∷ ‵ (fdies tyBool l₅) ∷ ‵ (fdies word l₆) ∷ ‵
+        (fdies tyPtr l₇) ∷ ‵ (fdies El.ty l₈) ∷ []
 
     abbrev X : Type 0
     X = ℕ × Choice
 
     abbrev At : X → List (Item 𝓤)
-    At x = ‵ (fat fullShare word l₄ 0 (vint w64 (x .0))) ∷ ‵ (fat fullShare Cc.ty l₃ 0 (Cc.val (x .1))) ∷ ‵ (froom tyBool l₅ 0) ∷ ‵ (froom word l₆ 0) ∷ ‵ (froom tyPtr l₇ 0) ∷ ‵ (froom El.ty l₈ 0) ∷ Frame
+    At x = ‵ (fat fullShare word l₄ 0 (vint w64 (x .0))) ∷ ‵ (fat fullShare Cc.ty l₃ 0 (Cc.val (x .1))) ∷ ‵ (froom tyBool l₅ 0) ∷ ‵ (froom word l₆ 0) ∷ ‵
+        (froom tyPtr l₇ 0) ∷ ‵ (froom El.ty l₈ 0) ∷ Frame
 
     abbrev Fact : X → Type 0
     Fact x = Is Cc.S (x .1) (Cc.vals (x .1)) × Far (s .setup) ys (x .0) (x .1)
@@ -126,16 +130,23 @@ module _ {M : Type 1} (𝓤 : URA M) (H : Heap 𝓤) (A : Atoms 𝓤) (W : Given
     unfolding afterTurn
     more i t Again l gt far k =
         qed W (At (i, t)) ∵ exec ! C Λ E mir.turn-1 (anyQ (afterTurn 𝓤 H Again Left)) $
-        assigns ! (bin ! (load ! (from ! (stop !)) (look ! 0 refl)) (load ! (from ! (fld ! refl (stop !))) (look-in ! 1 (sub ! 3 refl (whole !)))) tt) (from ! (stop !)) (init ! 2 refl (tt, tt)) $
+        assigns ! (bin ! (load ! (from ! (stop !)) (look ! 0 refl)) (load ! (from ! (fld ! refl (stop !))) (look-in ! 1 (sub ! 3 refl (whole !)))) tt) (from ! (stop !))
+        (init ! 2 refl (tt, tt)) $
         rewrite ! 2 (λ (y : Bool). ‵ (fat fullShare tyBool l₅ 0 (vbool y))) (lt-ltb i (t .end) l) refl $
         stays ! (load ! (from ! (stop !)) (look ! 2 refl)) $
-        assigns ! (bin ! (load ! (from ! (stop !)) (look ! 0 refl)) (lit ! tt) (record { fits = El.offset-fits n i room inside })) (from ! (stop !)) (init ! 3 refl (tt, record { fits = El.offset-fits n i room inside })) $
-        assigns ! (bin ! (load ! (from ! (fld ! refl (stop !))) (look-in ! 6 (sub ! 0 refl (whole !)))) (load ! (from ! (stop !)) (look ! 3 refl)) tt) (from ! (stop !)) (init ! 4 refl (tt, tt)) $
+        assigns ! (bin ! (load ! (from ! (stop !)) (look ! 0 refl)) (lit ! tt) (record { fits = El.offset-fits n i room inside })) (from ! (stop !))
+        (init ! 3 refl (tt, record { fits = El.offset-fits n i room inside })) $
+        assigns ! (bin ! (load ! (from ! (fld ! refl (stop !))) (look-in ! 6 (sub ! 0 refl (whole !)))) (load ! (from ! (stop !)) (look ! 3 refl)) tt) (from ! (stop !))
+        (init ! 4 refl (tt, tt)) $
         rewrite ! 4 (λ (p : ℕ). ‵ (fat fullShare tyPtr l₇ 0 (vptr b p))) (El.place-at o i) refl $
         move ! (9 ∷ []) $ elem-out ! R (Is R) (shows 𝓤 H A R) El.vals El.tells q′ ys i vacant b o inside (λ ge.
         assigns ! (of-opd ! (load ! (from ! (hop ! (look ! 7 refl) (stop !))) (look-raw ! 0 refl))) (from ! (stop !)) (init ! 8 refl (El.typed 𝓤 H A W (getD ys i vacant) ge)) $
         elem-back ! R q′ ys i vacant (El.vals (getD ys i vacant)) b o inside $
-        calls-plain ! (fmOf 𝓤 H (W .laws) 𝓣) (Cc.val t ∷ vint w64 i ∷ El.val (getD ys i vacant) ∷ []) (λ v. (d : Choice) × Is Cc.S d (v ∷ []) × Chose t i (getD ys i vacant) d) (choose-one-runs 𝓤 H A mem run W C (fmOf 𝓤 H (W .laws) 𝓣) known t i (getD ys i vacant) gt small ge (far-ready (s .setup) ys i t far)) (and-then ! (load ! (from ! (stop !)) (look ! 3 refl)) (and-then ! (load ! (from ! (stop !)) (look ! 2 refl)) (and-then ! (load ! (from ! (stop !)) (look ! 7 refl)) (no-more !)))) (λ v gv.
+        calls-plain ! (fmOf 𝓤 H (W .laws) 𝓣) (Cc.val t ∷ vint w64 i ∷ El.val (getD ys i vacant) ∷ [])
+        (λ v. (d : Choice) × Is Cc.S d (v ∷ []) × Chose t i (getD ys i vacant) d)
+        (choose-one-runs 𝓤 H A mem run W C (fmOf 𝓤 H (W .laws) 𝓣) known t i (getD ys i vacant) gt small ge (far-ready (s .setup) ys i t far))
+        (and-then ! (load ! (from ! (stop !)) (look ! 3 refl))
+        (and-then ! (load ! (from ! (stop !)) (look ! 2 refl)) (and-then ! (load ! (from ! (stop !)) (look ! 7 refl)) (no-more !)))) (λ v gv.
         land ! (from ! (stop !)) (store ! 2 refl (Cc.typed-at 𝓤 H A W (gv .0) v (gv .1))) $
         rewrite ! 2 (λ (u : Val). ‵ (fat fullShare Cc.ty l₃ 0 u)) (ap only (Cc.tells (gv .0) (v ∷ []) (gv .1))) refl $
         assigns-last ! (bin ! (load ! (from ! (stop !)) (look ! 1 refl)) (lit ! tt) (record { fits = next-small })) (from ! (stop !)) (store ! 1 refl (tt, record { fits = next-small })) $
@@ -152,11 +163,13 @@ module _ {M : Type 1} (𝓤 : URA M) (H : Heap 𝓤) (A : Atoms 𝓤) (W : Given
         next-small = omega (arith, inside, room .0)
 
     -- the turn that leaves the loop, and the rest of the body
-    ends : (i : ℕ) (t : Choice) (Again : SProp 𝓤) → t .end ≤ i → Is Cc.S t (Cc.vals t) → HasChosen (s .setup) (standing ys) t → ent 𝓤 (⋆ 𝓤 H A (At (i, t))) (Wp 𝓤 H C Λ E mir.turn-1 (afterTurn 𝓤 H Again Left))
+    ends : (i : ℕ) (t : Choice) (Again : SProp 𝓤) → t .end ≤ i → Is Cc.S t (Cc.vals t) → HasChosen (s .setup) (standing ys) t → ent 𝓤 (⋆ 𝓤 H A (At (i, t)))
+        (Wp 𝓤 H C Λ E mir.turn-1 (afterTurn 𝓤 H Again Left))
     unfolding afterTurn
     ends i t Again l gt e =
         qed W (At (i, t)) ∵ exec ! C Λ E mir.turn-1 (anyQ (afterTurn 𝓤 H Again Left)) $
-        assigns ! (bin ! (load ! (from ! (stop !)) (look ! 0 refl)) (load ! (from ! (fld ! refl (stop !))) (look-in ! 1 (sub ! 3 refl (whole !)))) tt) (from ! (stop !)) (init ! 2 refl (tt, tt)) $
+        assigns ! (bin ! (load ! (from ! (stop !)) (look ! 0 refl)) (load ! (from ! (fld ! refl (stop !))) (look-in ! 1 (sub ! 3 refl (whole !)))) tt) (from ! (stop !))
+        (init ! 2 refl (tt, tt)) $
         rewrite ! 2 (λ (y : Bool). ‵ (fat fullShare tyBool l₅ 0 (vbool y))) (le-ltb i (t .end) l) refl $
         leaves-loop ! (load ! (from ! (stop !)) (look ! 2 refl)) $ exec ! C Λ E mir.t-4 (atRet E Post) $
         assigns ! (of-opd ! (load ! (from ! (stop !)) (look ! 1 refl))) (from ! (stop !)) (init ! 8 refl (Cc.typed 𝓤 H A W t gt)) $
@@ -164,7 +177,8 @@ module _ {M : Type 1} (𝓤 : URA M) (H : Heap 𝓤) (A : Atoms 𝓤) (W : Given
         returns ! (look ! 9 refl) $ forget ! 1 refl $ forget ! 2 refl $ forget ! 3 refl $ forget ! 7 refl $ forget ! 8 refl $ forget ! 9 refl $
         keep ! (9 ∷ 11 ∷ 7 ∷ 12 ∷ 8 ∷ 13 ∷ 2 ∷ 14 ∷ 1 ∷ 15 ∷ 3 ∷ 16 ∷ 4 ∷ 17 ∷ 5 ∷ 18 ∷ 6 ∷ 19 ∷ 0 ∷ 10 ∷ []) $ free-all ! _ $ by ! (exits t gt e)
 
-    turns : (x : X) → Fact x → (Again : SProp 𝓤) → ((y : X) → Fact y → y .1 .end - y .0 < x .1 .end - x .0 → ent 𝓤 (⋆ 𝓤 H A (At y)) Again) → ent 𝓤 (⋆ 𝓤 H A (At x)) (Wp 𝓤 H C Λ E mir.turn-1 (afterTurn 𝓤 H Again Left))
+    turns : (x : X) → Fact x → (Again : SProp 𝓤) → ((y : X) → Fact y → y .1 .end - y .0 < x .1 .end - x .0 → ent 𝓤 (⋆ 𝓤 H A (At y)) Again) → ent 𝓤 (⋆ 𝓤 H A (At x))
+        (Wp 𝓤 H C Λ E mir.turn-1 (afterTurn 𝓤 H Again Left))
     turns x f Again k = elim (lt-or-le (x .0) (x .1 .end)) [
       | inl l ↦ more (x .0) (x .1) Again l (f .0) (f .1) (λ r g step. let next = far-next (s .setup) ys (x .0) (x .1) r (f .1) l step in k (x .0 + 1, r) (g, next) (far-less (s .setup) ys (x .0) (x .1) r l (f .1) next))
       | inr l ↦ ends (x .0) (x .1) Again l (f .0) (far-end (s .setup) ys (x .0) (x .1) (f .1) l)
@@ -176,7 +190,8 @@ module _ {M : Type 1} (𝓤 : URA M) (H : Heap 𝓤) (A : Atoms 𝓤) (W : Given
 
   -- the MIR, up to the loop. A `&[Entry]` is Copy: one copy of what it owns is kept for the exit, and the other is looked into
   walk : (𝓣 : Tables 𝓤 H) → Triple 𝓤 (𝓣 .C #choose-one) (Chooses 𝓤 H A mem run) → Room R n → Is Cc.S s (Cc.vals s) → HasChosen (s .setup) [] s × (s .end ≡ n)
-      → ent 𝓤 (onEntry 𝓤 H A select.signature (κ, tt) (q, tt) (record { ptr = (b, o); name = γ; now = ys }, (s, tt)) at) (WpFn 𝓤 H (𝓣 .C) (𝓣 .Λ) code.function (sliceVal (b, o) n ∷ Cc.val s ∷ []) Post)
+      → ent 𝓤 (onEntry 𝓤 H A select.signature (κ, tt) (q, tt) (record { ptr = (b, o); name = γ; now = ys }, (s, tt)) at)
+      (WpFn 𝓤 H (𝓣 .C) (𝓣 .Λ) code.function (sliceVal (b, o) n ∷ Cc.val s ∷ []) Post)
   walk 𝓣 known room gs need =
       qed W ((‵ (flft κ q) ⊛ ‵ ftrue) ∷ Own ∷ []) ∵ enter ! (𝓣 .C) (𝓣 .Λ) code.function (sliceVal (b, o) n ∷ Cc.val s ∷ []) _ $
       alloc1 ! (λ l₀. alloc1 ! (λ l₁. alloc1 ! (λ l₂. alloc1 ! (λ l₃. alloc1 ! (λ l₄. alloc1 ! (λ l₅. alloc1 ! (λ l₆. alloc1 ! (λ l₇. alloc1 ! (λ l₈. alloc0 ! $
@@ -192,14 +207,18 @@ module _ {M : Type 1} (𝓤 : URA M) (H : Heap 𝓤) (A : Atoms 𝓤) (W : Given
       keep ! (13 ∷ 15 ∷ 11 ∷ 9 ∷ 7 ∷ 5 ∷ 19 ∷ 17 ∷ 21 ∷ 0 ∷ 1 ∷ 4 ∷ 22 ∷ 20 ∷ 18 ∷ 16 ∷ 14 ∷ 12 ∷ 10 ∷ 8 ∷ 6 ∷ []) $
       loops 𝓣 known room q′ l₀ l₁ l₂ l₃ l₄ l₅ l₆ l₇ l₈ gs need))))))))))
 
-module _ {M : Type 1} (𝓤 : URA M) (H : Heap 𝓤) (A : Atoms 𝓤) (W : Given 𝓤 H A) (mem : Memory → SProp 𝓤) (run : Routine → Fun 𝓤) (𝓣 : Tables 𝓤 H) (known : Triple 𝓤 (𝓣 .C #choose-one) (Chooses 𝓤 H A mem run)) where
+module _ {M : Type 1} (𝓤 : URA M) (H : Heap 𝓤) (A : Atoms 𝓤) (W : Given 𝓤 H A) (mem : Memory → SProp 𝓤) (run : Routine → Fun 𝓤) (𝓣 : Tables 𝓤 H)
+    (known : Triple 𝓤 (𝓣 .C #choose-one) (Chooses 𝓤 H A mem run)) where
   walks : Walks 𝓤 H A select.ended stayed (WpFn 𝓤 H (𝓣 .C) (𝓣 .Λ) code.function) (select.clauses 𝓤 H A mem run)
-  walks = walked 𝓤 H A select.ended stayed (select.clauses 𝓤 H A mem run) (WpFn 𝓤 H (𝓣 .C) (𝓣 .Λ) code.function) (λ κs. (slice-vals, (Cc.vals, tt))) (λ κs. (shr-slice-tells (named 0) (κs .0) R, (Cc.tells, tt)))
-      (λ κs qs bounds a g are. needs 𝓤 (HasChosen (a .1 .0 .setup) [] (a .1 .0) × (a .1 .0 .end ≡ length (a .0 .now))) _ (λ need. walk 𝓤 H A W mem run (κs .0) (qs .0) (a .0 .ptr .0) (a .0 .ptr .1) (a .0 .name) (a .0 .now) (a .1 .0) 𝓣 known (are .0 .0 .1) (are .1 .0) need))
+  walks = walked 𝓤 H A select.ended stayed (select.clauses 𝓤 H A mem run) (WpFn 𝓤 H (𝓣 .C) (𝓣 .Λ) code.function) (λ κs. (slice-vals, (Cc.vals, tt)))
+      (λ κs. (shr-slice-tells (named 0) (κs .0) R, (Cc.tells, tt)))
+      (λ κs qs bounds a g are. needs 𝓤 (HasChosen (a .1 .0 .setup) [] (a .1 .0) × (a .1 .0 .end ≡ length (a .0 .now))) _
+      (λ need. walk 𝓤 H A W mem run (κs .0) (qs .0) (a .0 .ptr .0) (a .0 .ptr .1) (a .0 .name) (a .0 .now) (a .1 .0) 𝓣 known (are .0 .0 .1) (are .1 .0) need))
 
   meets : Meets 𝓤 H A select.signature (WpFn 𝓤 H (𝓣 .C) (𝓣 .Λ) code.function) (select.spec 𝓤 H A mem run)
   meets =
-      walk-meets 𝓤 H A select.ended stayed W (goes-none-slice 𝓤 H A W 1 (0 ∷ []) tt (plain (λ _. R)) yes, (goes-none 𝓤 H A W 1 (λ _. Cc.S) yes (λ κs x f. refl), tt)) (select.clauses 𝓤 H A mem run)
+      walk-meets 𝓤 H A select.ended stayed W (goes-none-slice 𝓤 H A W 1 (0 ∷ []) tt (plain (λ _. R)) yes, (goes-none 𝓤 H A W 1 (λ _. Cc.S) yes (λ κs x f. refl), tt))
+      (select.clauses 𝓤 H A mem run)
       (WpFn 𝓤 H (𝓣 .C) (𝓣 .Λ) code.function) (WpFn-mono 𝓤 H (W .laws) 𝓣 code.function) walks
 
 pub select-spec : {M : Type 1} → stated.statement M

@@ -61,13 +61,16 @@ use Rattle.lent_planner.proofs.open.open.Statement as stated
 use Rattle.lent_planner.proofs.open.open.Code as code
 
 -- the decision is the answer, and the change that of the records
-says-both : (session : LentSession) (ys : List Entry) (opening : Opening) (d : Decision) (zs : List Entry) → Decides session ys (Open opening) d → zs ≡ rearranged (d .change) ys → (d .answered ≡ lentAnswered session ys (Open opening)) × (zs ≡ rowsAfter session ys (Open opening))
+says-both : (session : LentSession) (ys : List Entry) (opening : Opening) (d : Decision) (zs : List Entry) → Decides session ys (Open opening) d → zs ≡ rearranged
+    (d .change) ys → (d .answered ≡ lentAnswered session ys (Open opening)) × (zs ≡ rowsAfter session ys (Open opening))
 says-both session ys opening d zs decides is = (decides .answered, is ∙ decides .rows-after)
 
 abbrev stayed : Stays (me.ended .signature .params) (me.ended .kept)
 stayed = (stay-slice (0 ∷ []) tt (plain (λ _. R)), (stay-none (λ _. Ls.S) yes, (stay-none (λ _. Op.S) yes, tt)))
 
-module _ {M : Type 1} (𝓤 : URA M) (H : Heap 𝓤) (A : Atoms 𝓤) (W : Given 𝓤 H A) (mem : Memory → SProp 𝓤) (run : Routine → Fun 𝓤) (κ : Lft) (q : Share) (b o : ℕ) (γ : GName) (ys : List Entry) (session : LentSession) (opening : Opening) (gsession : Is Ls.S session (Ls.vals session)) (gopening : Is Op.S opening (Op.vals opening)) where
+module _ {M : Type 1} (𝓤 : URA M) (H : Heap 𝓤) (A : Atoms 𝓤) (W : Given 𝓤 H A) (mem : Memory → SProp 𝓤) (run : Routine → Fun 𝓤) (κ : Lft) (q : Share) (b o : ℕ)
+    (γ : GName) (ys : List Entry) (session : LentSession) (opening : Opening) (gsession : Is Ls.S session (Ls.vals session))
+    (gopening : Is Op.S opening (Op.vals opening)) where
   abbrev n : ℕ
   n = length ys
 
@@ -77,49 +80,71 @@ module _ {M : Type 1} (𝓤 : URA M) (H : Heap 𝓤) (A : Atoms 𝓤) (W : Given
   abbrev Post : Val → SProp 𝓤
   Post = walkOf 𝓤 H A me.ended stayed (me.clauses 𝓤 H A mem run) .post (((κ, tt), (q, tt), tt, (record { ptr = (b, o); name = γ; now = ys }, (session, (opening, tt))), at), tt)
 
-  exits : (d : Decision) (zs : List Entry) → Is La.S (d .answered) (La.vals (d .answered)) → Decides session ys (Open opening) d → zs ≡ rearranged (d .change) ys → length zs ≡ n → ent 𝓤 (⋆ 𝓤 H A (‵ (Owned R (b, o) n (named 0) κ γ zs) ∷ ‵ (flft κ q) ∷ [])) (Post (La.val (d .answered)))
+  exits : (d : Decision) (zs : List Entry) → Is La.S (d .answered) (La.vals (d .answered)) → Decides session ys (Open opening) d → zs ≡ rearranged (d .change) ys → length
+      zs ≡ n → ent 𝓤 (⋆ 𝓤 H A (‵ (Owned R (b, o) n (named 0) κ γ zs) ∷ ‵ (flft κ q) ∷ [])) (Post (La.val (d .answered)))
   exits d zs g decides is len =
       qed W (‵ (Owned R (b, o) n (named 0) κ γ zs) ∷ ‵ (flft κ q) ∷ []) ∵
-      suffices ! _ (ends-at 𝓤 H A me.ended stayed (me.clauses 𝓤 H A mem run) W (((κ, tt), (q, tt), tt, (record { ptr = (b, o); name = γ; now = ys }, (session, (opening, tt))), at), tt) (La.val (d .answered)) (d .answered) (zs, (tt, (tt, tt))) (len, (tt, (tt, tt)))) $
+      suffices ! _ (ends-at 𝓤 H A me.ended stayed (me.clauses 𝓤 H A mem run) W
+      (((κ, tt), (q, tt), tt, (record { ptr = (b, o); name = γ; now = ys }, (session, (opening, tt))), at), tt) (La.val (d .answered)) (d .answered)
+      (zs, (tt, (tt, tt))) (len, (tt, (tt, tt)))) $
       says ! (comes d zs decides is) $
       nothing ! $ move ! (2 ∷ 0 ∷ []) $ join ! $ frame ! $
       nothing ! $ owned ! Op.S (Is Op.S) (Op.made 𝓤 H A) opening _ gopening $ fjoin ! $ owned ! Ls.S (Is Ls.S) (Ls.made 𝓤 H A) session _ gsession $ fjoin ! $
       move ! (1 ∷ 0 ∷ []) $ fjoin ! $ frame ! $ owned ! La.S (Is La.S) (La.made 𝓤 H A) (d .answered) _ g $ done !
     where
-      comes : (d : Decision) (zs : List Entry) → Decides session ys (Open opening) d → zs ≡ rearranged (d .change) ys → (d .answered ≡ lentAnswered session ys (Open opening)) × (zs ≡ rowsAfter session ys (Open opening))
+      comes : (d : Decision) (zs : List Entry) → Decides session ys (Open opening) d → zs ≡ rearranged (d .change) ys →
+          (d .answered ≡ lentAnswered session ys (Open opening)) × (zs ≡ rowsAfter session ys (Open opening))
       comes d zs decides is = says-both session ys opening d zs decides is
 
-  module _ (C : Calls 𝓤 H) (Λ : Loops 𝓤 H) (fm : FmC 𝓤 H (W .laws) C) (k-decide : Triple 𝓤 (C #decide-open) (DecidesOpens 𝓤 H A mem run)) (k-rearrange : Triple 𝓤 (C #rearrange) (Rearranges 𝓤 H A mem run)) where
-    walk : Room R n → ent 𝓤 (onEntry 𝓤 H A me.signature (κ, tt) (q, tt) (record { ptr = (b, o); name = γ; now = ys }, (session, (opening, tt))) at) (WpFn 𝓤 H C Λ code.function (sliceVal (b, o) n ∷ Ls.val session ∷ Op.val opening ∷ []) Post)
+  module _ (C : Calls 𝓤 H) (Λ : Loops 𝓤 H) (fm : FmC 𝓤 H (W .laws) C) (k-decide : Triple 𝓤 (C #decide-open) (DecidesOpens 𝓤 H A mem run))
+      (k-rearrange : Triple 𝓤 (C #rearrange) (Rearranges 𝓤 H A mem run)) where
+    walk : Room R n → ent 𝓤 (onEntry 𝓤 H A me.signature (κ, tt) (q, tt) (record { ptr = (b, o); name = γ; now = ys }, (session, (opening, tt))) at)
+        (WpFn 𝓤 H C Λ code.function (sliceVal (b, o) n ∷ Ls.val session ∷ Op.val opening ∷ []) Post)
     walk room =
-        qed W ((‵ (flft κ q) ⊛ ‵ ftrue) ∷ ‵ (owns (MutSlice (named 0) κ R ∷ Ls.S ∷ Op.S ∷ []) (record { ptr = (b, o); name = γ; now = ys }, (session, (opening, tt))) at) ∷ []) ∵ enter ! C Λ code.function (sliceVal (b, o) n ∷ Ls.val session ∷ Op.val opening ∷ []) _ $
+        qed W ((‵ (flft κ q) ⊛ ‵ ftrue) ∷ ‵ (owns (MutSlice (named 0) κ R ∷ Ls.S ∷ Op.S ∷ []) (record { ptr = (b, o); name = γ; now = ys }, (session, (opening, tt))) at)
+        ∷ []) ∵ enter ! C Λ code.function (sliceVal (b, o) n ∷ Ls.val session ∷ Op.val opening ∷ []) _ $
         alloc1 ! (λ l₀. alloc1 ! (λ l₁. alloc1 ! (λ l₂. alloc1 ! (λ l₃. alloc1 ! (λ l₄. alloc1 ! (λ l₅. alloc1 ! (λ l₆. alloc1 ! (λ l₇. alloc1 ! (λ l₈. alloc0 ! $
         params1 ! $
         pass1 ! (init ! 14 refl (tt, (tt, (record { fits = room .0 }, tt)))) $ pass1 ! (init ! 12 refl (Ls.typed 𝓤 H A W session gsession)) $
         pass1 ! (init ! 10 refl (Op.typed 𝓤 H A W opening gopening)) $ pass0 ! $
         move ! (19 ∷ []) $ fsplit ! $ move ! (1 ∷ []) $ drop ! $ move ! (19 ∷ []) $ split ! $ move ! (2 ∷ 0 ∷ []) $
         assigns ! (of-opd ! (load ! (from ! (fld ! refl (stop !))) (look-in ! 17 (sub ! 1 refl (whole !))))) (from ! (stop !)) (init ! 9 refl (tt, record { fits = room .0 })) $
-        calls-plain ! fm (Ls.val session ∷ vint w64 n ∷ Op.val opening ∷ []) (λ x. (d : Decision) × Is De.S d (x ∷ []) × DecidesOpen session n opening d) (decide-open-runs 𝓤 H A mem run W C fm k-decide session n opening gsession (room .0) gopening) (and-then ! (load ! (from ! (stop !)) (look ! 16 refl)) (and-then ! (load ! (from ! (stop !)) (look ! 10 refl)) (and-then ! (load ! (from ! (stop !)) (look ! 14 refl)) (no-more !)))) (λ x gx.
+        calls-plain ! fm (Ls.val session ∷ vint w64 n ∷ Op.val opening ∷ []) (λ x. (d : Decision) × Is De.S d (x ∷ []) × DecidesOpen session n opening d)
+        (decide-open-runs 𝓤 H A mem run W C fm k-decide session n opening gsession (room .0) gopening)
+        (and-then ! (load ! (from ! (stop !)) (look ! 16 refl))
+        (and-then ! (load ! (from ! (stop !)) (look ! 10 refl)) (and-then ! (load ! (from ! (stop !)) (look ! 14 refl)) (no-more !)))) (λ x gx.
         land ! (from ! (stop !)) (init ! 11 refl (De.typed-at 𝓤 H A W (gx .0) x (gx .1))) $
         rewrite ! 11 (λ (y : Val). ‵ (fat fullShare De.ty l₄ 0 y)) (ap only (De.tells (gx .0) (x ∷ []) (gx .1))) refl $
         assigns ! (addr ! (from ! (fld ! refl (hop ! (look-in ! 17 (sub ! 0 refl (whole !))) (stop !))))) (from ! (stop !)) (init ! 5 refl (tt, tt)) $
-        assigns ! (agg ! (and-then ! (load ! (from ! (stop !)) (look ! 5 refl)) (and-then ! (load ! (from ! (fld ! refl (stop !))) (look-in ! 17 (sub ! 1 refl (whole !)))) (no-more !)))) (from ! (stop !)) (init ! 3 refl (tt, (tt, (record { fits = room .0 }, tt)))) $
-        calls-lent ! fm R (named 0) (named 0) b o ys room (sliceVal (b, o) n ∷ Ch.val (gx .0 .change) ∷ []) (λ y zs. (y ≡ vunit) × (zs ≡ rearranged (gx .0 .change) ys)) (λ ν δ. rearrange-runs 𝓤 H A mem run W C fm b o ys ν δ (gx .0 .change) k-rearrange (De.change-is (gx .0) (subst (Is De.S (gx .0)) (De.tells (gx .0) (x ∷ []) (gx .1)) (gx .1))) (((gx .2) ys refl) .fits))
+        assigns ! (agg ! (and-then ! (load ! (from ! (stop !)) (look ! 5 refl))
+        (and-then ! (load ! (from ! (fld ! refl (stop !))) (look-in ! 17 (sub ! 1 refl (whole !)))) (no-more !)))) (from ! (stop !))
+        (init ! 3 refl (tt, (tt, (record { fits = room .0 }, tt)))) $
+        calls-lent ! fm R (named 0) (named 0) b o ys room (sliceVal (b, o) n ∷ Ch.val (gx .0 .change) ∷ []) (λ y zs. (y ≡ vunit) × (zs ≡ rearranged (gx .0 .change) ys))
+        (λ ν δ. rearrange-runs 𝓤 H A mem run W C fm b o ys ν δ (gx .0 .change) k-rearrange
+        (De.change-is (gx .0) (subst (Is De.S (gx .0)) (De.tells (gx .0) (x ∷ []) (gx .1)) (gx .1))) (((gx .2) ys refl) .fits))
         (λ i j. and-then ! (load ! (from ! (stop !)) (look ! 3 refl)) (and-then ! (load ! (from ! (fld ! refl (stop !))) (look-in ! 11 (sub ! 1 refl (whole !)))) (no-more !))) (λ y zs g len.
         land ! (from ! (stop !)) (init ! 7 refl (subst (λ (t : Val). Holds (hasTy tyUnit t) × WT t) (sym (g .0)) (tt, tt))) $
-        assigns ! (of-opd ! (load ! (from ! (fld ! refl (stop !))) (look-in ! 11 (sub ! 0 refl (whole !))))) (from ! (stop !)) (init ! 19 refl (La.typed 𝓤 H A W (gx .0 .answered) (De.answered-is (gx .0) (subst (Is De.S (gx .0)) (De.tells (gx .0) (x ∷ []) (gx .1)) (gx .1))))) $
+        assigns ! (of-opd ! (load ! (from ! (fld ! refl (stop !))) (look-in ! 11 (sub ! 0 refl (whole !))))) (from ! (stop !))
+        (init ! 19 refl (La.typed 𝓤 H A W (gx .0 .answered) (De.answered-is (gx .0) (subst (Is De.S (gx .0)) (De.tells (gx .0) (x ∷ []) (gx .1)) (gx .1))))) $
         returns ! (look ! 19 refl) $ forget ! 19 refl $ forget ! 17 refl $ forget ! 15 refl $ forget ! 13 refl $ forget ! 11 refl $ forget ! 9 refl $ forget ! 7 refl $
         forget ! 5 refl $ forget ! 3 refl $
-        keep ! (19 ∷ 20 ∷ 17 ∷ 18 ∷ 15 ∷ 16 ∷ 13 ∷ 14 ∷ 11 ∷ 12 ∷ 9 ∷ 10 ∷ 7 ∷ 8 ∷ 5 ∷ 6 ∷ 3 ∷ 4 ∷ 0 ∷ 1 ∷ []) $ free-all ! _ $ by ! (exits (gx .0) zs (De.answered-is (gx .0) (subst (Is De.S (gx .0)) (De.tells (gx .0) (x ∷ []) (gx .1)) (gx .1))) (((gx .2) ys refl)) (g .1) len))))))))))))
+        keep ! (19 ∷ 20 ∷ 17 ∷ 18 ∷ 15 ∷ 16 ∷ 13 ∷ 14 ∷ 11 ∷ 12 ∷ 9 ∷ 10 ∷ 7 ∷ 8 ∷ 5 ∷ 6 ∷ 3 ∷ 4 ∷ 0 ∷ 1 ∷ []) $ free-all ! _ $
+        by ! (exits (gx .0) zs (De.answered-is (gx .0) (subst (Is De.S (gx .0)) (De.tells (gx .0) (x ∷ []) (gx .1)) (gx .1))) (((gx .2) ys refl)) (g .1)
+        len))))))))))))
 
-module _ {M : Type 1} (𝓤 : URA M) (H : Heap 𝓤) (A : Atoms 𝓤) (W : Given 𝓤 H A) (mem : Memory → SProp 𝓤) (run : Routine → Fun 𝓤) (𝓣 : Tables 𝓤 H) (k-decide : Triple 𝓤 (𝓣 .C #decide-open) (DecidesOpens 𝓤 H A mem run)) (k-rearrange : Triple 𝓤 (𝓣 .C #rearrange) (Rearranges 𝓤 H A mem run)) where
+module _ {M : Type 1} (𝓤 : URA M) (H : Heap 𝓤) (A : Atoms 𝓤) (W : Given 𝓤 H A) (mem : Memory → SProp 𝓤) (run : Routine → Fun 𝓤) (𝓣 : Tables 𝓤 H)
+    (k-decide : Triple 𝓤 (𝓣 .C #decide-open) (DecidesOpens 𝓤 H A mem run)) (k-rearrange : Triple 𝓤 (𝓣 .C #rearrange) (Rearranges 𝓤 H A mem run)) where
   walks : Walks 𝓤 H A me.ended stayed (WpFn 𝓤 H (𝓣 .C) (𝓣 .Λ) code.function) (me.clauses 𝓤 H A mem run)
-  walks = walked 𝓤 H A me.ended stayed (me.clauses 𝓤 H A mem run) (WpFn 𝓤 H (𝓣 .C) (𝓣 .Λ) code.function) (λ κs. (slice-vals, (Ls.vals, (Op.vals, tt)))) (λ κs. (mut-slice-tells (named 0) (κs .0) R, (Ls.tells, (Op.tells, tt))))
+  walks = walked 𝓤 H A me.ended stayed (me.clauses 𝓤 H A mem run) (WpFn 𝓤 H (𝓣 .C) (𝓣 .Λ) code.function) (λ κs. (slice-vals, (Ls.vals, (Op.vals, tt))))
+      (λ κs. (mut-slice-tells (named 0) (κs .0) R, (Ls.tells, (Op.tells, tt))))
       (λ κs qs bounds a g are. via 𝓤 _ (fst∗ 𝓤 _ (emp 𝓤))
-      (walk 𝓤 H A W mem run (κs .0) (qs .0) (a .0 .ptr .0) (a .0 .ptr .1) (a .0 .name) (a .0 .now) (a .1 .0) (a .1 .1 .0) (are .1 .0) (are .1 .1 .0) (𝓣 .C) (𝓣 .Λ) (fmOf 𝓤 H (W .laws) 𝓣) k-decide k-rearrange (are .0 .0 .1)))
+      (walk 𝓤 H A W mem run (κs .0) (qs .0) (a .0 .ptr .0) (a .0 .ptr .1) (a .0 .name) (a .0 .now) (a .1 .0) (a .1 .1 .0) (are .1 .0) (are .1 .1 .0) (𝓣 .C) (𝓣 .Λ)
+      (fmOf 𝓤 H (W .laws) 𝓣) k-decide k-rearrange (are .0 .0 .1)))
 
   meets : Meets 𝓤 H A me.signature (WpFn 𝓤 H (𝓣 .C) (𝓣 .Λ) code.function) (me.spec 𝓤 H A mem run)
-  meets = walk-meets 𝓤 H A me.ended stayed W (goes-slice 𝓤 H A W 1 0 tt (plain (λ _. R)), (goes-none 𝓤 H A W 1 (λ _. Ls.S) yes (λ κs x f. refl), (goes-none 𝓤 H A W 1 (λ _. Op.S) yes (λ κs x f. refl), tt))) (me.clauses 𝓤 H A mem run)
+  meets = walk-meets 𝓤 H A me.ended stayed W
+      (goes-slice 𝓤 H A W 1 0 tt (plain (λ _. R)), (goes-none 𝓤 H A W 1 (λ _. Ls.S) yes (λ κs x f. refl), (goes-none 𝓤 H A W 1 (λ _. Op.S) yes (λ κs x f. refl), tt)))
+      (me.clauses 𝓤 H A mem run)
       (WpFn 𝓤 H (𝓣 .C) (𝓣 .Λ) code.function) (WpFn-mono 𝓤 H (W .laws) 𝓣 code.function) walks
 
 pub open-spec : {M : Type 1} → stated.statement M

@@ -69,7 +69,8 @@ stayed = (stay-slice (0 ∷ []) tt (plain (λ _. R)), (stay-none (λ _. Ch.S) ye
 abbrev word : Ty
 word = tyInt w64
 
-module _ {M : Type 1} (𝓤 : URA M) (H : Heap 𝓤) (A : Atoms 𝓤) (W : Given 𝓤 H A) (mem : Memory → SProp 𝓤) (run : Routine → Fun 𝓤) (κ : Lft) (q : Share) (b o : ℕ) (γ : GName) (xs : List Entry) (s : Change) (gs : Is Ch.S s (Ch.vals s)) where
+module _ {M : Type 1} (𝓤 : URA M) (H : Heap 𝓤) (A : Atoms 𝓤) (W : Given 𝓤 H A) (mem : Memory → SProp 𝓤) (run : Routine → Fun 𝓤) (κ : Lft) (q : Share) (b o : ℕ)
+    (γ : GName) (xs : List Entry) (s : Change) (gs : Is Ch.S s (Ch.vals s)) where
   abbrev n : ℕ
   n = length xs
 
@@ -83,7 +84,8 @@ module _ {M : Type 1} (𝓤 : URA M) (H : Heap 𝓤) (A : Atoms 𝓤) (W : Given
       → ent 𝓤 (⋆ 𝓤 H A (‵ (fobs γ (codedHoleys R .code (heres R zs))) ∷ ‵ (fbor κ (Held R (length zs) b o γ)) ∷ ‵ (flft κ q) ∷ [])) (Post vunit)
   exits zs l e room =
       qed W (‵ (fobs γ (codedHoleys R .code (heres R zs))) ∷ ‵ (fbor κ (Held R (length zs) b o γ)) ∷ ‵ (flft κ q) ∷ []) ∵
-      suffices ! _ (ends-at 𝓤 H A rearrange.ended stayed (rearrange.clauses 𝓤 H A mem run) W (((κ, tt), (q, tt), tt, (record { ptr = (b, o); name = γ; now = xs }, (s, tt)), at), tt) vunit tt (zs, (tt, tt)) (l, (tt, tt))) $
+      suffices ! _ (ends-at 𝓤 H A rearrange.ended stayed (rearrange.clauses 𝓤 H A mem run) W
+      (((κ, tt), (q, tt), tt, (record { ptr = (b, o); name = γ; now = xs }, (s, tt)), at), tt) vunit tt (zs, (tt, tt)) (l, (tt, tt))) $
       says ! e $
       nothing ! $ move ! (3 ∷ 0 ∷ []) $ join ! $ frame ! $
       fjoin ! $
@@ -92,7 +94,8 @@ module _ {M : Type 1} (𝓤 : URA M) (H : Heap 𝓤) (A : Atoms 𝓤) (W : Given
       nothing ! $ owned ! Ch.S (Is Ch.S) (Ch.made 𝓤 H A) s _ gs $ fjoin ! $ move ! (1 ∷ 0 ∷ []) $ fjoin ! $ frame ! $ feqI ! (List Val) (vunit ∷ []) (vunit ∷ []) refl $
       done !
 
-  module _ (𝓣 : Tables 𝓤 H) (k-source : Triple 𝓤 (𝓣 .C #source-of) (Sources 𝓤 H A mem run)) (k-placed : Triple 𝓤 (𝓣 .C #placed-at) (Places 𝓤 H A mem run)) (room : Room R n) (fits : Fitting s n) (l₀ l₁ l₂ l₃ l₄ l₅ l₆ l₇ l₈ l₉ l₁₀ l₁₁ l₁₂ : ℕ) where
+  module _ (𝓣 : Tables 𝓤 H) (k-source : Triple 𝓤 (𝓣 .C #source-of) (Sources 𝓤 H A mem run)) (k-placed : Triple 𝓤 (𝓣 .C #placed-at) (Places 𝓤 H A mem run))
+      (room : Room R n) (fits : Fitting s n) (l₀ l₁ l₂ l₃ l₄ l₅ l₆ l₇ l₈ l₉ l₁₀ l₁₁ l₁₂ : ℕ) where
     abbrev C : Calls 𝓤 H
     C = 𝓣 .C
 
@@ -103,17 +106,20 @@ module _ {M : Type 1} (𝓤 : URA M) (H : Heap 𝓤) (A : Atoms 𝓤) (W : Given
     slice = sliceTy (tyRef (named 0) mut El.behind)
 
     abbrev E : Env 𝓤 H
-    E = (tyUnit, l₀) ∷ (slice, l₁) ∷ (Ch.ty, l₂) ∷ (word, l₃) ∷ (word, l₄) ∷ (word, l₅) ∷ (El.ty, l₆) ∷ (El.ty, l₇) ∷ (tyBool, l₈) ∷ (word, l₉) ∷ (tyPtr, l₁₀) ∷ (El.ty, l₁₁) ∷ (tyPtr, l₁₂) ∷ []
+    E = (tyUnit, l₀) ∷ (slice, l₁) ∷ (Ch.ty, l₂) ∷ (word, l₃) ∷ (word, l₄) ∷ (word, l₅) ∷ (El.ty, l₆) ∷ (El.ty, l₇) ∷ (tyBool, l₈) ∷ (word, l₉) ∷ (tyPtr, l₁₀) ∷
+        (El.ty, l₁₁) ∷ (tyPtr, l₁₂) ∷ []
 
     -- what no turn touches
     abbrev Frame : List (Item 𝓤)
     Frame = ‵ (fat fullShare slice l₁ 0 (sliceVal (b, o) n)) ∷ ‵ (fat fullShare Ch.ty l₂ 0 (Ch.val s)) ∷ ‵ (fat fullShare word l₄ 0 (vint w64 (s .end))) ∷ ‵ (froom tyUnit l₀ 0)
         ∷ ‵ (fobor κ q (Held R n b o γ)) ∷ ‵ (fobs γ (codedHoleys R .code (heres R xs))) ∷ ‵ (fauth γ (codedHoleys R .code (heres R xs)))
-        ∷ ‵ (fdies tyUnit l₀) ∷ ‵ (fdies slice l₁) ∷ ‵ (fdies Ch.ty l₂) ∷ ‵ (fdies word l₃) ∷ ‵ (fdies word l₄) ∷ ‵ (fdies word l₅) ∷ ‵ (fdies El.ty l₆) ∷ ‵ (fdies El.ty l₇) ∷ ‵ (fdies tyBool l₈) ∷ ‵ (fdies word l₉) ∷ ‵ (fdies tyPtr l₁₀) ∷ ‵ (fdies El.ty l₁₁) ∷ ‵ (fdies tyPtr l₁₂) ∷ []
+        ∷ ‵ (fdies tyUnit l₀) ∷ ‵ (fdies slice l₁) ∷ ‵ (fdies Ch.ty l₂) ∷ ‵ (fdies word l₃) ∷ ‵ (fdies word l₄) ∷ ‵ (fdies word l₅) ∷ ‵ (fdies El.ty l₆) ∷ ‵
+        (fdies El.ty l₇) ∷ ‵ (fdies tyBool l₈) ∷ ‵ (fdies word l₉) ∷ ‵ (fdies tyPtr l₁₀) ∷ ‵ (fdies El.ty l₁₁) ∷ ‵ (fdies tyPtr l₁₂) ∷ []
 
     -- i, and the records as they are
     abbrev At : ℕ → List Entry → List (Item 𝓤)
-    At i ys = ‵ (fat fullShare word l₃ 0 (vint w64 i)) ∷ ‵ (froom word l₅ 0) ∷ ‵ (froom El.ty l₆ 0) ∷ ‵ (froom El.ty l₇ 0) ∷ ‵ (froom tyBool l₈ 0) ∷ ‵ (froom word l₉ 0) ∷ ‵ (froom tyPtr l₁₀ 0) ∷ ‵ (froom El.ty l₁₁ 0) ∷ ‵ (froom tyPtr l₁₂ 0)
+    At i ys = ‵ (fat fullShare word l₃ 0 (vint w64 i)) ∷ ‵ (froom word l₅ 0) ∷ ‵ (froom El.ty l₆ 0) ∷ ‵ (froom El.ty l₇ 0) ∷ ‵ (froom tyBool l₈ 0) ∷ ‵ (froom word l₉ 0) ∷
+        ‵ (froom tyPtr l₁₀ 0) ∷ ‵ (froom El.ty l₁₁ 0) ∷ ‵ (froom tyPtr l₁₂ 0)
         ∷ ‵ (row R fullShare ys b o) ∷ Frame
 
     -- when the loop is left, the rest of the body runs
@@ -130,26 +136,39 @@ module _ {M : Type 1} (𝓤 : URA M) (H : Heap 𝓤) (A : Atoms 𝓤) (W : Given
         assigns ! (bin ! (load ! (from ! (stop !)) (look ! 0 refl)) (load ! (from ! (stop !)) (look ! 12 refl)) tt) (from ! (stop !)) (init ! 4 refl (tt, tt)) $
         rewrite ! 4 (λ (y : Bool). ‵ (fat fullShare tyBool l₈ 0 (vbool y))) (lt-ltb i (s .end) l) refl $
         stays ! (load ! (from ! (stop !)) (look ! 4 refl)) $
-        calls-plain ! (fmOf 𝓤 H (W .laws) 𝓣) (Ch.val s ∷ vint w64 i ∷ []) (λ v. Is usize (source s i) (v ∷ [])) (source-of-runs 𝓤 H A mem run W C (fmOf 𝓤 H (W .laws) 𝓣) k-source s i gs small fine) (and-then ! (load ! (from ! (stop !)) (look ! 12 refl)) (and-then ! (load ! (from ! (stop !)) (look ! 1 refl)) (no-more !))) (λ v gv.
+        calls-plain ! (fmOf 𝓤 H (W .laws) 𝓣) (Ch.val s ∷ vint w64 i ∷ []) (λ v. Is usize (source s i) (v ∷ []))
+        (source-of-runs 𝓤 H A mem run W C (fmOf 𝓤 H (W .laws) 𝓣) k-source s i gs small fine)
+        (and-then ! (load ! (from ! (stop !)) (look ! 12 refl)) (and-then ! (load ! (from ! (stop !)) (look ! 1 refl)) (no-more !))) (λ v gv.
         land ! (from ! (stop !)) (init ! 1 refl (subst (λ (u : Val). Holds (hasTy word u) × WT u) (sym (ap only (gv .0))) (tt, record { fits = from-small }))) $
         rewrite ! 1 (λ (u : Val). ‵ (fat fullShare word l₅ 0 u)) (ap only (gv .0)) refl $
-        assigns ! (bin ! (load ! (from ! (stop !)) (look ! 1 refl)) (lit ! tt) (record { fits = El.offset-fits n (source s i) room from-in })) (from ! (stop !)) (init ! 5 refl (tt, record { fits = El.offset-fits n (source s i) room from-in })) $
-        assigns ! (bin ! (load ! (from ! (fld ! refl (stop !))) (look-in ! 10 (sub ! 0 refl (whole !)))) (load ! (from ! (stop !)) (look ! 5 refl)) tt) (from ! (stop !)) (init ! 6 refl (tt, tt)) $
+        assigns ! (bin ! (load ! (from ! (stop !)) (look ! 1 refl)) (lit ! tt) (record { fits = El.offset-fits n (source s i) room from-in })) (from ! (stop !))
+        (init ! 5 refl (tt, record { fits = El.offset-fits n (source s i) room from-in })) $
+        assigns ! (bin ! (load ! (from ! (fld ! refl (stop !))) (look-in ! 10 (sub ! 0 refl (whole !)))) (load ! (from ! (stop !)) (look ! 5 refl)) tt) (from ! (stop !))
+        (init ! 6 refl (tt, tt)) $
         rewrite ! 6 (λ (p : ℕ). ‵ (fat fullShare tyPtr l₁₀ 0 (vptr b p))) (El.place-at o (source s i)) refl $
         move ! (9 ∷ []) $ elem-out ! R (Is R) (shows 𝓤 H A R) El.vals El.tells fullShare ys (source s i) vacant b o there (λ ge.
         assigns ! (of-opd ! (load ! (from ! (hop ! (look ! 9 refl) (stop !))) (look-raw ! 0 refl))) (from ! (stop !)) (init ! 10 refl (El.typed 𝓤 H A W (getD ys (source s i) vacant) ge)) $
         elem-back ! R fullShare ys (source s i) vacant (El.vals (getD ys (source s i) vacant)) b o there $
         assigns ! (of-opd ! (load ! (from ! (stop !)) (look ! 8 refl))) (from ! (stop !)) (init ! 3 refl (El.typed 𝓤 H A W (getD ys (source s i) vacant) ge)) $
-        calls-plain ! (fmOf 𝓤 H (W .laws) 𝓣) (Ch.val s ∷ vint w64 i ∷ El.val (getD ys (source s i) vacant) ∷ []) (λ u. Is R (placed s i (getD ys (source s i) vacant)) (u ∷ [])) (placed-at-runs 𝓤 H A mem run W C (fmOf 𝓤 H (W .laws) 𝓣) k-placed s i (getD ys (source s i) vacant) gs small ge fine) (and-then ! (load ! (from ! (stop !)) (look ! 12 refl)) (and-then ! (load ! (from ! (stop !)) (look ! 2 refl)) (and-then ! (load ! (from ! (stop !)) (look ! 4 refl)) (no-more !)))) (λ u gu.
+        calls-plain ! (fmOf 𝓤 H (W .laws) 𝓣) (Ch.val s ∷ vint w64 i ∷ El.val (getD ys (source s i) vacant) ∷ [])
+        (λ u. Is R (placed s i (getD ys (source s i) vacant)) (u ∷ []))
+        (placed-at-runs 𝓤 H A mem run W C (fmOf 𝓤 H (W .laws) 𝓣) k-placed s i (getD ys (source s i) vacant) gs small ge fine)
+        (and-then ! (load ! (from ! (stop !)) (look ! 12 refl))
+        (and-then ! (load ! (from ! (stop !)) (look ! 2 refl)) (and-then ! (load ! (from ! (stop !)) (look ! 4 refl)) (no-more !)))) (λ u gu.
         land ! (from ! (stop !)) (init ! 4 refl (El.typed-at 𝓤 H A W (placed s i (getD ys (source s i) vacant)) u gu)) $
         rewrite ! 4 (λ (x : Val). ‵ (fat fullShare El.ty l₇ 0 x)) (ap only (El.tells (placed s i (getD ys (source s i) vacant)) (u ∷ []) gu)) refl $
-        assigns ! (bin ! (load ! (from ! (stop !)) (look ! 1 refl)) (lit ! tt) (record { fits = El.offset-fits n i room here-in })) (from ! (stop !)) (store ! 6 refl (tt, record { fits = El.offset-fits n i room here-in })) $
-        assigns ! (bin ! (load ! (from ! (fld ! refl (stop !))) (look-in ! 10 (sub ! 0 refl (whole !)))) (load ! (from ! (stop !)) (look ! 6 refl)) tt) (from ! (stop !)) (init ! 9 refl (tt, tt)) $
+        assigns ! (bin ! (load ! (from ! (stop !)) (look ! 1 refl)) (lit ! tt) (record { fits = El.offset-fits n i room here-in })) (from ! (stop !))
+        (store ! 6 refl (tt, record { fits = El.offset-fits n i room here-in })) $
+        assigns ! (bin ! (load ! (from ! (fld ! refl (stop !))) (look-in ! 10 (sub ! 0 refl (whole !)))) (load ! (from ! (stop !)) (look ! 6 refl)) tt) (from ! (stop !))
+        (init ! 9 refl (tt, tt)) $
         rewrite ! 9 (λ (p : ℕ). ‵ (fat fullShare tyPtr l₁₂ 0 (vptr b p))) (El.place-at o i) refl $
         elem-out ! R (Is R) (shows 𝓤 H A R) El.vals El.tells fullShare ys i vacant b o here (λ _.
-        assigns ! (of-opd ! (load ! (from ! (stop !)) (look ! 6 refl))) (from ! (hop ! (look ! 11 refl) (stop !))) (store-raw ! 0 refl (El.typed 𝓤 H A W (placed s i (getD ys (source s i) vacant)) (subst (Is R (placed s i (getD ys (source s i) vacant))) (El.tells (placed s i (getD ys (source s i) vacant)) (u ∷ []) gu) gu))) $
+        assigns ! (of-opd ! (load ! (from ! (stop !)) (look ! 6 refl))) (from ! (hop ! (look ! 11 refl) (stop !)))
+        (store-raw ! 0 refl (El.typed 𝓤 H A W (placed s i (getD ys (source s i) vacant))
+        (subst (Is R (placed s i (getD ys (source s i) vacant))) (El.tells (placed s i (getD ys (source s i) vacant)) (u ∷ []) gu) gu))) $
         move ! (1 ∷ []) $ drop ! $
-        owned ! R (Is R) (El.made 𝓤 H A) (placed s i (getD ys (source s i) vacant)) (El.vals (placed s i (getD ys (source s i) vacant))) (subst (Is R (placed s i (getD ys (source s i) vacant))) (El.tells (placed s i (getD ys (source s i) vacant)) (u ∷ []) gu) gu) $
+        owned ! R (Is R) (El.made 𝓤 H A) (placed s i (getD ys (source s i) vacant)) (El.vals (placed s i (getD ys (source s i) vacant)))
+        (subst (Is R (placed s i (getD ys (source s i) vacant))) (El.tells (placed s i (getD ys (source s i) vacant)) (u ∷ []) gu) gu) $
         move ! (1 ∷ 0 ∷ []) $ elem-put ! R fullShare ys i (placed s i (getD ys (source s i) vacant)) (El.vals (placed s i (getD ys (source s i) vacant))) b o here $
         assigns-last ! (bin ! (load ! (from ! (stop !)) (look ! 1 refl)) (lit ! tt) (record { fits = next-small })) (from ! (stop !)) (store ! 1 refl (tt, record { fits = next-small })) $
         forget ! 2 refl $ forget ! 3 refl $ forget ! 4 refl $ forget ! 5 refl $ forget ! 6 refl $ forget ! 7 refl $ forget ! 8 refl $ forget ! 9 refl $
@@ -193,7 +212,8 @@ module _ {M : Type 1} (𝓤 : URA M) (H : Heap 𝓤) (A : Atoms 𝓤) (W : Given
         assigns ! (of-opd ! (unit-lit !)) (from ! (stop !)) (init ! 13 refl (tt, tt)) $
         move ! (9 ∷ 14 ∷ 15 ∷ 16 ∷ []) $ closes-slice ! tt R xs ys len b o $
         returns ! (look ! 15 refl) $ forget ! 3 refl $ forget ! 7 refl $ forget ! 12 refl $ forget ! 13 refl $ forget ! 14 refl $ forget ! 15 refl $
-        keep ! (15 ∷ 16 ∷ 12 ∷ 17 ∷ 13 ∷ 18 ∷ 3 ∷ 19 ∷ 14 ∷ 20 ∷ 4 ∷ 21 ∷ 5 ∷ 22 ∷ 6 ∷ 23 ∷ 7 ∷ 24 ∷ 8 ∷ 25 ∷ 9 ∷ 26 ∷ 10 ∷ 27 ∷ 11 ∷ 28 ∷ 0 ∷ 1 ∷ 2 ∷ []) $ free-all ! _ $ by ! (exits ys len e room)
+        keep ! (15 ∷ 16 ∷ 12 ∷ 17 ∷ 13 ∷ 18 ∷ 3 ∷ 19 ∷ 14 ∷ 20 ∷ 4 ∷ 21 ∷ 5 ∷ 22 ∷ 6 ∷ 23 ∷ 7 ∷ 24 ∷ 8 ∷ 25 ∷ 9 ∷ 26 ∷ 10 ∷ 27 ∷ 11 ∷ 28 ∷ 0 ∷ 1 ∷ 2 ∷ []) $ free-all ! _
+        $ by ! (exits ys len e room)
 
     -- how many records are left, i and the records as they are
     abbrev X : Type 0
@@ -202,7 +222,8 @@ module _ {M : Type 1} (𝓤 : URA M) (H : Heap 𝓤) (A : Atoms 𝓤) (W : Given
     abbrev Fact : X → Type 0
     Fact x = (x .0 ≡ s .end - x .1) × (length (x .2) ≡ n) × (rearrangedFrom (x .0) (x .1) s (x .2) ≡ rearranged s xs)
 
-    turns : (x : X) → Fact x → (Again : SProp 𝓤) → ((y : X) → Fact y → y .0 < x .0 → ent 𝓤 (⋆ 𝓤 H A (At (y .1) (y .2))) Again) → ent 𝓤 (⋆ 𝓤 H A (At (x .1) (x .2))) (Wp 𝓤 H C Λ E mir.turn-1 (afterTurn 𝓤 H Again Left))
+    turns : (x : X) → Fact x → (Again : SProp 𝓤) → ((y : X) → Fact y → y .0 < x .0 → ent 𝓤 (⋆ 𝓤 H A (At (y .1) (y .2))) Again) → ent 𝓤 (⋆ 𝓤 H A (At (x .1) (x .2)))
+        (Wp 𝓤 H C Λ E mir.turn-1 (afterTurn 𝓤 H Again Left))
     unfolding rearrangedFrom
     turns (zero, i, ys) f Again k = ends i ys Again (f .1) (omega (arith, f .0)) (f .2)
     turns (suc m, i, ys) f Again k = more i ys Again (f .1) left
@@ -221,10 +242,14 @@ module _ {M : Type 1} (𝓤 : URA M) (H : Heap 𝓤) (A : Atoms 𝓤) (W : Given
 
   -- the MIR, up to the loop
   walk : (𝓣 : Tables 𝓤 H) → Triple 𝓤 (𝓣 .C #source-of) (Sources 𝓤 H A mem run) → Triple 𝓤 (𝓣 .C #placed-at) (Places 𝓤 H A mem run) → Room R n → Fitting s n
-      → ent 𝓤 (onEntry 𝓤 H A rearrange.signature (κ, tt) (q, tt) (record { ptr = (b, o); name = γ; now = xs }, (s, tt)) at) (WpFn 𝓤 H (𝓣 .C) (𝓣 .Λ) code.function (sliceVal (b, o) n ∷ Ch.val s ∷ []) Post)
+      → ent 𝓤 (onEntry 𝓤 H A rearrange.signature (κ, tt) (q, tt) (record { ptr = (b, o); name = γ; now = xs }, (s, tt)) at)
+      (WpFn 𝓤 H (𝓣 .C) (𝓣 .Λ) code.function (sliceVal (b, o) n ∷ Ch.val s ∷ []) Post)
   walk 𝓣 k-source k-placed room fits =
-      qed W ((‵ (flft κ q) ⊛ ‵ ftrue) ∷ ‵ (owns (MutSlice (named 0) κ R ∷ Ch.S ∷ []) (record { ptr = (b, o); name = γ; now = xs }, (s, tt)) at) ∷ []) ∵ enter ! (𝓣 .C) (𝓣 .Λ) code.function (sliceVal (b, o) n ∷ Ch.val s ∷ []) _ $
-      alloc1 ! (λ l₀. alloc1 ! (λ l₁. alloc1 ! (λ l₂. alloc1 ! (λ l₃. alloc1 ! (λ l₄. alloc1 ! (λ l₅. alloc1 ! (λ l₆. alloc1 ! (λ l₇. alloc1 ! (λ l₈. alloc1 ! (λ l₉. alloc1 ! (λ l₁₀. alloc1 ! (λ l₁₁. alloc1 ! (λ l₁₂. alloc0 ! $
+      qed W ((‵ (flft κ q) ⊛ ‵ ftrue) ∷ ‵ (owns (MutSlice (named 0) κ R ∷ Ch.S ∷ []) (record { ptr = (b, o); name = γ; now = xs }, (s, tt)) at) ∷ []) ∵ enter ! (𝓣 .C)
+      (𝓣 .Λ) code.function (sliceVal (b, o) n ∷ Ch.val s ∷ []) _ $
+      alloc1 ! (λ l₀. alloc1 ! (λ l₁.
+      alloc1 ! (λ l₂. alloc1 ! (λ l₃.
+      alloc1 ! (λ l₄. alloc1 ! (λ l₅. alloc1 ! (λ l₆. alloc1 ! (λ l₇. alloc1 ! (λ l₈. alloc1 ! (λ l₉. alloc1 ! (λ l₁₀. alloc1 ! (λ l₁₁. alloc1 ! (λ l₁₂. alloc0 ! $
       params1 ! $
       pass1 ! (init ! 22 refl (tt, (tt, (record { fits = room .0 }, tt)))) $ pass1 ! (init ! 20 refl (Ch.typed 𝓤 H A W s gs)) $ pass0 ! $
       assigns ! (of-opd ! (load ! (from ! (fld ! refl (stop !))) (look-in ! 20 (sub ! 0 refl (whole !))))) (from ! (stop !)) (init ! 18 refl (tt, record { fits = Ch.from-fits s gs })) $
@@ -233,10 +258,13 @@ module _ {M : Type 1} (𝓤 : URA M) (H : Heap 𝓤) (A : Atoms 𝓤) (W : Given
       keep ! (25 ∷ 21 ∷ 19 ∷ 17 ∷ 15 ∷ 13 ∷ 11 ∷ 9 ∷ 7 ∷ 0 ∷ 29 ∷ 27 ∷ 23 ∷ 31 ∷ 1 ∷ 2 ∷ 3 ∷ 32 ∷ 30 ∷ 28 ∷ 26 ∷ 24 ∷ 22 ∷ 20 ∷ 18 ∷ 16 ∷ 14 ∷ 12 ∷ 10 ∷ 8 ∷ []) $
       loops 𝓣 k-source k-placed room fits l₀ l₁ l₂ l₃ l₄ l₅ l₆ l₇ l₈ l₉ l₁₀ l₁₁ l₁₂)))))))))))))
 
-module _ {M : Type 1} (𝓤 : URA M) (H : Heap 𝓤) (A : Atoms 𝓤) (W : Given 𝓤 H A) (mem : Memory → SProp 𝓤) (run : Routine → Fun 𝓤) (𝓣 : Tables 𝓤 H) (k-source : Triple 𝓤 (𝓣 .C #source-of) (Sources 𝓤 H A mem run)) (k-placed : Triple 𝓤 (𝓣 .C #placed-at) (Places 𝓤 H A mem run)) where
+module _ {M : Type 1} (𝓤 : URA M) (H : Heap 𝓤) (A : Atoms 𝓤) (W : Given 𝓤 H A) (mem : Memory → SProp 𝓤) (run : Routine → Fun 𝓤) (𝓣 : Tables 𝓤 H)
+    (k-source : Triple 𝓤 (𝓣 .C #source-of) (Sources 𝓤 H A mem run)) (k-placed : Triple 𝓤 (𝓣 .C #placed-at) (Places 𝓤 H A mem run)) where
   rearrange-walks : Walks 𝓤 H A rearrange.ended stayed (WpFn 𝓤 H (𝓣 .C) (𝓣 .Λ) code.function) (rearrange.clauses 𝓤 H A mem run)
-  rearrange-walks = walked 𝓤 H A rearrange.ended stayed (rearrange.clauses 𝓤 H A mem run) (WpFn 𝓤 H (𝓣 .C) (𝓣 .Λ) code.function) (λ κs. (slice-vals, (Ch.vals, tt))) (λ κs. (mut-slice-tells (named 0) (κs .0) R, (Ch.tells, tt)))
-      (λ κs qs bounds a g are. needs 𝓤 (Fitting (a .1 .0) (length (a .0 .now))) _ (walk 𝓤 H A W mem run (κs .0) (qs .0) (a .0 .ptr .0) (a .0 .ptr .1) (a .0 .name) (a .0 .now) (a .1 .0) (are .1 .0) 𝓣 k-source k-placed (are .0 .0 .1)))
+  rearrange-walks = walked 𝓤 H A rearrange.ended stayed (rearrange.clauses 𝓤 H A mem run) (WpFn 𝓤 H (𝓣 .C) (𝓣 .Λ) code.function) (λ κs. (slice-vals, (Ch.vals, tt)))
+      (λ κs. (mut-slice-tells (named 0) (κs .0) R, (Ch.tells, tt)))
+      (λ κs qs bounds a g are. needs 𝓤 (Fitting (a .1 .0) (length (a .0 .now))) _
+      (walk 𝓤 H A W mem run (κs .0) (qs .0) (a .0 .ptr .0) (a .0 .ptr .1) (a .0 .name) (a .0 .now) (a .1 .0) (are .1 .0) 𝓣 k-source k-placed (are .0 .0 .1)))
 
   rearrange-meets : Meets 𝓤 H A rearrange.signature (WpFn 𝓤 H (𝓣 .C) (𝓣 .Λ) code.function) (rearrange.spec 𝓤 H A mem run)
   rearrange-meets =
