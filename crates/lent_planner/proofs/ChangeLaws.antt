@@ -139,14 +139,6 @@ module _ (from end skip : ℕ) (e : Entry) where
   unfolding ahead shifted
   shifted-ahead j l = all-nowhere 8 (j + skip) l
 
-  shifted-end : c .end ≡ end
-  unfolding shifted
-  shifted-end = refl
-
-  shifted-from : c .from ≡ from
-  unfolding shifted
-  shifted-from = refl
-
   shifted-fresh : (j : ℕ) → j < 8 → getD (c .fresh) j vacant ≡ e
   unfolding shifted
   shifted-fresh j l = getD-replicate 8 j e vacant l

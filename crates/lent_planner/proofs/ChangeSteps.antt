@@ -4,9 +4,9 @@
 use mathlib.Core.Path.{_≡_, refl}
 use mathlib.Core.List.{List, [], _∷_}
 use mathlib.Core.Bool.{Bool, true, false}
-use Prim.Native.Nat.{ℕ, _+_, _<_, _≤_}
+use Prim.Native.Nat.{ℕ, _<_}
 use native.Mathlib.Omega.{arith}
-use lib.Dec.{ltb, leb}
+use lib.Dec.{ltb}
 use lib.ListN.{length, getD}
 use borrow.Author.Tests.{ltb-true}
 use Rattle.requests.specs.Choice.{pick}
@@ -20,15 +20,6 @@ source-in c i l = go (ltb (ahead c i) (c .end)) refl
     go : (b : Bool) → ltb (ahead c i) (c .end) ≡ b → pick b (ahead c i) i < c .end
     go true h = ltb-true (ahead c i) (c .end) h
     go false h = l
-
--- one place further at most
-pub past-near : (a k : ℕ) → past a k ≤ k + 1
-unfolding past
-past-near a k = go (leb a k)
-  where
-    go : (b : Bool) → pick b (k + 1) k ≤ k + 1
-    go true = omega arith
-    go false = omega arith
 
 pub past-all-8 : (l : List ℕ) (k : ℕ) → length l ≡ 8
     → pastAll l k ≡ past (getD l 7 0) (past (getD l 6 0) (past (getD l 5 0) (past (getD l 4 0) (past (getD l 3 0) (past (getD l 2 0) (past (getD l 1 0) (past (getD l 0 0) k)))))))

@@ -3,56 +3,40 @@
 --     left-word                an id that is left has its word
 use mathlib.Core.Path.{_≡_, refl, ap, sym, _∙_}
 use mathlib.Core.Bool.{Bool, true, false, false≢true}
+use mathlib.Mathlib.Data.Bool.Basic.{eq-false-of-not-eq-true}
 use mathlib.Core.List.{List}
-use Prim.Native.Nat.{ℕ, zero, suc, _-_, _/_, _%_, _^_, _≤_, _<_}
-use native.Mathlib.Nat.{pow-succ', le-div-iff-mul-le, one-mul, zero-div}
+use Prim.Native.Nat.{ℕ, _-_, _/_, _%_, _^_, _≤_, _<_}
+use native.Mathlib.Nat.{zero-div}
 use native.Mathlib.Decide.{decLt}
 use native.Mathlib.Omega.{arith}
 use lib.Dec.{eqb}
 use lib.ListN.{length, getD, set, List·getD-eq-default, getD-replicate}
-use lib.Pow.{pow-pos}
 use lib.Seq.{getD-set-same, getD-set-other}
 use borrow.Author.Tests.{eqb-true, eqb-false, ne-eqb}
+use Rattle.requests.specs.declared.CounterSet.{CounterSet}
 use Rattle.requests.specs.Bits.{bit}
+use Rattle.requests.specs.Devices.{has}
 use Rattle.requests.specs.Choice.{both, every}
 use Rattle.requests.proofs.Tests.{every-at}
-use Rattle.requests.proofs.Words.{half-div}
+use Rattle.plans.proofs.Sets.{has-le, has-other, has-self}
 use Rattle.lent_planner.specs.Surveys.{allLeft, isLeft, takenId}
 
--- a bit of a word is not more than the word
+-- ---- a word is a set, of which `Sets` has the laws
+
+abbrev asSet : ℕ → CounterSet
+asSet w = record { 0 = w }
+
 pub bit-le : (k w : ℕ) → bit k w ≡ true → 2 ^ k ≤ w
-unfolding bit
-bit-le k w h =
-    let odd : w / 2 ^ k % 2 ≡ 1 = eqb-true _ _ h in
-    let pos : 1 ≤ w / 2 ^ k = omega arith in
-    rw one-mul at (le-div-iff-mul-le (pow-pos k) .0 pos)
-
-half-less : (k s : ℕ) → 2 ^ suc k ≤ s → (s - 2 ^ suc k) / 2 ≡ s / 2 - 2 ^ k
-half-less k s b = omega (arith, pow-succ' 2 k)
-
-div-other : (k j s : ℕ) → (k ≡ j → ⊥) → s / 2 ^ k % 2 ≡ 1 → 2 ^ k ≤ s → (s - 2 ^ k) / 2 ^ j % 2 ≡ s / 2 ^ j % 2
-div-other zero zero s d h b = absurd (d refl)
-div-other zero (suc j) s d h b =
-    let e : (s - 1) / 2 ≡ s / 2 = omega arith in
-    rw (half-div j (s - 1), half-div j s, e)
-div-other (suc k) zero s d h b = omega (arith, pow-succ' 2 k)
-div-other (suc k) (suc j) s d h b =
-    rw (half-div j (s - 2 ^ suc k), half-div j s, half-less k s b)
-    (div-other k j (s / 2) (λ e. d (ap suc e)) (rw (← half-div k s) h) (omega (arith, pow-succ' 2 k)))
-
-div-self : (k s : ℕ) → s / 2 ^ k % 2 ≡ 1 → 2 ^ k ≤ s → (s - 2 ^ k) / 2 ^ k % 2 ≡ 0
-div-self zero s h b = omega arith
-div-self (suc k) s h b =
-    rw (half-div k (s - 2 ^ suc k), half-less k s b)
-    (div-self k (s / 2) (rw (← half-div k s) h) (omega (arith, pow-succ' 2 k)))
+unfolding has
+bit-le k w h = has-le (asSet w) k h
 
 bit-other : (k j w : ℕ) → bit k w ≡ true → (k ≡ j → ⊥) → bit j (w - 2 ^ k) ≡ bit j w
-unfolding bit
-bit-other k j w h d = ap (λ (x : ℕ). eqb x 1) (div-other k j w d (eqb-true _ _ h) (bit-le k w h))
+unfolding has
+bit-other k j w h d = has-other (asSet w) k j h d
 
 bit-self : (k w : ℕ) → bit k w ≡ true → bit k (w - 2 ^ k) ≡ false
-unfolding bit
-bit-self k w h = ne-eqb ((w - 2 ^ k) / 2 ^ k % 2) 1 (λ e. omega (arith, e, div-self k w (eqb-true _ _ h) (bit-le k w h)))
+unfolding has
+bit-self k w h = eq-false-of-not-eq-true {b = bit k (w - 2 ^ k)} (λ g. has-self (asSet w) k k h g refl)
 
 bit-zero : (k : ℕ) → bit k 0 ≡ false
 unfolding bit

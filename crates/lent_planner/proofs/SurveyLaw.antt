@@ -23,8 +23,6 @@ use Rattle.lent_planner.proofs.SurveySteps.{step-broken, step-ended, st
 use Rattle.lent_planner.proofs.IdBits.{left-self, left-other, all-ids}
 use Rattle.lent_planner.proofs.PassedRules.{keptAfter, after-vacant, after-waiting, after-none, waits-next, waits-nothing, waits-front, not-waits-both, both-not, either-second, after-kept, after-is}
 
--- ---- the pass
-
 from-next : (left : List ℕ) (t : Survey) (e : Entry) (es : List Entry) (x : Survey × List ℕ) → surveyStep left t e ≡ x → surveyFrom left t (e ∷ es) ≡ surveyFrom (x .1) (x .0) es
 unfolding surveyFrom
 from-next left t e es x h = ap (λ (y : Survey × List ℕ). surveyFrom (y .1) (y .0) es) h
