@@ -2,8 +2,8 @@
 use crate::texts::put_byte;
 use crate::texts::put_bytes;
 use crate::texts::put_decimal;
+use checks::refusals::number_of;
 use requests::Answer;
-use requests::refusals::number_of;
 ghost use Prim.Native.Nat.{_+_, _≤_};
 ghost use lib.ListN.{length};
 ghost use Rattle.answers.specs.Replies.{answerText};

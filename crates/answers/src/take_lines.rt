@@ -3,7 +3,7 @@ use crate::texts::put_byte;
 use crate::texts::put_bytes;
 use crate::texts::put_decimal;
 use plans::Place;
-use requests::devices::CAPACITY;
+use requests::CAPACITY;
 use sessions::Assigned;
 ghost use mathlib.Core.List.{flatMap};
 ghost use Prim.Native.Nat.{_+_, _*_, _≤_};

@@ -1,4 +1,6 @@
 // The four calls over numbers, for the Rust program of bench/ to link: lists of calls with all their answers, and runs of turns to time.
+use checks::askings::unasked;
+use checks::refusals::number_of;
 use planner::add::add;
 use planner::drop::drop_request;
 use planner::open::new_session;
@@ -8,8 +10,6 @@ use requests::Answer;
 use requests::CounterSet;
 use requests::Opening;
 use requests::Request;
-use requests::askings::unasked;
-use requests::refusals::number_of;
 use sessions::Session;
 ghost use mathlib.Core.Path.{_≡_};
 ghost use Prim.Native.Nat.{_≤_};

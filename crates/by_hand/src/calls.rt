@@ -1,11 +1,11 @@
 // Calls with their answers printed.
 use crate::print;
+use checks::askings::unasked;
 use planner::add::add;
 use planner::turn::turn;
 use requests::CounterSet;
 use requests::Opening;
 use requests::Request;
-use requests::askings::unasked;
 use sessions::Session;
 
 // The letter of device G.

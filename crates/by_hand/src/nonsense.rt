@@ -5,6 +5,7 @@ use crate::calls::event;
 use crate::calls::opening;
 use crate::calls::turned;
 use crate::print;
+use checks::askings::unasked;
 use planner::drop::drop_request;
 use planner::open::open;
 use requests::CounterSet;
@@ -12,7 +13,6 @@ use requests::Device;
 use requests::Entry;
 use requests::Request;
 use requests::Setup;
-use requests::askings::unasked;
 use sessions::Session;
 
 const ALL: u64 = 0xFFFF_FFFF_FFFF_FFFF;

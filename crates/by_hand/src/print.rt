@@ -1,10 +1,10 @@
 // Prints requests, sessions and answers, a line each.
+use checks::refusals::number_of;
 use plans::Place;
 use requests::Answer;
 use requests::Device;
 use requests::Entry;
 use requests::Request;
-use requests::refusals::number_of;
 use sessions::Session;
 use sessions::TurnAnswered;
 

@@ -2,10 +2,10 @@
 use crate::output::decimal;
 use crate::output::field;
 use crate::output::text;
+use checks::refusals::number_of;
 use plans::Place;
 use requests::Answer;
-use requests::devices::CAPACITY;
-use requests::refusals::number_of;
+use requests::CAPACITY;
 use sessions::Assigned;
 use sessions::Session;
 

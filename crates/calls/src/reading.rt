@@ -3,6 +3,8 @@ use crate::answers::answer;
 use crate::output::decimal;
 use crate::output::hex;
 use crate::output::text;
+use checks::devices::counter_count;
+use checks::devices::setup_of;
 use layouts::CounterState;
 use layouts::FilterRead;
 use layouts::FilterValues;
@@ -12,8 +14,6 @@ use registers::reader::read;
 use requests::Answer;
 use requests::Opened;
 use requests::Opening;
-use requests::devices::counter_count;
-use requests::devices::setup_of;
 
 // A counter that counts an event: the event, or its filter register with the words.
 fn counted(code: u8, mask: u8, filter: FilterRead) {

@@ -1,7 +1,7 @@
 // What is written into registers, and what is read from them: the types of the register tables, the writer and the reader.
 use requests::Answer;
+use requests::CAPACITY;
 use requests::CounterSet;
-use requests::devices::CAPACITY;
 
 // Where a device's registers are: counter k's control is at control + step * k, its count at counter + step * k.
 pub struct Layout {

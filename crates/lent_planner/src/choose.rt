@@ -1,16 +1,16 @@
 // What a turn takes of the lent records.
 use crate::Choice;
 use crate::places::NOWHERE;
+use checks::devices::counter_count;
 use planner::queue::vacant;
 use planner::select::EMPTY_PLAN;
 use planner::select::plan_with;
 use planner::select::usable_count;
 use plans::reach::left_at_first;
 use plans::rows::ROW_NUMBERS;
+use requests::CAPACITY;
 use requests::Entry;
 use requests::Setup;
-use requests::devices::CAPACITY;
-use requests::devices::counter_count;
 ghost use mathlib.Core.Path.{_≡_};
 ghost use mathlib.Core.List.{[]};
 ghost use lib.ListN.{length};

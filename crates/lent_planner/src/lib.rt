@@ -2,9 +2,9 @@
 use lent_sessions::LentAnswered;
 use lent_sessions::LentTurned;
 use plans::rows::ROW_NUMBERS;
+use requests::CAPACITY;
 use requests::Entry;
 use requests::Setup;
-use requests::devices::CAPACITY;
 
 pub mod add;
 mod choose;

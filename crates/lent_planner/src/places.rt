@@ -1,8 +1,8 @@
 // The records changed in place, in one pass.
 use crate::Change;
 use planner::queue::vacant;
+use requests::CAPACITY;
 use requests::Entry;
-use requests::devices::CAPACITY;
 ghost use mathlib.Core.Path.{_≡_};
 ghost use Prim.Native.Nat.{_+_, _<_, _≤_, _^_};
 ghost use lib.ListN.{length};

@@ -1,5 +1,7 @@
 // The rules of the lent records, tested in one pass.
 use crate::Survey;
+use checks::check::request_refusal;
+use checks::set::has;
 use planner::add::plans_alone;
 use planner::ids::outside_ids;
 use requests::Answer;
@@ -7,8 +9,6 @@ use requests::CounterSet;
 use requests::Entry;
 use requests::Request;
 use requests::Setup;
-use requests::check::request_refusal;
-use requests::set::has;
 ghost use mathlib.Core.Path.{_≡_};
 ghost use mathlib.Core.Bool.{true, false};
 ghost use Prim.Native.Nat.{_+_, _<_, _^_};

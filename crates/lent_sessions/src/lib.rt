@@ -1,7 +1,7 @@
 // A session whose queue the host lends as a slice of records, and the answers of its calls.
 use requests::Answer;
+use requests::CAPACITY;
 use requests::Setup;
-use requests::devices::CAPACITY;
 use sessions::Assigned;
 
 // "1 to 256" records

@@ -1,13 +1,13 @@
 // The events of a device, counted by the number that refuses them, and all of these numbers in one sum.
+use checks::askings::unasked;
+use checks::check::request_refusal;
+use checks::devices::all_counters;
+use checks::refusals::number_of;
 use requests::Answer;
 use requests::CounterSet;
 use requests::Device;
 use requests::Request;
 use requests::Setup;
-use requests::askings::unasked;
-use requests::check::request_refusal;
-use requests::devices::all_counters;
-use requests::refusals::number_of;
 use std::num::wrapping_add_u64;
 
 // How many events are accepted, and how many are refused with 8, 9 and 10. In the sum each number moves those before it by a factor.

@@ -2,6 +2,7 @@
 use crate::ids::outside_ids;
 use crate::queue::bounded;
 use crate::queue::vacant;
+use checks::check::request_refusal;
 use plans::extend::counter_alone;
 use plans::rows::ROW_NUMBERS;
 use plans::rows::put_request;
@@ -11,7 +12,6 @@ use requests::Entry;
 use requests::Refusal;
 use requests::Request;
 use requests::Setup;
-use requests::check::request_refusal;
 use sessions::Answered;
 use sessions::QUEUE_LIMIT;
 use sessions::Session;

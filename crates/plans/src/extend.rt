@@ -15,11 +15,11 @@ use crate::counters::without;
 use crate::packed::place_at;
 use crate::rows::ROW_NUMBERS;
 use crate::rows::request_at;
+use checks::devices::all_counters;
+use checks::set::has;
 use requests::CounterSet;
 use requests::Request;
 use requests::Setup;
-use requests::devices::all_counters;
-use requests::set::has;
 
 // The set without counter k, which it may have.
 fn except(set: CounterSet, k: u64) -> CounterSet

@@ -6,8 +6,8 @@ ghost use Rattle.plans.specs.Filters.{wordAt, askedPacket, rspOf, filter
 use crate::rows::OFFCORE;
 use crate::rows::ROW_NUMBERS;
 use crate::rows::request_at;
+use checks::bits::latency_word;
 use requests::Request;
-use requests::bits::latency_word;
 
 // The word that the offcore or latency request in row `at` asks of an RSP register.
 fn word_at(rows: &[u64; ROW_NUMBERS], rsp: u64, at: usize) -> u64

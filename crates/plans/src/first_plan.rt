@@ -10,9 +10,9 @@ use crate::packed::places_of;
 use crate::rows::ROW_NUMBERS;
 use crate::rows::put_request;
 use crate::search::plan_rows;
+use requests::CAPACITY;
 use requests::Request;
 use requests::Setup;
-use requests::devices::CAPACITY;
 
 // The rows become the first `count` requests.
 fn put_requests(rows: &mut [u64; ROW_NUMBERS], requests: [Request; CAPACITY], count: usize)

@@ -17,8 +17,8 @@ use crate::left::with_rsp1;
 use crate::left::without_counter;
 use crate::remaining::place_counter;
 use crate::rows::ROW_NUMBERS;
+use checks::bits::latency_word;
 use requests::CounterSet;
-use requests::bits::latency_word;
 
 // The plan from row `at` on, where a latency request stands: each first counter that is allowed and free is tried in order, and the second
 // is placed behind it like that of a request which takes one counter.

@@ -1,6 +1,6 @@
 // What a plan gives a request, and what is left while requests are placed one after another.
+use requests::CAPACITY;
 use requests::CounterSet;
-use requests::devices::CAPACITY;
 
 mod counters;
 pub mod extend;

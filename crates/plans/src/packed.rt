@@ -9,8 +9,8 @@ use crate::Given;
 use crate::Place;
 use crate::rows::ROW_NUMBERS;
 use crate::rows::request_at;
+use requests::CAPACITY;
 use requests::Request;
-use requests::devices::CAPACITY;
 
 // The place of a request at counter k with register or second counter j.
 fn place_of(request: Request, k: u64, j: u64) -> Place

@@ -2,9 +2,9 @@
 ghost use mathlib.Core.Path.{_≡_};
 ghost use Prim.Native.Nat.{_<_, _≤_, _^_};
 ghost use Rattle.plans.specs.Reach.{setsWith, taking, takingOne, leftBy};
+use checks::set::has;
 use requests::CounterSet;
 use requests::Request;
-use requests::set::has;
 
 // The sets that have counter k.
 fn sets_with(k: u64) -> u64

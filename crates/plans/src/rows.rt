@@ -3,9 +3,9 @@ ghost use mathlib.Core.Path.{_≡_};
 ghost use Prim.Native.Nat.{_<_};
 ghost use lib.ListN.{length};
 ghost use Rattle.plans.specs.Rows.{requestAt, setRow, setRequest};
+use requests::CAPACITY;
 use requests::CounterSet;
 use requests::Request;
-use requests::devices::CAPACITY;
 
 // The numbers of all rows: four for each request.
 pub const ROW_NUMBERS: usize = 4 * CAPACITY;

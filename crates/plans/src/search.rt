@@ -7,10 +7,10 @@ ghost use Rattle.plans.specs.Packed.{packed};
 use crate::left::Left;
 use crate::remaining::place_from;
 use crate::rows::ROW_NUMBERS;
+use checks::devices::all_counters;
+use checks::devices::counter_count;
 use requests::CounterSet;
 use requests::Setup;
-use requests::devices::all_counters;
-use requests::devices::counter_count;
 
 // The first plan of the requests in the first `count` rows, packed; 0 where there is none.
 pub fn plan_rows(setup: Setup, rows: &[u64; ROW_NUMBERS], count: usize) -> u64

@@ -4,12 +4,12 @@ use crate::values::changed;
 use crate::values::given;
 use crate::values::looked_at;
 use crate::values::on_device;
+use checks::devices::opening_of;
+use checks::refusals::number_of;
 use layouts::Reading;
 use registers::reader::read;
 use requests::Answer;
 use requests::Setup;
-use requests::devices::opening_of;
-use requests::refusals::number_of;
 ghost use Prim.Native.Nat.{_<_, _≤_};
 
 // What comes of a change. A value that is looked at: accepted, refused by the reader's own number, refused by another.

@@ -1,4 +1,5 @@
 // Prints what a reading tells, a line for each counter.
+use checks::devices::counter_count;
 use layouts::CounterState;
 use layouts::FilterRead;
 use layouts::Reading;
@@ -6,7 +7,6 @@ use requests::Core;
 use requests::Device;
 use requests::Overflow;
 use requests::Setup;
-use requests::devices::counter_count;
 
 // Standard output.
 const OUT: i32 = 1;

@@ -1,11 +1,11 @@
 // The values of the registers that the reader is given, in one array: the control values of counters 0 to 5, and then the others.
+use checks::askings::asked;
+use checks::devices::counter_count;
+use checks::set::has;
 use layouts::FilterValues;
 use layouts::RegisterValues;
 use requests::Device;
 use requests::Setup;
-use requests::askings::asked;
-use requests::devices::counter_count;
-use requests::set::has;
 ghost use Prim.Native.Nat.{_<_};
 
 const ALL: u64 = 0xFFFF_FFFF_FFFF_FFFF;

@@ -1,8 +1,8 @@
 // The two values of the global control register: others' bits stay set, and the fixed enables stand as the session was opened with them.
+use checks::devices::all_counters;
+use checks::devices::all_fixed;
 use requests::CounterSet;
 use requests::Setup;
-use requests::devices::all_counters;
-use requests::devices::all_fixed;
 ghost use mathlib.Core.Path.{_≡_};
 ghost use Rattle.layouts.specs.Writes.{fixedEnables, firstGlobal, lastGlobal};
 

@@ -1,10 +1,10 @@
 // The register tables as data: addresses and field places, each with its name in the manual.
 // G: SDM volume 3 (IA32_*) and documents 001, 002 (MSR_OFFCORE_RSP*). S and C: document 004, sections 2.5 and 2.3, and the kernel driver.
 // The U-Box, which S and C share, is in ubox.rt.
+use checks::askings::asked;
 use layouts::Layout;
 use requests::Device;
 use requests::Setup;
-use requests::askings::asked;
 ghost use mathlib.Core.Path.{_≡_};
 ghost use Rattle.layouts.specs.Layout.{cboxGlobal, layoutOf, enabledOn, enabled, eventWord, rspWord, packetWord, codeOf, maskOf};
 

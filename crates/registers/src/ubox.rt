@@ -1,8 +1,8 @@
 // The U-Box's global control register, U_MSR_PMON_GLOBAL_CTL: the list of a session that asks something begins and ends with it.
+use checks::askings::CORE_COUNT;
+use checks::askings::asked;
 use requests::Core;
 use requests::Setup;
-use requests::askings::CORE_COUNT;
-use requests::askings::asked;
 ghost use mathlib.Core.Path.{_≡_};
 ghost use lib.Dec.{eqb};
 ghost use Prim.Native.Nat.{_^_};

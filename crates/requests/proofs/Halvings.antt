@@ -10,7 +10,7 @@ use lib.ListN.{length, getD}
 use borrow.Author.Tests.{eq-eqb, ne-eqb, lt-ltb, le-ltb}
 use Rattle.requests.specs.Halving.{rowWith, whole, middle, turned, halved, halvings, placesRead, mostRounds, reads, halvingSearch}
 use Rattle.requests.specs.Rounds.{codeAt, Rising}
-use Rattle.requests.specs.declared.halving.Span.{Span}
+use Rattle.requests.specs.declared.Span.{Span}
 
 -- ---- a round, by the row read
 

@@ -10,7 +10,7 @@ use Rattle.requests.specs.Lookup.{rowsOf}
 use Rattle.requests.specs.Halving.{whole, middle, turned, halved, halvings, placesRead, mostRounds, reads, halvingSearch}
 use Rattle.requests.specs.Rounds.{Rounds}
 use Rattle.requests.specs.declared.Device.the-variants.{C}
-use Rattle.requests.specs.declared.halving.Span.{Span}
+use Rattle.requests.specs.declared.Span.{Span}
 use Rattle.requests.proofs.Halvings.{halvings-more, places-more, halvings-done, places-done, halved-length, searched-row}
 use Rattle.requests.proofs.HalvedLookups.{cbox-rising, cbox-short, halved-listing}
 

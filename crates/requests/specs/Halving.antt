@@ -6,8 +6,8 @@ use lib.Dec.{eqb, ltb}
 use lib.ListN.{length, getD}
 use Rattle.requests.specs.Lookup.{rowAllows}
 use Rattle.requests.specs.declared.Listing.{Listing}
-use Rattle.requests.specs.declared.halving.Span.{Span}
-use Rattle.requests.specs.declared.halving.Found.{Found}
+use Rattle.requests.specs.declared.Span.{Span}
+use Rattle.requests.specs.declared.Found.{Found}
 
 -- the plain search: the first row of the list with the code, or 0
 unfoldable pub rowWith : List ℕ → ℕ → ℕ

@@ -1,15 +1,7 @@
 // What a request is, what a session is opened with, and how a call is answered.
-pub mod askings;
-pub mod bits;
-pub mod catalogue;
-mod cbox_events;
-pub mod check;
-pub mod devices;
-mod halving;
-mod mask_rules;
-pub mod refusals;
-mod rows;
-pub mod set;
+
+// The number of counters that arrays have room for.
+pub const CAPACITY: usize = 8;
 
 // A set of counters: counter k is 2^k.
 pub struct CounterSet(pub u64);
@@ -84,6 +76,19 @@ pub enum Request {
 pub struct Listing {
     pub code: bool,
     pub pair: bool,
+}
+
+// Where a search by halving stands: the rows from low to below high are left. The row with the code, or 0 until it is found.
+pub struct Span {
+    pub low: usize,
+    pub high: usize,
+    pub row: u16,
+}
+
+// What a search by halving answers: the row with the code, 0 where there is none, and the number of rounds.
+pub struct Found {
+    pub row: u16,
+    pub rounds: usize,
 }
 
 // An entry of the queue.

@@ -36,7 +36,7 @@ use Rattle.plans.proofs.counters.available.Reads as available-reads
 use Rattle.plans.proofs.counters.next_in.Reads as next-in-reads
 use Rattle.plans.proofs.counters.without.Reads as without-reads
 use Rattle.plans.proofs.filters.holds_word.Reads as holds-word-reads
-use Rattle.requests.proofs.bits.latency_word.Reads as latency-word-reads
+use Rattle.checks.proofs.bits.latency_word.Reads as latency-word-reads
 use Rattle.plans.proofs.left.with_rsp0.Reads as with-rsp0-reads
 use Rattle.plans.proofs.left.with_rsp1.Reads as with-rsp1-reads
 use Rattle.plans.proofs.left.without_counter.Reads as without-counter-reads

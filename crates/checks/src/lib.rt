@@ -1,0 +1,12 @@
+// The devices, the event catalogues and the checks of a request.
+pub mod askings;
+pub mod bits;
+pub mod catalogue;
+mod cbox_events;
+pub mod check;
+pub mod devices;
+mod halving;
+mod mask_rules;
+pub mod refusals;
+mod rows;
+pub mod set;
