@@ -1,4 +1,5 @@
 pub mod SignedNumbers
 pub mod CallAnswers
+pub mod RoomFilled
 pub mod Reported
 pub mod Retried

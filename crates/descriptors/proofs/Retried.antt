@@ -1,13 +1,13 @@
 -- Which failures are retried, by the cases of errno. Assumes nothing.
 use mathlib.Core.Bool.{Bool, true, false, false≢true}
 use mathlib.Core.Path.{_≡_, refl, sym, ap, _∙_}
-use mathlib.Core.Logic.{_⊎_, inl, inr}
+use mathlib.Core.Logic.{_⊎_, inl, inr, ⊎-elim}
 use Prim.Native.Nat.{ℕ}
 use native.Mathlib.Omega.{arith}
 use lib.Dec.{eqb}
 use lib.IntN.{ℤ, pos, negsuc}
 use borrow.Author.Tests.{eqb-true}
-use Rattle.descriptors.specs.Failures.{failureOf, interrupted, wouldBlock, closedPipe}
+use Rattle.descriptors.specs.Failures.{failureOf, interrupted, wouldBlock, closedPipe, isInterrupted}
 use Rattle.descriptors.specs.Reads.{readAfter, readStep, readAgain}
 use Rattle.descriptors.specs.Writes.{nextAfter, writeStep, goesOn, isComplete}
 use Rattle.descriptors.specs.Retries.{Retries}
@@ -46,6 +46,11 @@ not-end WouldBlock e = let z : _≡_ {A = ℕ} 0 1 = cc in absurd (omega arith)
 not-end Closed e = let z : _≡_ {A = ℕ} 0 1 = cc in absurd (omega arith)
 not-end Other e = let z : _≡_ {A = ℕ} 0 1 = cc in absurd (omega arith)
 
+-- a signal's is one of them, and blocking is not a signal's
+signalled : (error : ℤ) → isInterrupted (failureOf error) ≡ true → error ≡ pos 4
+unfolding failureOf interrupted wouldBlock
+signalled error h = ⊎-elim (λ e. e) (λ e. absurd (false≢true (ap (λ (z : ℤ). isInterrupted (failureOf z)) (sym e) ∙ h))) (again isInterrupted refl refl error h)
+
 pub retries : Retries
 unfolding writeStep readStep failureOf interrupted wouldBlock
 retries =
@@ -58,4 +63,6 @@ retries =
       read-blocked = λ k. refl;
       read-again = λ k error h. again (λ (f : Failure). readAgain (readAfter f)) refl refl error h;
       read-failed = λ k error e. not-end (failureOf error) e;
+      open-interrupted = refl;
+      open-again = signalled;
     }

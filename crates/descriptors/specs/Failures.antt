@@ -1,5 +1,5 @@
 -- Why a call of the C library failed, by errno.
-use mathlib.Core.Bool.{true, false}
+use mathlib.Core.Bool.{Bool, true, false}
 use Prim.Native.Nat.{ℕ}
 use lib.Dec.{eqb}
 use lib.IntN.{ℤ, pos, negsuc}
@@ -24,3 +24,10 @@ failureOf (pos n) =
       | true ↦ Interrupted
       | false ↦ elim (eqb n wouldBlock) [ true ↦ WouldBlock | false ↦ elim (eqb n closedPipe) [ true ↦ Closed | false ↦ Other ] ]
     ]
+
+-- whether a signal interrupted it
+abbrev pub isInterrupted : Failure → Bool
+isInterrupted Interrupted = true
+isInterrupted WouldBlock = false
+isInterrupted Closed = false
+isInterrupted Other = false

@@ -1,5 +1,6 @@
 pub mod Failures
 pub mod Reads
+pub mod Files
 pub mod Writes
 pub mod Reports
 pub mod Retries

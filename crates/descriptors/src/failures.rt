@@ -1,7 +1,7 @@
 // Why a call failed.
 use crate::Failure;
 ghost use mathlib.Core.Path.{_≡_};
-ghost use Rattle.descriptors.specs.Failures.{failureOf};
+ghost use Rattle.descriptors.specs.Failures.{failureOf, isInterrupted};
 
 // Why a call failed that left this errno. On Linux EWOULDBLOCK is EAGAIN.
 pub fn failure_of(error: i32) -> Failure
@@ -17,4 +17,16 @@ pub fn failure_of(error: i32) -> Failure
         return Failure::Closed;
     }
     Failure::Other
+}
+
+// Whether a signal interrupted a call that failed so.
+pub fn is_interrupted(failure: Failure) -> bool
+    ensures { λ r. ⌜ r ≡ isInterrupted failure ⌝ }
+{
+    match failure {
+        Failure::Interrupted => true,
+        Failure::WouldBlock => false,
+        Failure::Closed => false,
+        Failure::Other => false,
+    }
 }

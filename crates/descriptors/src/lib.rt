@@ -3,6 +3,7 @@
 // No contract can say what is read and written there. What is made of the answers of `read` and `write` stands in functions of
 // its own, each with a contract that says it exactly.
 mod failures;
+pub mod file;
 mod pause;
 pub mod read;
 pub mod write;
@@ -21,6 +22,14 @@ pub enum Reading {
     End,
     Again,
     Wait,
+    Failed,
+}
+
+// What reading a file whole comes to: the number of its bytes, or that it has more than there is room for, or a failure. The last
+// two were told on standard error.
+pub enum FileRead {
+    Bytes(usize),
+    TooLong,
     Failed,
 }
 

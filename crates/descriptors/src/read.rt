@@ -57,31 +57,38 @@ pub fn bytes_read(reading: Reading) -> usize
     }
 }
 
-// Waits where a read would block, and tells one that failed.
-fn attend(reading: Reading) {
+// Waits where a read would block, and tells one that failed, of an input with this name.
+fn attend(reading: Reading, name: &[u8]) {
     match reading {
         Reading::Bytes(_) => {}
         Reading::End => {}
         Reading::Again => {}
         Reading::Wait => pause(),
-        Reading::Failed => os::fail(b"read"),
+        Reading::Failed => os::fail(name),
     }
 }
 
-// Reads at least one byte, or comes to the end of the input or to a failure.
+// Reads at least one byte, or comes to the end of the input or to a failure, which is told with the input's name.
 // A proved loop has to end, so it counts down from a number that no run uses up.
-pub fn read_some(input: i32, block: &mut [u8]) -> Reading
+pub fn read_named(input: i32, name: &[u8], block: &mut [u8]) -> Reading
     ensures { λ r. ⌜ ReadWithin (now (block .exit)) r ⌝ }
 {
     let mut turns = u64::MAX;
     while turns > 0 {
         let got = libc::read(input, block);
         let reading = read_step(got, os::errno());
-        attend(reading);
+        attend(reading, name);
         if !is_again(reading) {
             return reading;
         }
         turns -= 1;
     }
     Reading::Failed
+}
+
+// The same on an input that has no name.
+pub fn read_some(input: i32, block: &mut [u8]) -> Reading
+    ensures { λ r. ⌜ ReadWithin (now (block .exit)) r ⌝ }
+{
+    read_named(input, b"read", block)
 }

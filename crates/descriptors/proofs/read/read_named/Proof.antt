@@ -8,14 +8,14 @@ use borrow.Author.Needs.{needs}
 use borrow.Author.Tests.{not-true}
 use Rattle.descriptors.specs.Reads.{readAgain}
 use Rattle.descriptors.proofs.CallAnswers.{moved-read, read-within}
-use Rattle.descriptors.proofs.read.read_some.Statement.{statement}
-use Rattle.descriptors.proofs.read.read_some.Tie as tie
+use Rattle.descriptors.proofs.read.read_named.Statement.{statement}
+use Rattle.descriptors.proofs.read.read_named.Tie as tie
 
 abbrev Inv-loop : tie.InvT-loop
-Inv-loop input block₀ turns₀ block turns = length block ≡ length block₀
+Inv-loop input name block₀ turns₀ block turns = length block ≡ length block₀
 
 abbrev μ-loop : tie.MeasureT-loop
-μ-loop input block₀ turns₀ block turns = turns
+μ-loop input name block₀ turns₀ block turns = turns
 
 loop-holds : tie.Need-loop-holds Inv-loop μ-loop
 loop-holds c = refl
@@ -61,8 +61,8 @@ same-length-2 c = search needs
 returns-2 : tie.Need-returns-2 Inv-loop μ-loop
 returns-2 c = tt
 
-pub read-some-spec : {M : Type 1} → statement M
-read-some-spec =
+pub read-named-spec : {M : Type 1} → statement M
+read-named-spec =
     tie.close
     (tie.spec
     Inv-loop
