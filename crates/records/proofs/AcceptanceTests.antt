@@ -4,11 +4,12 @@ use Rattle.requests.specs.Choice.{both, firstHolding}
 use Rattle.requests.specs.Devices.{letterOf, devices, named, deviceOf}
 use Rattle.records.specs.Examples.{tabbed, Examples}
 use Rattle.records.specs.Fields.{fields, sameBytes}
+use Rattle.records.specs.Letters.{lettered}
 use Rattle.records.specs.Numbers.{digitOf, numberFrom, decimalOf, hexOf, coreNumberOf, coreOf}
 use Rattle.records.specs.Parse.{longest, tooLong, parseText, isClosed, textLength, parseLine}
 use Rattle.records.specs.Text.{bytes, tab, newline}
-use Rattle.records.specs.Verbs.{lineFrom, lettered, openFormats, openAs, openWith, openOn, openLine, eventLine, packetLine, offcoreLine, latencyLine, dropLine, turnLine, hasVerb, verbs, recordOf}
+use Rattle.records.specs.Verbs.{lineFrom, openFormats, openAs, openWith, openOn, openLine, eventLine, packetLine, offcoreLine, latencyLine, dropLine, turnLine, hasVerb, verbs, recordOf}
 
 pub examples-hold : Examples
-unfolding both firstHolding letterOf devices named deviceOf tabbed fields sameBytes digitOf numberFrom decimalOf hexOf coreNumberOf coreOf longest tooLong parseText isClosed textLength parseLine bytes tab newline lineFrom lettered openFormats openAs openWith openOn openLine eventLine packetLine offcoreLine latencyLine dropLine turnLine hasVerb verbs recordOf
+unfolding both firstHolding letterOf devices named deviceOf tabbed fields sameBytes lettered digitOf numberFrom decimalOf hexOf coreNumberOf coreOf longest tooLong parseText isClosed textLength parseLine bytes tab newline lineFrom openFormats openAs openWith openOn openLine eventLine packetLine offcoreLine latencyLine dropLine turnLine hasVerb verbs recordOf
 examples-hold = refl

@@ -11,7 +11,7 @@ use borrow.Author.Tests.{eq-eqb, le-ltb, ltb-false, eqb-true}
 use Rattle.records.specs.Text.{newline}
 use Rattle.records.specs.Fields.{fields}
 use Rattle.records.specs.Verbs.{recordOf}
-use Rattle.records.specs.Parse.{longest, tooLong, parseText, isClosed, textLength, parseLine}
+use Rattle.records.specs.Parse.{longest, tooLong, parseText, isClosed, textLength, textOf, parseLine}
 use Rattle.records.specs.declared.Record.{Record}
 use Rattle.records.specs.declared.Parsed.{Parsed}
 use Rattle.records.specs.declared.Parsed.the-variants.{Line, Fault}
@@ -30,16 +30,26 @@ closed-length : (line : List ℕ) → isClosed line ≡ true → textLength line
 unfolding textLength
 closed-length line c = rw c
 
--- a text of at most 80 bytes and a newline are read as the text
-pub closed-reads : (t : List ℕ) → length t ≤ 80 → parseLine (t ++ newline ∷ []) ≡ recordOf t true
-unfolding parseLine parseText longest
-closed-reads t h =
-    let size : textLength (t ++ newline ∷ []) ≡ length t = omega (arith, closed-length (t ++ newline ∷ []) (ends-closed t), length-last t newline) in
-    rw (ends-closed t, size, take-at t (newline ∷ []) (length t) refl, take-all 80 t h, le-ltb 80 (length t) h)
+-- what is read of a text of at most 80 bytes and a newline
+pub record Closed (t : List ℕ) : Type 0 where
+  pub text : textOf (t ++ newline ∷ []) ≡ t
+  pub closed : isClosed (t ++ newline ∷ []) ≡ true
+  pub short : ltb longest (textLength (t ++ newline ∷ [])) ≡ false
 
--- the text that is read
-abbrev pub textOf : List ℕ → List ℕ
-textOf line = take longest (take (textLength line) line)
+pub closed-text : (t : List ℕ) → length t ≤ 80 → Closed t
+unfolding longest
+closed-text t h =
+    let size : textLength (t ++ newline ∷ []) ≡ length t = omega (arith, closed-length (t ++ newline ∷ []) (ends-closed t), length-last t newline) in
+    record {
+      text = rw (size, take-at t (newline ∷ []) (length t) refl) (take-all 80 t h);
+      closed = ends-closed t;
+      short = rw size (le-ltb 80 (length t) h);
+    }
+
+-- it is read as the text
+pub closed-reads : (t : List ℕ) → length t ≤ 80 → parseLine (t ++ newline ∷ []) ≡ recordOf t true
+unfolding parseLine parseText
+closed-reads t h = let c = closed-text t h in rw (c .text, c .closed, c .short)
 
 -- a line that is too long is no record
 too-long-none : (p : Parsed) (n : ℕ) (r : Record) → tooLong p n ≡ Line r → ⊥

@@ -5,13 +5,13 @@ use Prim.Native.Nat.{ℕ}
 use Rattle.requests.specs.Refusals.{numberOf, answerFor, answerNumber}
 use Rattle.records.specs.Text.{lineOf}
 use Rattle.records.specs.Records.{recordText}
-use Rattle.records.specs.Parse.{isClosed, parseLine, parsedRefusal}
+use Rattle.records.specs.Parse.{isClosed, textOf, parseLine, parsedRefusal}
 use Rattle.records.specs.Grammar.{IsText, Grammar}
 use Rattle.records.specs.declared.Record.{Record}
 use Rattle.records.specs.declared.Parsed.{Parsed}
 use Rattle.records.specs.declared.Parsed.the-variants.{Line, Fault}
 use Rattle.records.proofs.Tabs.{line-of-fields}
-use Rattle.records.proofs.Closings.{closed-reads, textOf, record-only, closed-only}
+use Rattle.records.proofs.Closings.{closed-reads, record-only, closed-only}
 use Rattle.records.proofs.Reading.{fields-read}
 use Rattle.records.proofs.ReadBack.{Told, record-tells}
 use Rattle.records.proofs.Texts.{TextOf, record-written}

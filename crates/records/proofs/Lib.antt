@@ -8,7 +8,7 @@ pub mod Cores
 pub mod Tabs
 pub mod Closings
 pub mod Formats
-pub mod Letters
+pub mod LetterFields
 pub mod Texts
 pub mod Reading
 pub mod ReadBack

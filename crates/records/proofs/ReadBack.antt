@@ -16,14 +16,15 @@ use Rattle.requests.specs.Devices.{letterOf, boxOf}
 use Rattle.records.specs.Text.{bytes}
 use Rattle.records.specs.Records.{boxFields, overflowFields, openFields, addFields, recordFields, Fits}
 use Rattle.records.specs.Fields.{fields, fieldAt}
-use Rattle.records.specs.Verbs.{setOf, lineFrom, lettered, openFormats, openAs, openWith, openOn, openLine, eventLine, packetLine, offcoreLine, latencyLine, dropLine, turnLine, hasVerb, verbs, recordOf}
+use Rattle.records.specs.Verbs.{setOf, lineFrom, openFormats, openAs, openWith, openOn, openLine, eventLine, packetLine, offcoreLine, latencyLine, dropLine, turnLine, hasVerb, verbs, recordOf}
+use Rattle.records.specs.Letters.{lettered}
 use Rattle.records.specs.declared.Record.{Record}
 use Rattle.records.specs.declared.Record.the-variants.{Add, Drop, Turn}
 use Rattle.records.specs.declared.Parsed.{Parsed}
 use Rattle.records.specs.declared.Parsed.the-variants.{Line, Fault}
 use Rattle.records.proofs.Outcomes.{fault-not-line}
 use Rattle.records.proofs.WordLoops.{same-bytes}
-use Rattle.records.proofs.Letters.{lettered-only, device-only}
+use Rattle.records.proofs.LetterFields.{lettered-only, device-only}
 use Rattle.records.proofs.Formats.{Format, decimal, hex, core, Values, AllFit, texts, readFrom, Rest, read-only}
 
 -- what a record tells of the text that gives it

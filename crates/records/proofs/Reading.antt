@@ -21,7 +21,7 @@ use Rattle.records.specs.declared.Parsed.the-variants.{Line}
 use Rattle.records.proofs.Decimals.{decimal-reads}
 use Rattle.records.proofs.Hexes.{hex-reads}
 use Rattle.records.proofs.Cores.{core-reads, core-back}
-use Rattle.records.proofs.Letters.{byLetter, letter-reads}
+use Rattle.records.proofs.LetterFields.{byLetter, letter-reads}
 use Rattle.records.proofs.VerbRows.{read-by}
 
 -- a setup of these numbers

@@ -46,7 +46,7 @@ core-plain NoCore h = record { field = refl; short = omega arith }
 core-plain (At c) h = decimal-plain c h
 
 -- a device's letter
-letter-plain : (d : Device) → Plain 1 (letterOf d ∷ [])
+pub letter-plain : (d : Device) → Plain 1 (letterOf d ∷ [])
 unfolding oneField both lacks tab newline
 letter-plain d =
     let printed : 32 < letterOf d = numbers d .letter-printed .0 in

@@ -1,6 +1,6 @@
 -- Document 01, 'Lines': lines in the grammar and beside it, and what each is.
 use mathlib.Core.Path.{_≡_}
-use mathlib.Core.List.{List, [], _∷_, _++_, map}
+use mathlib.Core.List.{List, [], _∷_, _++_, map, flatMap}
 use Prim.Native.Nat.{ℕ}
 use Prim.Native.String.{String}
 use lib.Dec.{eqb}
@@ -20,6 +20,10 @@ use Rattle.records.specs.declared.Parsed.the-variants.{Line, Fault}
 -- a text as it is typed: a blank stands for a tab
 unfoldable pub tabbed : String → List ℕ
 tabbed text = map (λ (b : ℕ). pick (eqb b 32) tab b) (bytes text)
+
+-- lines as they are typed, each closed by a newline
+unfoldable pub typed : List String → List ℕ
+typed lines = flatMap (λ (line : String). tabbed line ++ newline ∷ []) lines
 
 -- a line, and what it is
 pub record Example : Type 0 where

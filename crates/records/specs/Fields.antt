@@ -17,7 +17,7 @@ unfoldable pub fields : List ℕ → List (List ℕ)
 fields [] = [] ∷ []
 fields (b ∷ bs) = pick (eqb b tab) ([] ∷ fields bs) (onto b (fields bs))
 
--- field k, counted from 0 at the verb
+-- field k, counted from 0
 abbrev pub fieldAt : List ℕ → ℕ → List ℕ
 fieldAt text k = getD (fields text) k []
 

@@ -3,6 +3,7 @@ pub mod Text
 pub mod Records
 pub mod Fields
 pub mod Numbers
+pub mod Letters
 pub mod Verbs
 pub mod Parse
 -- Statements: what is claimed of it.

@@ -35,9 +35,13 @@ isClosed line = eqb (getD line (length line - 1) 0) newline
 unfoldable pub textLength : List ℕ → ℕ
 textLength line = pick (isClosed line) (length line - 1) (length line)
 
+-- the text that is read of it
+abbrev pub textOf : List ℕ → List ℕ
+textOf line = take longest (take (textLength line) line)
+
 -- what a line is
 unfoldable pub parseLine : List ℕ → Parsed
-parseLine line = parseText (take longest (take (textLength line) line)) (isClosed line) (ltb longest (textLength line))
+parseLine line = parseText (textOf line) (isClosed line) (ltb longest (textLength line))
 
 -- by which row of the refusal table a line is refused for what it is: by none where it is a record; by "1: the line is not in the grammar"
 -- whichever field is at fault

@@ -12,9 +12,9 @@ use Rattle.requests.specs.declared.Device.the-variants.{G, S, C}
 use Rattle.requests.specs.declared.CounterSet.{CounterSet}
 use Rattle.requests.specs.declared.Request.the-variants.{Event, Packet, Offcore, Latency}
 use Rattle.requests.specs.Choice.{both, pick, Row, firstHolding}
-use Rattle.requests.specs.Devices.{deviceOf}
 use Rattle.records.specs.Text.{bytes}
 use Rattle.records.specs.Fields.{fields, fieldAt, sameBytes}
+use Rattle.records.specs.Letters.{lettered}
 use Rattle.records.specs.Numbers.{decimalOf, hexOf, coreOf, decimalFormat, coreFormat, numberOf}
 use Rattle.records.specs.declared.LineNumbers.{LineNumbers}
 use Rattle.records.specs.declared.LineNumbers.the-variants as numbers
@@ -30,9 +30,13 @@ abbrev pub withNumber : Number → ℕ → (ℕ → Parsed) → Parsed
 withNumber (Value n) k next = next n
 withNumber Bad k next = Fault k
 
+-- whether a text has n fields in all, and is closed by a newline
+abbrev pub isWhole : List ℕ → Bool → ℕ → Bool
+isWhole text closed n = both closed (eqb (length (fields text)) n)
+
 -- a record of n fields in all, closed by a newline
 abbrev pub ended : List ℕ → Bool → ℕ → Record → Parsed
-ended text closed n r = pick (both closed (eqb (length (fields text)) n)) (Line r) (Fault n)
+ended text closed n r = pick (isWhole text closed n) (Line r) (Fault n)
 
 -- a set that is given as a number
 abbrev pub setOf : ℕ → CounterSet
@@ -52,12 +56,6 @@ lineFrom (w ∷ ws) t closed first i values made =
 -- the record that is made of fields of these formats from field `first` on, 0 for numbers that they are too few for
 abbrev pub numberLine : ℕ → List ℕ → List ℕ → Bool → Made → Parsed
 numberLine first formats t closed made = lineFrom formats t closed first 0 (0 ∷ 0 ∷ 0 ∷ 0 ∷ 0 ∷ []) made
-
--- the device whose letter is the field, as its box 0
-unfoldable pub lettered : List ℕ → Option Device
-lettered [] = none
-lettered (letter ∷ []) = deviceOf letter 0
-lettered (letter ∷ b ∷ more) = none
 
 -- what follows a device, or the field at fault
 abbrev pub withDevice : Option Device → ℕ → (Device → Parsed) → Parsed

@@ -36,8 +36,8 @@ pub fn parts_of(text: &[u8]) -> Parts
     }
 }
 
-// Field k, counted from 0 at the verb: the part of the text between two tabs. Where there is none, an empty part.
-fn field(text: &[u8], parts: Parts, k: usize) -> &[u8]
+// Field k, counted from 0: the part of the text between two tabs. Where there is none, an empty part.
+pub fn field(text: &[u8], parts: Parts, k: usize) -> &[u8]
     requires { ⌜ (k < 8) × Parted (now text) parts ⌝ }
     ensures { λ r. ⌜ now r ≡ fieldAt (now (text .entry)) k ⌝ }
 {

@@ -1,12 +1,16 @@
-// Records: what a line of text asks for.
+// Records: what a line of text asks for, verb by verb.
+use requests::Device;
 use requests::Request;
 use requests::Setup;
 
-mod fields;
+pub mod fields;
+pub mod letters;
 mod numbers;
-pub mod parse;
-mod verbs;
+pub mod verbs;
 pub mod words;
+
+// The most bytes of a line, without its newline.
+pub const LONGEST: usize = 80;
 
 // What a line asks for. What it opens with is not judged yet.
 pub enum Record {
@@ -22,20 +26,26 @@ pub enum Parsed {
     Fault(usize),
 }
 
-// What a field is that has to be a number. Inside the parser: it has no number of its own in the refusal table.
+// The device whose letter a field is, as its box 0.
+pub enum Lettered {
+    Known(Device),
+    Unknown,
+}
+
+// What a field is that has to be a number. It has no number of its own in the refusal table.
 pub enum Number {
     Value(u64),
     Bad,
 }
 
-// The numbers of a line, 0 for those that it does not have; or the first field at fault. Inside the parser too.
+// The numbers of a line, 0 for those that it does not have; or the first field at fault.
 enum LineNumbers {
     Read(u64, u64, u64, u64, u64),
     Fault(usize),
 }
 
 // The formats of a decimal and of a core; that of a hex number is how many digits it has.
-const DECIMAL: usize = 0;
+pub const DECIMAL: usize = 0;
 
 const CORE: usize = 17;
 
@@ -43,7 +53,7 @@ const CORE: usize = 17;
 const MOST_FIELDS: usize = 8;
 
 // Where the fields of a text end, those past the last one at its end, and how many fields it has.
-struct Parts {
-    ends: [usize; MOST_FIELDS],
-    count: usize,
+pub struct Parts {
+    pub ends: [usize; MOST_FIELDS],
+    pub count: usize,
 }

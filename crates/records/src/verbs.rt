@@ -1,34 +1,30 @@
 // The record of each verb.
 use crate::CORE;
 use crate::DECIMAL;
+use crate::Lettered;
 use crate::LineNumbers;
 use crate::Number;
 use crate::Parsed;
 use crate::Parts;
 use crate::Record;
-use crate::fields::is_word;
 use crate::fields::number_at;
+use crate::letters::device_at;
 use crate::numbers::core_of;
-use checks::devices::devices;
-use checks::devices::letter_of;
 use requests::CounterSet;
 use requests::Device;
 use requests::Overflow;
 use requests::Request;
 use requests::Setup;
 ghost use mathlib.Core.Path.{_≡_};
-ghost use mathlib.Core.List.{[], _∷_};
 ghost use Prim.Native.Nat.{_+_, _≤_};
 ghost use lib.Dec.{eqb};
 ghost use lib.ListN.{length};
 ghost use Rattle.requests.specs.Choice.{both, pick};
-ghost use Rattle.requests.specs.Devices.{letterOf};
-ghost use Rattle.records.specs.Fields.{fieldAt, sameBytes};
 ghost use Rattle.records.specs.Parts.{Parted};
-ghost use Rattle.records.specs.Verbs.{Narrow, Numbered, openFormats, openAs, openWith, openOn, openLine, eventLine, packetLine, offcoreLine, latencyLine, dropLine, turnLine, recordOf};
+ghost use Rattle.records.specs.Verbs.{Narrow, Numbered, openFormats, openAs, openWith, openOn, openLine, eventLine, packetLine, offcoreLine, latencyLine, dropLine, turnLine};
 
 // Whether a line is closed by a newline after n fields.
-fn is_whole(count: usize, closed: bool, n: usize) -> bool
+pub fn is_whole(count: usize, closed: bool, n: usize) -> bool
     ensures { λ r. ⌜ r ≡ both closed (eqb count n) ⌝ }
 {
     if closed {
@@ -132,34 +128,19 @@ fn open_on(text: &[u8], parts: Parts, closed: bool, device: Device) -> Parsed
     }
 }
 
-// Whether field 1 is the letter of the device.
-fn is_letter(text: &[u8], parts: Parts, device: Device) -> bool
-    requires { ⌜ Parted (now text) parts ⌝ }
-    ensures { λ r. ⌜ r ≡ sameBytes (fieldAt (now (text .entry)) 1) (letterOf device ∷ []) ⌝ }
-{
-    let letter = letter_of(device) as u8;
-    is_word(text, parts, 1, &[letter])
-}
-
 // `open` letter usable fixed, box on C, freeze core
-fn open_line(text: &[u8], parts: Parts, closed: bool) -> Parsed
+pub fn open_line(text: &[u8], parts: Parts, closed: bool) -> Parsed
     requires { ⌜ Parted (now text) parts ⌝ }
     ensures { λ r. ⌜ r ≡ openLine (now (text .entry)) closed ⌝ }
 {
-    let devices = devices(0);
-    let mut i = 0;
-    while i < devices.len() {
-        let device = devices[i];
-        if is_letter(text, parts, device) {
-            return open_on(text, parts, closed, device);
-        }
-        i += 1;
+    match device_at(text, parts, 1) {
+        Lettered::Known(device) => open_on(text, parts, closed, device),
+        Lettered::Unknown => Parsed::Fault(1),
     }
-    Parsed::Fault(1)
 }
 
 // `event` id code(2) mask(2) allowed
-fn event_line(text: &[u8], parts: Parts, closed: bool) -> Parsed
+pub fn event_line(text: &[u8], parts: Parts, closed: bool) -> Parsed
     requires { ⌜ Parted (now text) parts ⌝ }
     ensures { λ r. ⌜ r ≡ eventLine (now (text .entry)) closed ⌝ }
 {
@@ -177,7 +158,7 @@ fn event_line(text: &[u8], parts: Parts, closed: bool) -> Parsed
 }
 
 // `packet` id match(16) mask(16) allowed
-fn packet_line(text: &[u8], parts: Parts, closed: bool) -> Parsed
+pub fn packet_line(text: &[u8], parts: Parts, closed: bool) -> Parsed
     requires { ⌜ Parted (now text) parts ⌝ }
     ensures { λ r. ⌜ r ≡ packetLine (now (text .entry)) closed ⌝ }
 {
@@ -195,7 +176,7 @@ fn packet_line(text: &[u8], parts: Parts, closed: bool) -> Parsed
 }
 
 // `offcore` id word(16) allowed
-fn offcore_line(text: &[u8], parts: Parts, closed: bool) -> Parsed
+pub fn offcore_line(text: &[u8], parts: Parts, closed: bool) -> Parsed
     requires { ⌜ Parted (now text) parts ⌝ }
     ensures { λ r. ⌜ r ≡ offcoreLine (now (text .entry)) closed ⌝ }
 {
@@ -212,7 +193,7 @@ fn offcore_line(text: &[u8], parts: Parts, closed: bool) -> Parsed
 }
 
 // `latency` id type(4) first second
-fn latency_line(text: &[u8], parts: Parts, closed: bool) -> Parsed
+pub fn latency_line(text: &[u8], parts: Parts, closed: bool) -> Parsed
     requires { ⌜ Parted (now text) parts ⌝ }
     ensures { λ r. ⌜ r ≡ latencyLine (now (text .entry)) closed ⌝ }
 {
@@ -230,7 +211,7 @@ fn latency_line(text: &[u8], parts: Parts, closed: bool) -> Parsed
 }
 
 // `drop` id
-fn drop_line(text: &[u8], parts: Parts, closed: bool) -> Parsed
+pub fn drop_line(text: &[u8], parts: Parts, closed: bool) -> Parsed
     requires { ⌜ Parted (now text) parts ⌝ }
     ensures { λ r. ⌜ r ≡ dropLine (now (text .entry)) closed ⌝ }
 {
@@ -241,38 +222,9 @@ fn drop_line(text: &[u8], parts: Parts, closed: bool) -> Parsed
 }
 
 // `turn`
-fn turn_line(text: &[u8], parts: Parts, closed: bool) -> Parsed
+pub fn turn_line(text: &[u8], parts: Parts, closed: bool) -> Parsed
     requires { ⌜ Parted (now text) parts ⌝ }
     ensures { λ r. ⌜ r ≡ turnLine (now (text .entry)) closed ⌝ }
 {
     ended(parts.count, closed, 1, Record::Turn)
-}
-
-// The record of a text, by its verb.
-pub fn record_of(text: &[u8], parts: Parts, closed: bool) -> Parsed
-    requires { ⌜ Parted (now text) parts ⌝ }
-    ensures { λ r. ⌜ r ≡ recordOf (now (text .entry)) closed ⌝ }
-{
-    if is_word(text, parts, 0, b"open") {
-        return open_line(text, parts, closed);
-    }
-    if is_word(text, parts, 0, b"event") {
-        return event_line(text, parts, closed);
-    }
-    if is_word(text, parts, 0, b"packet") {
-        return packet_line(text, parts, closed);
-    }
-    if is_word(text, parts, 0, b"offcore") {
-        return offcore_line(text, parts, closed);
-    }
-    if is_word(text, parts, 0, b"latency") {
-        return latency_line(text, parts, closed);
-    }
-    if is_word(text, parts, 0, b"drop") {
-        return drop_line(text, parts, closed);
-    }
-    if is_word(text, parts, 0, b"turn") {
-        return turn_line(text, parts, closed);
-    }
-    Parsed::Fault(0)
 }

@@ -1,63 +1,30 @@
--- `open_line` meets its contract: the first device whose letter is field 1, by the laws of letters.
+-- `open_line` meets its contract: the device that field 1 names, and what follows its letter.
 -- Assumes nothing.
-use mathlib.Core.Path.{_≡_, sym, _∙_}
-use Prim.Native.Nat.{_-_, _<_, _≤_}
+use mathlib.Core.Path.{sym, _∙_}
 use native.Mathlib.Omega.{arith}
-use lib.ListN.{length, drop}
 use borrow.Author.Needs.{needs}
-use Rattle.requests.proofs.Openings.{device-count}
+use denote.Ref.{now}
 use Rattle.records.specs.Fields.{fieldAt}
-use Rattle.records.specs.Verbs.{lettered, openLine}
-use Rattle.records.proofs.Letters.{letteredIn, lettered-all, letter-here, letter-next, letter-none}
+use Rattle.records.specs.Letters.{lettered}
+use Rattle.records.specs.Verbs.{openLine}
+use Rattle.records.proofs.LetterFields.{known-device, no-device}
 use Rattle.records.proofs.verbs.open_line.Statement.{statement}
 use Rattle.records.proofs.verbs.open_line.Tie as tie
 
-abbrev Inv-loop : tie.InvT-loop
-Inv-loop text parts closed ds i₀ i = letteredIn (drop i ds) (fieldAt text 1) ≡ lettered (fieldAt text 1)
-
-abbrev μ-loop : tie.MeasureT-loop
-μ-loop text parts closed ds i₀ i = 3 - i
-
-loop-holds : tie.Need-loop-holds Inv-loop μ-loop
-loop-holds c = rw (c .devices .ensures) (lettered-all _)
-
-returns : tie.Need-returns Inv-loop μ-loop
+returns : tie.Need-returns
 unfolding openLine
 returns c =
-    let loop = c .before .before .before .before .before in
-    let ds = loop .before .devices in
-    let inside : loop .loop .i < length (ds .result) = rw (ds .ensures, device-count) (c .before .before .before .before .loop-test .taken) in
-    let here = letter-here _ (ds .result) (loop .loop .i) _ inside (sym (c .before .before .is-letter .ensures) ∙ c .before .if1 .taken) in
-    rw (sym (loop .loop .inv) ∙ here) (c .open-on .ensures)
+    let device = c .before .before in
+    let t = now (device .before .before .before .before .args .text) in
+    rw (known-device (lettered (fieldAt t 1)) _ (sym (device .before .before .device-at .ensures) ∙ device .device .given .1)) (c .open-on .ensures)
 
-loop-again : tie.Need-loop-again Inv-loop μ-loop
-loop-again c =
-    let loop = c .before .before .before .before in
-    let ds = loop .before .devices in
-    let inside : loop .loop .i < length (ds .result) = rw (ds .ensures, device-count) (c .before .before .before .loop-test .taken) in
-    letter-next _ (ds .result) (loop .loop .i) _ inside (sym (c .before .is-letter .ensures) ∙ c .if1 .left) ∙ loop .loop .inv
-
-returns-2 : tie.Need-returns-2 Inv-loop μ-loop
+returns-2 : tie.Need-returns-2
 unfolding openLine
 returns-2 c =
-    let ds = c .before .before .devices in
-    let past : length (ds .result) ≤ c .before .loop .i = rw (ds .ensures, device-count) (c .loop-test .left) in
-    rw (sym (c .before .loop .inv) ∙ letter-none _ (ds .result) (c .before .loop .i) past)
+    let t = now (c .before .before .before .before .args .text) in
+    rw (no-device (lettered (fieldAt t 1)) (sym (c .before .before .device-at .ensures) ∙ c .enum-told .given .1))
 
 pub open-line-spec : {M : Type 1} → statement M
 open-line-spec =
     tie.close
-    (tie.spec
-    Inv-loop
-    μ-loop
-    (λ c κs. search needs)
-    loop-holds
-    (λ c. record { fits = omega (arith, c .loop-test .taken) })
-    (λ c. c .loop-test .taken)
-    (λ c κs. search needs)
-    (λ c κs. search needs)
-    returns
-    (λ c. omega (arith, c .before .before .before .loop-test .taken))
-    (λ c. omega (arith, c .before .before .before .loop-test .taken))
-    loop-again
-    returns-2)
+    (tie.spec (λ c κs. search needs) (λ c. search needs) (λ c κs. search needs) (λ c. search needs) returns returns-2)

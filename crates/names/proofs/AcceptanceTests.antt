@@ -1,0 +1,27 @@
+-- The examples, by computation: every definition that they reach is unfolded.
+use mathlib.Core.Path.{refl}
+use mathlib.Core.List.{flatMap}
+use Rattle.requests.specs.Choice.{both}
+use Rattle.requests.specs.Devices.{letterOf, devices, named, deviceOf}
+use Rattle.records.specs.Examples.{tabbed, typed}
+use Rattle.records.specs.Fields.{fields, sameBytes}
+use Rattle.records.specs.Letters.{lettered}
+use Rattle.records.specs.Numbers.{digitOf, numberFrom, hexOf}
+use Rattle.records.specs.Text.{bytes, tab, newline}
+use Rattle.names.specs.EventNames.{nameByte, nameBytes, longestName, isName}
+use Rattle.names.specs.Lists.{rowTexts, isEnded, allFormed, wellFormed, listsFormed}
+use Rattle.names.specs.LookUp.{topRow, rowNamed}
+use Rattle.names.specs.Rows.{numbersOn, rowOf, hasName}
+use Rattle.names.specs.Examples.{FindExamples, ListExamples, RowExamples}
+
+pub rows-read : RowExamples
+unfolding both letterOf devices named deviceOf tabbed fields lettered digitOf numberFrom hexOf bytes tab nameByte nameBytes longestName isName numbersOn rowOf
+rows-read = refl
+
+pub lists-tested : ListExamples
+unfolding flatMap both letterOf devices named deviceOf tabbed typed fields lettered digitOf numberFrom hexOf bytes tab newline nameByte nameBytes longestName isName rowTexts isEnded allFormed wellFormed numbersOn rowOf
+lists-tested = refl
+
+pub names-find : FindExamples
+unfolding flatMap both letterOf devices named deviceOf tabbed typed fields sameBytes lettered digitOf numberFrom hexOf bytes tab newline nameByte nameBytes longestName isName rowTexts isEnded allFormed wellFormed listsFormed topRow rowNamed numbersOn rowOf hasName
+names-find = refl

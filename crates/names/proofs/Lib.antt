@@ -1,0 +1,11 @@
+pub mod AcceptanceTests
+pub mod NameBytes
+pub mod NameLoops
+pub mod Newlines
+pub mod RowReading
+pub mod Searching
+pub mod Joined
+pub mod RowTexts
+pub mod GrammarHolds
+pub mod RowsFound
+pub mod Requesting
