@@ -1,0 +1,5 @@
+pub mod AcceptanceTests
+pub mod VerbsRead
+pub mod LineTexts
+pub mod NamedReading
+pub mod ParsedLines

@@ -1,0 +1,6 @@
+-- What the contracts and the statements speak of.
+pub mod NamedText
+pub mod ParseWith
+-- Statements: what is claimed of it.
+pub mod ParsedLines
+pub mod Examples
