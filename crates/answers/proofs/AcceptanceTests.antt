@@ -7,18 +7,18 @@ use Rattle.requests.specs.Devices.{capacity}
 use Rattle.requests.specs.Refusals.{numberOf}
 use Rattle.plans.specs.Places.{countedOf}
 use Rattle.sessions.specs.Sessions.{queueLimit, vacant, padded, newSession, unassigned, turnAnswer, planOf}
-use Rattle.records.specs.Examples.{tabbed}
+use Rattle.records.specs.Examples.{tabbed, typed}
 use Rattle.records.specs.Fields.{fields, sameBytes}
 use Rattle.records.specs.Numbers.{digitOf, numberFrom, decimalOf, hexOf}
 use Rattle.records.specs.Text.{bytes, tab, newline, hexDigit, hexText, decimalDigits, decimalText, lineOf}
-use Rattle.answers.specs.Examples.{typed, taken, Examples, Readings}
+use Rattle.answers.specs.Examples.{taken, Examples, Readings}
 use Rattle.answers.specs.Reader.{takeSays, setSays, noSays, fieldsSay, linesOf, linesSay, replySays}
 use Rattle.answers.specs.Replies.{answerText, registerText, takeLines, setLines, turnReply}
 
 pub examples-hold : Examples
-unfolding flatMap unasked capacity numberOf countedOf queueLimit vacant padded newSession unassigned turnAnswer planOf tabbed bytes tab newline hexDigit hexText decimalDigits decimalText lineOf typed taken answerText registerText takeLines setLines turnReply
+unfolding flatMap unasked capacity numberOf countedOf queueLimit vacant padded newSession unassigned turnAnswer planOf tabbed typed bytes tab newline hexDigit hexText decimalDigits decimalText lineOf taken answerText registerText takeLines setLines turnReply
 examples-hold = refl
 
 pub readings-hold : Readings
-unfolding flatMap both tabbed fields sameBytes digitOf numberFrom decimalOf hexOf bytes tab newline typed takeSays setSays noSays fieldsSay linesOf linesSay replySays
+unfolding flatMap both tabbed typed fields sameBytes digitOf numberFrom decimalOf hexOf bytes tab newline takeSays setSays noSays fieldsSay linesOf linesSay replySays
 readings-hold = refl

@@ -17,7 +17,8 @@ use Rattle.sessions.specs.declared.TurnAnswered.{TurnAnswered}
 use Rattle.sessions.specs.Calls.{Turn}
 use Rattle.sessions.specs.Sessions.{refusedBy, turnAnswer, turnOf, planOf}
 use Rattle.records.specs.declared.Parsed.{Parsed}
-use Rattle.records.specs.Parse.{parseLine}
+use Rattle.names.specs.Lists.{NameLists}
+use Rattle.parser.specs.ParseWith.{parseLineWith}
 use Rattle.answers.specs.Replies.{Reply, answerText, takeLines, setLines, turnReply, parsedReply, answerLine}
 use Rattle.answers.specs.Written.{replyRoom, inArray, atStart, repliedIn, repliedOut}
 use Rattle.answers.specs.Texts.{Put, Delivered}
@@ -83,13 +84,13 @@ drop-zeros n m h =
     ap (λ (k : ℕ). drop n (zeros k)) e ∙ ap (drop n) (sym (replicate-append-replicate n (m - n) 0)) ∙ drop-at (zeros n) (zeros (m - n)) n (length-replicate n 0)
 
 -- delivered in an array of zeros, a reply stands in an array of its own
-pub array-reply : (s : Session) (line : List ℕ) (p : Parsed) (r : Replied) (text : List ℕ)
-    → p ≡ parseLine line → r ≡ repliedIn s p (length (zeros replyRoom)) → text ≡ repliedOut s p (zeros replyRoom)
-    → record { text = text; length = r .written; session = r .session } ≡ inArray (answerLine s line)
+pub array-reply : (n : NameLists) (s : Session) (line : List ℕ) (p : Parsed) (r : Replied) (text : List ℕ)
+    → p ≡ parseLineWith n (s .setup .device) line → r ≡ repliedIn s p (length (zeros replyRoom)) → text ≡ repliedOut s p (zeros replyRoom)
+    → record { text = text; length = r .written; session = r .session } ≡ inArray (answerLine n s line)
 unfolding inArray answerLine repliedIn repliedOut atStart
-array-reply s line p r text e f g =
-    let x = parsedReply s (parseLine line) in
-    let l : length (x .text) ≤ replyRoom = reply-length s (parseLine line) in
+array-reply n s line p r text e f g =
+    let x = parsedReply s (parseLineWith n (s .setup .device) line) in
+    let l : length (x .text) ≤ replyRoom = reply-length s (parseLineWith n (s .setup .device) line) in
     let h = le-ltb (length (zeros replyRoom)) replyRoom (omega (arith, length-replicate {A = ℕ} replyRoom 0)) in
     let i : r ≡ record { session = x .session; written = length (x .text) } = f ∙ rw (h, repliedIn, e) in
     let j : text ≡ x .text ++ zeros (replyRoom - length (x .text)) = g ∙ rw (h, repliedOut, e, drop-zeros) in

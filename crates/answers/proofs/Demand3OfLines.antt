@@ -39,9 +39,10 @@ use Rattle.sessions.proofs.Demand3.{demand3}
 use Rattle.records.specs.Records.{Fits}
 use Rattle.records.specs.declared.Record.{Record}
 use Rattle.records.specs.declared.Record.the-variants.{Open, Add, Drop, Turn}
+use Rattle.names.specs.Lists.{NameLists}
 use Rattle.answers.specs.Reader.{Said, Answers}
 use Rattle.answers.specs.LinesAreCalls.{callOf, takesOf, setsOf}
-use Rattle.answers.specs.LineLists.{callsBy}
+use Rattle.answers.specs.LineLists.{callsBy, callsAfter}
 use Rattle.answers.specs.Demand3OfLines.{DroppedBy, TakenBy, Demand3OfLines}
 use Rattle.answers.proofs.LineLists.{LineOf, line-of, calls-append, run-append, CallFits, calls-fit}
 use Rattle.answers.proofs.LinesSay.{lines-say}
@@ -148,45 +149,46 @@ turn-only Turn room e = refl
 
 -- ---- the lines
 
-module _ (start : Session) (closed : start .opened ≡ false) (before after : List (List ℕ)) (p : ℕ) (e : Entry) where
+module _ (n : NameLists) (start : Session) (closed : start .opened ≡ false) (before after : List (List ℕ)) (p : ℕ) (e : Entry) where
   -- the plain queue between them
   from : Plain
-  from = queueAfter (callsBy before)
+  from = queueAfter (callsBy n before)
 
   -- the plain queue after more lines
-  queue-since : (since : List (List ℕ)) (cs : List Call) → callsBy since ≡ cs → queueAfter (callsBy (before ++ since)) ≡ run queueLimit from cs
+  queue-since : (since : List (List ℕ)) (cs : List Call) → callsAfter n before since ≡ cs → queueAfter (callsBy n (before ++ since)) ≡ run queueLimit from cs
   unfolding from
-  queue-since since cs is = rw (calls-append before since, is) (run-append queueLimit notOpen (callsBy before) cs)
+  queue-since since cs is = rw (calls-append n notOpen before since, is) (run-append queueLimit notOpen (callsBy n before) cs)
 
-  dropped-by : Dropped queueLimit from (callsBy after) p e → DroppedBy start before after p e
+  dropped-by : Dropped queueLimit from (callsAfter n before after) p e → DroppedBy n start before after p e
   unfolding from callOf
   dropped-by d =
-      let l : LineOf after (d .since) (calls.Drop (e .id)) = line-of after (d .since) (calls.Drop (e .id)) (d .rest) (d .split) in
+      let l : LineOf n from after (d .since) (calls.Drop (e .id)) = line-of n from after (d .since) (calls.Drop (e .id)) (d .rest) tt (d .split) in
       let is : l .asked ≡ Drop (e .id) = drop-only (l .asked) (e .id) (l .is) in
       let other : Drop (e .id) ≢ Turn = λ n. let z : _≡_ {A = ℕ} 0 1 = cc in omega arith in
       record {
         since = l .since;
         rest = l .rest;
         split = l .split ∙ rw is;
-        answered = lines-say start closed (before ++ l .since) .accepted (Drop (e .id)) (subst Fits is (l .fits-fields)) other
+        answered = lines-say n start closed (before ++ l .since) .accepted (Drop (e .id)) (subst Fits is (l .fits-fields)) other
             (rw (queue-since (l .since) (d .since) (l .made)) (d .accepted));
         early = rw (l .made) (d .early);
         first = rw (l .made) (d .first);
       }
 
-  taken-by : InOneOf (take (suc p) (turnsOf smallSession queueLimit from (sessionAfter start (callsBy before)) (callsBy after))) e → TakenBy start before after p e
+  taken-by : InOneOf (take (suc p) (turnsOf smallSession queueLimit from (sessionAfter start (callsBy n before)) (callsAfter n before after))) e → TakenBy n start before after p e
   unfolding from counters sessionAfter
   taken-by o =
       let t : CompletedTurn = o .turn in
-      let f : Found from (callsBy after) p t = turn-found (callsBy after) (calls-fit after) from (sessionAfter start (callsBy before)) (agreement start closed .stands (callsBy before)) p t (o .member) in
-      let l : LineOf after (f .since) (calls.Turn (f .room)) = line-of after (f .since) (calls.Turn (f .room)) (f .rest) (f .split) in
+      let f : Found from (callsAfter n before after) p t =
+      turn-found (callsAfter n before after) (calls-fit n from after) from (sessionAfter start (callsBy n before)) (agreement start closed .stands (callsBy n before)) p t (o .member) in
+      let l : LineOf n from after (f .since) (calls.Turn (f .room)) = line-of n from after (f .since) (calls.Turn (f .room)) (f .rest) tt (f .split) in
       let is : l .asked ≡ Turn = turn-only (l .asked) (f .room) (l .is) in
-      let there : queueAfter (callsBy (before ++ l .since)) ≡ opened (t .setup) (t .queue) = queue-since (l .since) (f .since) (l .made) ∙ f .there in
-      let told = lines-say start closed (before ++ l .since) .turn (t .setup) (t .queue) there in
+      let there : queueAfter (callsBy n (before ++ l .since)) ≡ opened (t .setup) (t .queue) = queue-since (l .since) (f .since) (l .made) ∙ f .there in
+      let told = lines-say n start closed (before ++ l .since) .turn (t .setup) (t .queue) there in
       let es : List Entry = taken (t .setup) (t .queue) in
       let plan : List Said = takesOf (assign es (told .places)) in
       let list : List Said = setsOf (writes (t .setup) (requestsOf es) (told .places)) in
-      let distinct : Distinct es = taken-distinct queueLimit (t .setup) (t .queue) (well-formed queueLimit (callsBy (before ++ l .since)) (t .setup) (t .queue) there) in
+      let distinct : Distinct es = taken-distinct queueLimit (t .setup) (t .queue) (well-formed queueLimit (callsBy n (before ++ l .since)) (t .setup) (t .queue) there) in
       let g : Placed es (told .places) e = placed es (told .places) e (told .first .legal .allowed) distinct (o .in-plan .takes) in
       record {
         since = l .since;
@@ -207,13 +209,13 @@ module _ (start : Session) (closed : start .opened ≡ false) (before after : Li
 
 pub demand3-of-lines : Demand3OfLines
 unfolding from sessionAfter
-demand3-of-lines start closed before after ahead behind e waits enough = go (demand3 start closed (callsBy before) (callsBy after) ahead behind e waits enough)
+demand3-of-lines n start closed before after ahead behind e waits enough = go (demand3 start closed (callsBy n before) (callsAfter n before after) ahead behind e waits enough)
   where
     p : ℕ
     p = length ahead
 
-    go : Dropped queueLimit (queueAfter (callsBy before)) (callsBy after) p e
-        ⊎ InOneOf (take (suc p) (turnsOf smallSession queueLimit (queueAfter (callsBy before)) (sessionAfter start (callsBy before)) (callsBy after))) e
-        → DroppedBy start before after p e ⊎ TakenBy start before after p e
-    go (inl d) = inl (dropped-by start closed before after p e d)
-    go (inr o) = inr (taken-by start closed before after p e o)
+    go : Dropped queueLimit (queueAfter (callsBy n before)) (callsAfter n before after) p e
+        ⊎ InOneOf (take (suc p) (turnsOf smallSession queueLimit (queueAfter (callsBy n before)) (sessionAfter start (callsBy n before)) (callsAfter n before after))) e
+        → DroppedBy n start before after p e ⊎ TakenBy n start before after p e
+    go (inl d) = inl (dropped-by n start closed before after p e d)
+    go (inr o) = inr (taken-by n start closed before after p e o)

@@ -7,6 +7,7 @@ pub mod TurnsSaid
 pub mod LinesAreCalls
 pub mod LineLists
 pub mod LinesAnswered
+pub mod NamedLines
 pub mod LinesSay
 pub mod OutputSays
 pub mod GivenTo

@@ -1,18 +1,25 @@
 -- Lists of lines and the calls that they make. Assumes nothing.
 --     session-by, stands-after   lines leave the session that their calls leave, which stands for the plain queue of these
 --     calls-append, run-append   two lists one after the other
---     calls-split      a call among those of lines, and its line
+--     line-of          a call among those of lines that is no add, and its line
 --     calls-fit        their calls are ones that lines make
 --     askable-after    each request that lines leave waiting is one that a line can add
-use mathlib.Core.Path.{_≡_, refl, ap, sym, _∙_}
+use mathlib.Core.Path.{_≡_, refl, ap, sym, subst, _∙_}
+use mathlib.Core.Logic.{⊎-elim}
 use mathlib.Core.Bool.{false}
-use mathlib.Core.List.{List, [], _∷_, _++_, flatMap, append-assoc}
+use mathlib.Core.List.{List, [], _∷_, _++_, append-assoc}
 use mathlib.Core.Option.{Option, none, some}
 use Prim.Native.Nat.{ℕ}
 use native.Mathlib.Omega.{arith}
 use lib.ListN.{length, length-append}
+use Rattle.requests.specs.declared.Device.{Device}
+use Rattle.requests.specs.declared.Device.the-variants.{G}
 use Rattle.requests.specs.declared.Setup.{Setup}
+use Rattle.requests.specs.declared.Request.{Request}
 use Rattle.requests.specs.declared.Refusal.{Refusal}
+use Rattle.requests.specs.declared.Refusal.the-variants.{CallOrder}
+use Rattle.requests.specs.declared.Answer.the-variants.{Refused}
+use Rattle.requests.specs.Refusals.{answerFor}
 use Rattle.requests.specs.Devices.{setupOf}
 use Rattle.plans.specs.Lists.{All, nil, cons}
 use Rattle.plans.proofs.Sets.{all-append}
@@ -22,69 +29,117 @@ use Rattle.sessions.specs.Calls.{Call, Plain, notOpen, opened, waiting}
 use Rattle.sessions.specs.Calls as calls
 use Rattle.sessions.specs.Table.{refusal}
 use Rattle.sessions.specs.Plain.{onQueue, change, step, run}
-use Rattle.sessions.specs.Sessions.{queueLimit, plainOf, sessionAfter, queueAfter}
+use Rattle.sessions.specs.Sessions.{queueLimit, plainOf, refusedBy, answered, addOf, sessionAfter, queueAfter}
+use Rattle.sessions.proofs.Agreed.{stands-for, next-is}
 use Rattle.sessions.proofs.SmallSession.{agreement}
 use Rattle.sessions.proofs.Steps.{step-accepted, step-refused}
+use Rattle.sessions.proofs.TableAnswers.{plain-closed, add-closed}
 use Rattle.sessions.proofs.Rearranged.{all-turned}
 use Rattle.sessions.proofs.Removed.{all-removed}
-use Rattle.records.specs.Parse.{parseLine}
 use Rattle.records.specs.Records.{recordText, AddFits, Fits}
 use Rattle.records.specs.declared.Record.{Record}
 use Rattle.records.specs.declared.Record.the-variants.{Open, Add, Drop, Turn}
 use Rattle.records.specs.declared.Parsed.{Parsed}
 use Rattle.records.specs.declared.Parsed.the-variants.{Line, Fault}
-use Rattle.records.proofs.GrammarHolds.{grammar}
-use Rattle.answers.specs.Replies.{parsedReply, answerLine}
+use Rattle.records.specs.Grammar.{IsText}
+use Rattle.names.specs.Lists.{NameLists}
+use Rattle.parser.specs.ParseWith.{parseLineWith}
+use Rattle.parser.proofs.ParsedLines.{Both, same, adds, on-both, parsed-lines}
+use Rattle.answers.specs.Replies.{Reply, replyOf, recordReply, parsedReply, answerLine}
 use Rattle.answers.specs.LinesAreCalls.{callOf, callsIn, Askable}
-use Rattle.answers.specs.LineLists.{callsBy, sessionBy}
+use Rattle.answers.specs.LineLists.{deviceAt, callsAt, callsFrom, callsBy, sessionBy}
 use Rattle.answers.proofs.LinesAreCalls.{lines-are-calls}
 
 -- ---- the session
 
 -- the call of a line leaves the session of its reply
-pub line-session : (s : Session) (p : Parsed) (cs : List Call) → sessionAfter s (callsIn p ++ cs) ≡ sessionAfter (parsedReply s p .session) cs
+line-session : (s : Session) (p : Parsed) (cs : List Call) → sessionAfter s (callsIn p ++ cs) ≡ sessionAfter (parsedReply s p .session) cs
 unfolding callsIn parsedReply sessionAfter
 line-session s (Line r) cs = ap (λ (x : Session). sessionAfter x cs) (sym (lines-are-calls .session s r))
 line-session s (Fault k) cs = refl
 
-pub session-by : (s : Session) (lines : List (List ℕ)) → sessionBy s lines ≡ sessionAfter s (callsBy lines)
-unfolding sessionBy callsBy sessionAfter answerLine flatMap
-session-by s [] = refl
-session-by s (line ∷ lines) = session-by (answerLine s line .session) lines ∙ sym (line-session s (parseLine line) (callsBy lines))
+-- which stands for the plain queue after it
+line-stands : (s : Session) (p : Parsed) → plainOf (parsedReply s p .session) ≡ run queueLimit (plainOf s) (callsIn p)
+unfolding callsIn parsedReply run
+line-stands s (Line r) = ap plainOf (lines-are-calls .session s r) ∙ next-is s (callOf r)
+line-stands s (Fault k) = refl
 
--- it stands for the plain queue of the calls
-pub stands-after : (start : Session) → start .opened ≡ false → (lines : List (List ℕ)) → plainOf (sessionBy start lines) ≡ queueAfter (callsBy lines)
-unfolding sessionAfter
-stands-after start closed lines = ap plainOf (session-by start lines) ∙ agreement start closed .stands (callsBy lines)
+-- before open an add is refused with 2, whatever it asks for
+add-closed-reply : (s : Session) (id : ℕ) (r : Request) → plainOf s ≡ notOpen → recordReply s (Add id r) ≡ replyOf (record { answer = Refused CallOrder; session = s })
+unfolding recordReply addOf answered refusedBy answerFor
+add-closed-reply s id r closed = rw (closed, add-closed queueLimit id r)
+
+-- so the reply to a line there does not hang on the device
+closed-same : (s : Session) {p q : Parsed} → plainOf s ≡ notOpen → Both p q → parsedReply s p ≡ parsedReply s q
+unfolding parsedReply
+closed-same s closed (same e) = ap (parsedReply s) e
+closed-same s closed (adds id r t e f) = rw (e, f, add-closed-reply s id r closed, add-closed-reply s id t closed)
+
+module _ (n : NameLists) where
+  -- the reply to a line, by the device of the plain queue
+  pub line-reply : (s : Session) (p : Plain) (line : List ℕ) → plainOf s ≡ p → answerLine n s line ≡ parsedReply s (parseLineWith n (deviceAt p) line)
+  unfolding answerLine deviceAt
+  line-reply s notOpen line e = closed-same s e (on-both n (s .setup .device) G line)
+  line-reply s (opened x q) line e = rw (stands-for s x q e .0)
+
+  from-session : (s : Session) (p : Plain) → plainOf s ≡ p → (lines : List (List ℕ)) → sessionBy n s lines ≡ sessionAfter s (callsFrom n p lines)
+  unfolding sessionBy callsFrom sessionAfter
+  from-session s p e [] = refl
+  from-session s p e (line ∷ lines) =
+      let x : Parsed = parseLineWith n (deviceAt p) line in
+      let next : answerLine n s line .session ≡ parsedReply s x .session = ap (λ (y : Reply). y .session) (line-reply s p line e) in
+      rw next
+      (from-session (parsedReply s x .session) (run queueLimit p (callsIn x)) (line-stands s x ∙ ap (λ (y : Plain). run queueLimit y (callsIn x)) e) lines)
+      ∙ sym (line-session s x (callsFrom n (run queueLimit p (callsIn x)) lines))
+
+  module _ (start : Session) (closed : start .opened ≡ false) (lines : List (List ℕ)) where
+    pub session-by : sessionBy n start lines ≡ sessionAfter start (callsBy n lines)
+    session-by = from-session start notOpen (plain-closed start closed) lines
+
+    -- it stands for the plain queue of the calls
+    pub stands-after : plainOf (sessionBy n start lines) ≡ queueAfter (callsBy n lines)
+    unfolding sessionAfter
+    stands-after = ap plainOf session-by ∙ agreement start closed .stands (callsBy n lines)
 
 -- ---- two lists one after the other
-
-pub calls-append : (a b : List (List ℕ)) → callsBy (a ++ b) ≡ callsBy a ++ callsBy b
-unfolding callsBy flatMap
-calls-append [] b = refl
-calls-append (line ∷ a) b = rw (calls-append a b, append-assoc)
 
 pub run-append : (limit : ℕ) (p : Plain) (a b : List Call) → run limit p (a ++ b) ≡ run limit (run limit p a) b
 unfolding run
 run-append limit p [] b = refl
 run-append limit p (c ∷ a) b = run-append limit (step limit p c) a b
 
+pub calls-append : (n : NameLists) (p : Plain) (a b : List (List ℕ)) → callsFrom n p (a ++ b) ≡ callsFrom n p a ++ callsFrom n (run queueLimit p (callsFrom n p a)) b
+unfolding callsFrom run
+calls-append n p [] b = refl
+calls-append n p (line ∷ a) b =
+    let cs = callsAt n p line in
+    rw (calls-append n (run queueLimit p cs) a b, run-append queueLimit p cs (callsFrom n (run queueLimit p cs) a), append-assoc)
+
 -- ---- a call among those of lines
 
+-- a call that is no add
+abbrev pub NotAdd : Call → Type 0
+NotAdd (calls.Open o) = Unit {0}
+NotAdd (calls.Add id r) = ⊥
+NotAdd (calls.Drop id) = Unit {0}
+NotAdd (calls.Turn room) = Unit {0}
+NotAdd (calls.Turns n room places) = Unit {0}
+
 -- the line that makes it is its record's text, and the lines before it make the calls before it
-pub record LineOf (lines : List (List ℕ)) (before : List Call) (c : Call) : Type 0 where
+pub record LineOf (n : NameLists) (p : Plain) (lines : List (List ℕ)) (before : List Call) (c : Call) : Type 0 where
   pub since : List (List ℕ)
   pub asked : Record
   pub rest : List (List ℕ)
   pub split : lines ≡ since ++ recordText asked ∷ rest
-  pub made : callsBy since ≡ before
+  pub made : callsFrom n p since ≡ before
   pub is : callOf asked ≡ c
   pub fits-fields : Fits asked
 
 -- with a line in front
-more-lines : (line : List ℕ) (lines : List (List ℕ)) (xs ys : List Call) (c : Call) → callsIn (parseLine line) ≡ ys → LineOf lines xs c → LineOf (line ∷ lines) (ys ++ xs) c
-unfolding callsBy flatMap
-more-lines line lines xs ys c m l =
+more-lines : (n : NameLists) (p : Plain) (line : List ℕ) (lines : List (List ℕ)) (xs ys : List Call) (c : Call) → callsAt n p line ≡ ys
+    → LineOf n (run queueLimit p ys) lines xs c → LineOf n p (line ∷ lines) (ys ++ xs) c
+unfolding callsFrom
+more-lines n p line lines xs ys c m l =
     record {
       since = line ∷ l .since;
       asked = l .asked;
@@ -95,21 +150,31 @@ more-lines line lines xs ys c m l =
       fits-fields = l .fits-fields;
     }
 
-pub line-of : (lines : List (List ℕ)) (before : List Call) (c : Call) (after : List Call) → callsBy lines ≡ before ++ c ∷ after → LineOf lines before c
-unfolding callsBy flatMap callsIn
-line-of [] before c after e = absurd (omega (arith, ap length e, length-append before (c ∷ after)))
-line-of (line ∷ lines) before c after e = go (parseLine line) refl before e (line-of lines)
+-- a record that is asked for by name makes an add
+record-text : (n : NameLists) (d : Device) (line : List ℕ) (r : Record) → NotAdd (callOf r) → parseLineWith n d line ≡ Line r → IsText line r
+unfolding callOf
+record-text n d line r other e = ⊎-elim (λ is. is) (λ b. absurd (rw (b .is) at other)) (parsed-lines .only n d line r e)
+
+pub line-of : (n : NameLists) (p : Plain) (lines : List (List ℕ)) (before : List Call) (c : Call) (after : List Call) → NotAdd c
+    → callsFrom n p lines ≡ before ++ c ∷ after → LineOf n p lines before c
+unfolding callsFrom callsIn run
+line-of n p [] before c after other e = absurd (omega (arith, ap length e, length-append before (c ∷ after)))
+line-of n p (line ∷ lines) before c after other e =
+    go (parseLineWith n (deviceAt p) line) refl before e (λ q xs ys. line-of n q lines xs c ys other)
   where
-    go : (p : Parsed) → parseLine line ≡ p → (xs : List Call) → callsIn p ++ callsBy lines ≡ xs ++ c ∷ after
-        → ((xs : List Call) (c : Call) (ys : List Call) → callsBy lines ≡ xs ++ c ∷ ys → LineOf lines xs c) → LineOf (line ∷ lines) xs c
-    go (Fault k) q xs h below = more-lines line lines xs [] c (rw q) (below xs c after h)
+    go : (x : Parsed) → parseLineWith n (deviceAt p) line ≡ x → (xs : List Call) → callsIn x ++ callsFrom n (run queueLimit p (callsIn x)) lines ≡ xs ++ c ∷ after
+        → ((q : Plain) (xs ys : List Call) → callsFrom n q lines ≡ xs ++ c ∷ ys → LineOf n q lines xs c) → LineOf n p (line ∷ lines) xs c
+    go (Fault k) q xs h below = more-lines n p line lines xs [] c (rw q) (below p xs after h)
     go (Line r) q [] h below =
-        let (fits, text) = grammar .only line r q in
-        let same : callOf r ∷ callsBy lines ≡ c ∷ after = h in
-        record { since = []; asked = r; rest = lines; split = ap (λ (x : List ℕ). x ∷ lines) text; made = refl; is = cc; fits-fields = fits }
+        let same : callOf r ∷ callsFrom n (run queueLimit p (callOf r ∷ [])) lines ≡ c ∷ after = h in
+        let is : callOf r ≡ c = cc in
+        let (fits, text) = record-text n (deviceAt p) line r (subst NotAdd (sym is) other) q in
+        record { since = []; asked = r; rest = lines; split = ap (λ (x : List ℕ). x ∷ lines) text; made = refl; is = is; fits-fields = fits }
     go (Line r) q (x ∷ xs) h below =
-        let same : callOf r ∷ callsBy lines ≡ x ∷ (xs ++ c ∷ after) = h in
-        more-lines line lines xs (x ∷ []) c (rw q (cc)) (below xs c after (cc))
+        let same : callOf r ∷ callsFrom n (run queueLimit p (callOf r ∷ [])) lines ≡ x ∷ (xs ++ c ∷ after) = h in
+        let first : callOf r ≡ x = cc in
+        let rest : callsFrom n (run queueLimit p (callOf r ∷ [])) lines ≡ xs ++ c ∷ after = cc in
+        more-lines n p line lines xs (x ∷ []) c (rw q (cc)) (below (run queueLimit p (x ∷ [])) xs after (rw first at rest))
 
 -- ---- requests that lines can add
 
@@ -129,15 +194,16 @@ call-fits (Drop id) h = tt
 call-fits Turn h = tt
 
 -- a line makes no other call
-line-fits : (line : List ℕ) (p : Parsed) → parseLine line ≡ p → All CallFits (callsIn p)
+line-fits : (n : NameLists) (d : Device) (line : List ℕ) (p : Parsed) → parseLineWith n d line ≡ p → All CallFits (callsIn p)
 unfolding callsIn
-line-fits line (Line r) e = cons (call-fits r (grammar .only line r e .0)) nil
-line-fits line (Fault k) e = nil
+line-fits n d line (Line r) e = cons (call-fits r (parsed-lines .fits n d line r e)) nil
+line-fits n d line (Fault k) e = nil
 
-pub calls-fit : (lines : List (List ℕ)) → All CallFits (callsBy lines)
-unfolding callsBy flatMap
-calls-fit [] = nil
-calls-fit (line ∷ lines) = all-append (line-fits line (parseLine line) refl) (calls-fit lines)
+pub calls-fit : (n : NameLists) (p : Plain) (lines : List (List ℕ)) → All CallFits (callsFrom n p lines)
+unfolding callsFrom
+calls-fit n p [] = nil
+calls-fit n p (line ∷ lines) =
+    all-append (line-fits n (deviceAt p) line (parseLineWith n (deviceAt p) line) refl) (calls-fit n (run queueLimit p (callsAt n p line)) lines)
 
 opened-askable : (p : Plain) (x : Option Setup) → Askable (waiting p) → Askable (waiting (elim x [ none ↦ p | some s ↦ opened s [] ]))
 unfolding waiting
@@ -167,6 +233,6 @@ unfolding run
 run-askable p nil h = h
 run-askable p (cons {a = c} f fs) h = run-askable (step queueLimit p c) fs (step-askable p c f h)
 
-pub askable-after : (lines : List (List ℕ)) → Askable (waiting (queueAfter (callsBy lines)))
+pub askable-after : (n : NameLists) (lines : List (List ℕ)) → Askable (waiting (queueAfter (callsBy n lines)))
 unfolding waiting
-askable-after lines = run-askable notOpen (calls-fit lines) nil
+askable-after n lines = run-askable notOpen (calls-fit n notOpen lines) nil

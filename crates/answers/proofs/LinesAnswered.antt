@@ -1,9 +1,9 @@
--- A line is answered as the record whose text it is, and with 1 where it is none's, by the law on the grammar.
+-- A line is answered as the record whose text it is, and with 1 where it is neither that nor a request by name, by the laws on the grammar.
 use mathlib.Core.Path.{ap}
 use Rattle.requests.specs.Refusals.{numberOf, answerFor}
 use Rattle.records.specs.Text.{bytes, decimalDigits, decimalText}
 use Rattle.records.specs.Parse.{parsedRefusal}
-use Rattle.records.proofs.GrammarHolds.{grammar}
+use Rattle.parser.proofs.ParsedLines.{parsed-lines}
 use Rattle.answers.specs.Replies.{Reply, answerText, parsedReply, answerLine}
 use Rattle.answers.specs.LinesAnswered.{LinesAnswered}
 
@@ -11,8 +11,8 @@ pub lines-answered : LinesAnswered
 unfolding answerLine parsedReply answerText numberOf answerFor parsedRefusal decimalText decimalDigits bytes
 lines-answered =
     record {
-      record-line = λ s line r h. ap (parsedReply s) (grammar .parsed line r h);
-      other = λ s line h.
-          let f = ap (parsedReply s) (grammar .other line h .1) in
+      record-line = λ n s line r h. ap (parsedReply s) (parsed-lines .record-line n (s .setup .device) line r h);
+      other = λ n s line h.
+          let f = ap (parsedReply s) (parsed-lines .other line h .1 n (s .setup .device)) in
           (ap (λ (x : Reply). x .text) f, ap (λ (x : Reply). x .session) f);
     }

@@ -3,70 +3,95 @@
 use mathlib.Core.Path.{_≡_, refl, ap, sym, subst, _∙_}
 use mathlib.Core.Logic.{_≢_}
 use mathlib.Core.List.{List, [], _∷_}
-use mathlib.Core.Bool.{false}
+use mathlib.Core.Bool.{Bool, true, false}
 use mathlib.Core.Option.{Option, none, some}
 use Prim.Native.Nat.{ℕ}
 use native.Mathlib.Omega.{arith}
+use Rattle.requests.specs.declared.CounterSet.{CounterSet}
 use Rattle.requests.specs.declared.Setup.{Setup}
 use Rattle.requests.specs.declared.Entry.{Entry}
 use Rattle.requests.specs.declared.Refusal.{Refusal}
-use Rattle.requests.specs.declared.Refusal.the-variants.{CallOrder}
+use Rattle.requests.specs.declared.Refusal.the-variants.{NotInGrammar, CallOrder, KindNotOnDevice, NotListed}
+use Rattle.requests.specs.declared.Answer.the-variants.{Refused}
+use Rattle.requests.specs.Devices.{letterOf}
 use Rattle.requests.specs.Refusals.{numberOf, answerFor, answerNumber}
 use Rattle.sessions.specs.declared.Session.{Session}
 use Rattle.sessions.specs.Turns.{taken, placesOf}
 use Rattle.sessions.specs.Calls.{Plain, notOpen, opened, waiting}
 use Rattle.sessions.specs.Calls as calls
 use Rattle.sessions.specs.Table.{refusal}
-use Rattle.sessions.specs.Sessions.{queueLimit, plainOf, answerTo, queueAfter, sessionAfter}
+use Rattle.sessions.specs.RefusalTable.{IsId, Waits}
+use Rattle.sessions.specs.Sessions.{queueLimit, queued, plainOf, answerTo, queueAfter, sessionAfter}
+use Rattle.sessions.proofs.Agreed.{stands-for}
 use Rattle.sessions.proofs.SmallSession.{agreement}
 use Rattle.sessions.proofs.TableAnswers.{turn-closed}
 use Rattle.sessions.proofs.TakenPlan.{taken-first}
 use Rattle.records.specs.Records.{recordText, Fits}
 use Rattle.records.specs.declared.Record.{Record}
 use Rattle.records.specs.declared.Record.the-variants.{Open, Add, Drop, Turn}
-use Rattle.answers.specs.Replies.{Reply, turnRoom, recordReply}
+use Rattle.names.specs.Lists.{NameLists}
+use Rattle.names.specs.Named.{requestNamed}
+use Rattle.names.proofs.Requesting.{request-fits}
+use Rattle.parser.specs.NamedText.{IsNamed}
+use Rattle.names.specs.RowGrammar.{AreLists}
+use Rattle.names.specs.RowsFound.{NoRow}
+use Rattle.names.specs.declared.Row.{Row}
+use Rattle.parser.proofs.ParsedLines.{parsed-lines}
+use Rattle.answers.specs.Replies.{Reply, turnRoom, recordReply, parsedReply, answerLine}
 use Rattle.answers.specs.Reader.{Answers, replySays}
 use Rattle.answers.specs.LinesAreCalls.{callOf, Askable}
-use Rattle.answers.specs.LineLists.{callsBy, sessionBy, replyAfter}
+use Rattle.answers.specs.LineLists.{deviceAt, callsBy, sessionBy, replyAfter}
+use Rattle.answers.specs.NamedLines.{RowOfName, RefusedWith, NamedLines}
 use Rattle.answers.specs.LinesSay.{TurnTold, LinesSay}
+use Rattle.answers.proofs.NamedLines.{names-answered}
+use Rattle.answers.proofs.ReadLines.{answer-reads}
 use Rattle.answers.proofs.SliceFits.{turn-goes}
 use Rattle.answers.proofs.TurnsSaid.{closed-says, opened-says}
 use Rattle.answers.proofs.LinesAreCalls.{lines-are-calls}
 use Rattle.answers.proofs.LinesAnswered.{lines-answered}
-use Rattle.answers.proofs.LineLists.{session-by, stands-after, askable-after}
+use Rattle.answers.proofs.LineLists.{line-reply, session-by, stands-after, askable-after}
 
-module _ (start : Session) (closed : start .opened ≡ false) (lines : List (List ℕ)) where
+-- a session that stands for an open queue
+opened-now : (s : Session) (t : Setup) (q : List Entry) → plainOf s ≡ opened t q → (s .opened ≡ true) × (s .setup ≡ t) × (queued s ≡ q)
+unfolding plainOf
+opened-now s t q e = go (s .opened) refl
+  where
+    go : (b : Bool) → s .opened ≡ b → (b ≡ true) × (s .setup ≡ t) × (queued s ≡ q)
+    go true h = (refl, stands-for s t q e .0, stands-for s t q e .1)
+    go false h = let k : notOpen ≡ opened t q = rw (h, plainOf) at e in let z : _≡_ {A = ℕ} 0 1 = cc in absurd (omega arith)
+
+module _ (n : NameLists) (start : Session) (closed : start .opened ≡ false) (lines : List (List ℕ)) where
   -- the session and the plain queue there
   here : Session
-  here = sessionBy start lines
+  here = sessionBy n start lines
 
   queue : Plain
-  queue = queueAfter (callsBy lines)
+  queue = queueAfter (callsBy n lines)
 
   stands : plainOf here ≡ queue
   unfolding here queue
-  stands = stands-after start closed lines
+  stands = stands-after n start closed lines
 
   -- a record's text is answered as the record
-  reply-is : (r : Record) → Fits r → replyAfter start lines (recordText r) ≡ recordReply here r .text
+  reply-is : (r : Record) → Fits r → replyAfter n start lines (recordText r) ≡ recordReply here r .text
   unfolding here replyAfter
-  reply-is r h = ap (λ (x : Reply). x .text) (lines-answered .record-line (sessionBy start lines) (recordText r) r (h, refl))
+  reply-is r h = ap (λ (x : Reply). x .text) (lines-answered .record-line n (sessionBy n start lines) (recordText r) r (h, refl))
 
   -- and an open, add or drop as the table says
   answer-alone : (r : Record) → Fits r → r ≢ Turn → (x : Option Refusal) → refusal queueLimit queue (callOf r) ≡ x
-      → replySays (replyAfter start lines (recordText r)) ≡ some (Answers (answerNumber (answerFor x)) ∷ [])
+      → replySays (replyAfter n start lines (recordText r)) ≡ some (Answers (answerNumber (answerFor x)) ∷ [])
   unfolding here queue sessionAfter
-  answer-alone r h n x e =
-      let answer : answerTo (sessionBy start lines) (callOf r) ≡ answerFor x =
-      rw (session-by start lines) (agreement start closed .answers (callsBy lines) (callOf r)) ∙ ap answerFor e in
-      rw (reply-is r h) (rw answer at (lines-are-calls .alone (sessionBy start lines) r n))
+  answer-alone r h other x e =
+      let answer : answerTo (sessionBy n start lines) (callOf r) ≡ answerFor x =
+      rw (session-by n start closed lines) (agreement start closed .answers (callsBy n lines) (callOf r)) ∙ ap answerFor e in
+      rw (reply-is r h) (rw answer at (lines-are-calls .alone (sessionBy n start lines) r other))
 
   -- a turn is refused before open alone
   turn-refused : (x : Refusal) → refusal queueLimit queue (calls.Turn turnRoom) ≡ some x
-      → replySays (replyAfter start lines (recordText Turn)) ≡ some (Answers (some (numberOf x)) ∷ [])
+      → replySays (replyAfter n start lines (recordText Turn)) ≡ some (Answers (some (numberOf x)) ∷ [])
   turn-refused x e = go queue refl
     where
-      go : (p : Plain) → queue ≡ p → replySays (replyAfter start lines (recordText Turn)) ≡ some (Answers (some (numberOf x)) ∷ [])
+      go : (p : Plain) → queue ≡ p → replySays (replyAfter n start lines (recordText Turn)) ≡ some (Answers (some (numberOf x)) ∷ [])
       go notOpen is =
           let row : some CallOrder ≡ some x = sym (turn-closed queueLimit turnRoom) ∙ (rw is at e) in
           let same : CallOrder ≡ x = cc in
@@ -77,33 +102,83 @@ module _ (start : Session) (closed : start .opened ≡ false) (lines : List (Lis
           absurd (omega arith)
 
   record-refused : (r : Record) → Fits r → (x : Refusal) → refusal queueLimit queue (callOf r) ≡ some x
-      → replySays (replyAfter start lines (recordText r)) ≡ some (Answers (some (numberOf x)) ∷ [])
+      → replySays (replyAfter n start lines (recordText r)) ≡ some (Answers (some (numberOf x)) ∷ [])
   unfolding answerFor answerNumber callOf
-  record-refused (Open given) h x e = answer-alone (Open given) h (λ n. let z : _≡_ {A = ℕ} 0 1 = cc in omega arith) (some x) e
-  record-refused (Add id r) h x e = answer-alone (Add id r) h (λ n. let z : _≡_ {A = ℕ} 0 1 = cc in omega arith) (some x) e
-  record-refused (Drop id) h x e = answer-alone (Drop id) h (λ n. let z : _≡_ {A = ℕ} 0 1 = cc in omega arith) (some x) e
+  record-refused (Open given) h x e = answer-alone (Open given) h (λ e. let z : _≡_ {A = ℕ} 0 1 = cc in omega arith) (some x) e
+  record-refused (Add id r) h x e = answer-alone (Add id r) h (λ e. let z : _≡_ {A = ℕ} 0 1 = cc in omega arith) (some x) e
+  record-refused (Drop id) h x e = answer-alone (Drop id) h (λ e. let z : _≡_ {A = ℕ} 0 1 = cc in omega arith) (some x) e
   record-refused Turn h x e = turn-refused x e
 
   record-accepted : (r : Record) → Fits r → r ≢ Turn → refusal queueLimit queue (callOf r) ≡ none
-      → replySays (replyAfter start lines (recordText r)) ≡ some (Answers none ∷ [])
+      → replySays (replyAfter n start lines (recordText r)) ≡ some (Answers none ∷ [])
   unfolding answerFor answerNumber
-  record-accepted r h n e = answer-alone r h n none e
+  record-accepted r h other e = answer-alone r h other none e
 
-  turn-told : (s : Setup) (q : List Entry) → queue ≡ opened s q → TurnTold s q (replyAfter start lines (recordText Turn))
+  turn-told : (s : Setup) (q : List Entry) → queue ≡ opened s q → TurnTold s q (replyAfter n start lines (recordText Turn))
   unfolding queue waiting
   turn-told s q is =
       record {
         places = placesOf s (taken s q);
         first = taken-first s q;
-        says = rw (reply-is Turn tt) (opened-says here s q (stands ∙ is) (subst (λ (p : Plain). Askable (waiting p)) is (askable-after lines)));
+        says = rw (reply-is Turn tt) (opened-says here s q (stands ∙ is) (subst (λ (p : Plain). Askable (waiting p)) is (askable-after n lines)));
       }
+
+  -- a request by name is answered as the record that it stands for
+  named-said : (line : List ℕ) (id : ℕ) (name : List ℕ) (a : CounterSet) → IsNamed line id name a → AreLists n
+      → replyAfter n start lines line ≡ replyAfter n start lines (recordText (Add id (requestNamed n name (deviceAt queue) a)))
+  unfolding here queue replyAfter parsedReply
+  named-said line id name a is l =
+      let there = stands-after n start closed lines in
+      let d = deviceAt (queueAfter (callsBy n lines)) in
+      let fits : Fits (Add id (requestNamed n name d a)) = request-fits n name d id a (is .0 .0) (is .0 .2) in
+      let r : Record = Add id (requestNamed n name d a) in
+      let by-name : answerLine n (sessionBy n start lines) line ≡ recordReply (sessionBy n start lines) r =
+      line-reply n (sessionBy n start lines) _ line there ∙ ap (parsedReply (sessionBy n start lines)) (parsed-lines .named-line n d line id name a is l) in
+      let by-record : answerLine n (sessionBy n start lines) (recordText r) ≡ recordReply (sessionBy n start lines) r =
+      lines-answered .record-line n (sessionBy n start lines) (recordText r) r (fits, refl) in
+      ap (λ (x : Reply). x .text) (by-name ∙ sym by-record)
+
+  -- and with the number alone where it is refused
+  named-refused : (line : List ℕ) (x : Refusal) → RefusedWith n here line x → replySays (replyAfter n start lines line) ≡ some (Answers (some (numberOf x)) ∷ [])
+  unfolding here replyAfter answerNumber
+  named-refused line x refused = rw (refused .0) (answer-reads (Refused x) .says)
+
+  module _ (line : List ℕ) (id : ℕ) (name : List ℕ) (a : CounterSet) (is : IsNamed line id name a) where
+    by-name : NamedLines n here line id name a
+    by-name = names-answered .named n here line id name a is
+
+    refused-list : ¬ AreLists n → replySays (replyAfter n start lines line) ≡ some (Answers (some 1) ∷ [])
+    unfolding numberOf
+    refused-list l = named-refused line NotInGrammar (by-name .ill-formed l)
+
+    module _ (s : Setup) (q : List Entry) (there : queue ≡ opened s q) (l : AreLists n) (good : IsId id) (free : ¬ Waits id q) where
+      standing : (here .opened ≡ true) × (here .setup ≡ s) × (queued here ≡ q)
+      standing = opened-now here s q (stands ∙ there)
+
+      not-waiting : ¬ Waits id (queued here)
+      not-waiting w = free (subst (Waits id) (standing .2) w)
+
+      refused-missing : NoRow name (n .site) → NoRow name (n .house) → replySays (replyAfter n start lines line) ≡ some (Answers (some 8) ∷ [])
+      unfolding numberOf
+      refused-missing site house = named-refused line NotListed (by-name .missing l (standing .0) good not-waiting site house)
+
+      refused-elsewhere : (row : Row) → RowOfName n name row → ¬ (letterOf (row .device) ≡ letterOf (s .device))
+          → replySays (replyAfter n start lines line) ≡ some (Answers (some 7) ∷ [])
+      unfolding numberOf
+      refused-elsewhere row f other =
+          named-refused line KindNotOnDevice (by-name .elsewhere l (standing .0) good not-waiting row f
+          (λ e. other (e ∙ ap (λ (x : Setup). letterOf (x .device)) (standing .1))))
 
 pub lines-say : LinesSay
 unfolding queue
-lines-say start closed lines =
+lines-say n start closed lines =
     record {
-      session = session-by start lines;
-      refused = record-refused start closed lines;
-      accepted = record-accepted start closed lines;
-      turn = turn-told start closed lines;
+      session = session-by n start closed lines;
+      refused = record-refused n start closed lines;
+      accepted = record-accepted n start closed lines;
+      turn = turn-told n start closed lines;
+      named = named-said n start closed lines;
+      ill-formed = refused-list n start closed lines;
+      missing = λ s q there line id name a is l good free. refused-missing n start closed lines line id name a is s q there l good free;
+      elsewhere = λ s q there line id name a is l good free. refused-elsewhere n start closed lines line id name a is s q there l good free;
     }

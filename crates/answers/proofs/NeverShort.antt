@@ -14,11 +14,12 @@ use Rattle.sessions.specs.Sessions.{openOf, addOf, dropOf, turnOf, turnSlice, p
 use Rattle.sessions.specs.declared.Session.{Session}
 use Rattle.sessions.specs.declared.TurnAnswered.{TurnAnswered}
 use Rattle.records.specs.Text.{bytes, tab, newline, decimalDigits, decimalText, lineOf}
-use Rattle.records.specs.Parse.{parseLine, parsedRefusal}
+use Rattle.records.specs.Parse.{parsedRefusal}
 use Rattle.records.specs.declared.Record.{Record}
 use Rattle.records.specs.declared.Record.the-variants.{Open, Add, Drop, Turn}
 use Rattle.records.specs.declared.Parsed.{Parsed}
 use Rattle.records.specs.declared.Parsed.the-variants.{Line, Fault}
+use Rattle.parser.specs.ParseWith.{parseLineWith}
 use Rattle.answers.specs.Replies.{answerText, takeLines, setLines, turnRoom, replyOf, turnReply, recordReply, parsedReply, answerLine}
 use Rattle.answers.specs.NeverShort.{NeverShort}
 use Rattle.answers.proofs.SliceFits.{open-fits, add-fits, drop-fits, turn-fits}
@@ -78,4 +79,4 @@ parsed-text s (Fault k) e = let same = ends-fourteen [] _ e in let z : _≡_ {A 
 
 pub never-short : NeverShort
 unfolding answerLine fourteen
-never-short = record { turn = turn-fits; line = λ s line. parsed-text s (parseLine line) }
+never-short = record { turn = turn-fits; line = λ n s line. parsed-text s (parseLineWith n (s .setup .device) line) }

@@ -14,7 +14,8 @@ use Rattle.sessions.specs.declared.Session.{Session}
 use Rattle.sessions.specs.declared.Assigned.{Assigned}
 use Rattle.sessions.specs.Calls.{waiting}
 use Rattle.sessions.specs.Sessions.{plainOf, turnOf, planOf}
-use Rattle.records.specs.Parse.{parseLine}
+use Rattle.names.specs.Lists.{NameLists}
+use Rattle.parser.specs.ParseWith.{parseLineWith}
 use Rattle.records.specs.declared.Parsed.{Parsed}
 use Rattle.records.specs.declared.Parsed.the-variants.{Line, Fault}
 use Rattle.records.specs.declared.Record.the-variants.{Open, Add, Drop, Turn}
@@ -64,10 +65,11 @@ one-reply s askable (Line Turn) =
 one-reply s askable (Fault k) = answer-alone _
 
 -- the reply after any lines
-reply-after : (start : Session) → start .opened ≡ false → (lines : List (List ℕ)) (line : List ℕ) → OneReply (replyAfter start lines line)
+reply-after : (n : NameLists) (start : Session) → start .opened ≡ false → (lines : List (List ℕ)) (line : List ℕ) → OneReply (replyAfter n start lines line)
 unfolding replyAfter answerLine
-reply-after start closed lines line =
-    one-reply (sessionBy start lines) (rw (stands-after start closed lines) (askable-after lines)) (parseLine line)
+reply-after n start closed lines line =
+    let s = sessionBy n start lines in
+    one-reply s (rw (stands-after n start closed lines) (askable-after n lines)) (parseLineWith n (s .setup .device) line)
 
 pub output-says : OutputSays
 output-says = record { each = reply-after; joined = says-append }

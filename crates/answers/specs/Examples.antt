@@ -1,6 +1,6 @@
 -- Document 01, 'Lines' and 'Bench tries': the lines of a reply as they are written there, by a table of them, and what a reader makes of such lines.
 use mathlib.Core.Path.{_≡_}
-use mathlib.Core.List.{List, [], _∷_, _++_, map, flatMap}
+use mathlib.Core.List.{List, [], _∷_, map}
 use mathlib.Core.Option.{Option, none, some}
 use Prim.Native.Nat.{ℕ}
 use Prim.Native.String.{String}
@@ -9,14 +9,9 @@ use Rattle.requests.specs.declared.Answer.the-variants.{Accepted, Refused}
 use Rattle.plans.specs.declared.Place.the-variants.{Counter, WithRsp, Pair}
 use Rattle.sessions.specs.declared.Assigned.{Assigned}
 use Rattle.sessions.specs.Sessions.{newSession, turnAnswer}
-use Rattle.records.specs.Text.{newline}
-use Rattle.records.specs.Examples.{tabbed}
+use Rattle.records.specs.Examples.{tabbed, typed}
 use Rattle.answers.specs.Replies.{answerText, takeLines, turnReply}
 use Rattle.answers.specs.Reader.{Said, Takes, Sets, Answers, replySays}
-
--- lines as they are typed, each closed by a newline
-unfoldable pub typed : List String → List ℕ
-typed lines = flatMap (λ (line : String). tabbed line ++ newline ∷ []) lines
 
 -- a text, and how it is typed
 pub record Example : Type 0 where

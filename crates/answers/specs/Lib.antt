@@ -4,6 +4,7 @@ pub mod Reader
 pub mod LineLists
 -- Statements: what is claimed of it.
 pub mod LinesAnswered
+pub mod NamedLines
 pub mod LinesAreCalls
 pub mod LinesSay
 pub mod OutputSays

@@ -30,7 +30,7 @@ callOf (Add id r) = Rattle.sessions.specs.Calls.Add id r
 callOf (Drop id) = Rattle.sessions.specs.Calls.Drop id
 callOf Turn = Rattle.sessions.specs.Calls.Turn turnRoom
 
--- the calls of a line: one, or none where the line is not in the grammar
+-- the calls of a line: one, or none where it is refused for what it is
 unfoldable pub callsIn : Parsed → List Call
 callsIn (Line r) = callOf r ∷ []
 callsIn (Fault k) = []

@@ -1,15 +1,17 @@
--- What the replies to lines say, read off the plain queue of the calls that the lines before make: the refusal table and demand 2 in the words
--- of one who reads the output.
+-- What the replies to lines say, with any two lists of names, read off the plain queue of the calls that the lines before make: the refusal
+-- table and demand 2 in the words of one who reads the output.
 use mathlib.Core.Path.{_≡_}
 use mathlib.Core.Logic.{_≢_}
 use mathlib.Core.List.{List, [], _∷_, _++_}
 use mathlib.Core.Bool.{false}
 use mathlib.Core.Option.{none, some}
 use Prim.Native.Nat.{ℕ}
+use Rattle.requests.specs.declared.CounterSet.{CounterSet}
 use Rattle.requests.specs.declared.Setup.{Setup}
 use Rattle.requests.specs.declared.Entry.{Entry}
 use Rattle.requests.specs.declared.Refusal.{Refusal}
 use Rattle.requests.specs.Refusals.{numberOf}
+use Rattle.requests.specs.Devices.{letterOf}
 use Rattle.plans.specs.declared.Place.{Place}
 use Rattle.plans.specs.Order.{First}
 use Rattle.layouts.specs.Writes.{writes}
@@ -17,13 +19,21 @@ use Rattle.sessions.specs.declared.Session.{Session}
 use Rattle.sessions.specs.Turns.{requestsOf, taken, assign}
 use Rattle.sessions.specs.Calls.{opened}
 use Rattle.sessions.specs.Table.{refusal}
+use Rattle.sessions.specs.RefusalTable.{IsId, Waits}
 use Rattle.sessions.specs.Sessions.{queueLimit, sessionAfter, queueAfter}
 use Rattle.records.specs.Records.{recordText, Fits}
 use Rattle.records.specs.declared.Record.{Record}
-use Rattle.records.specs.declared.Record.the-variants.{Turn}
+use Rattle.records.specs.declared.Record.the-variants.{Add, Turn}
+use Rattle.names.specs.Lists.{NameLists}
+use Rattle.names.specs.Named.{requestNamed}
+use Rattle.parser.specs.NamedText.{IsNamed}
+use Rattle.names.specs.RowGrammar.{AreLists}
+use Rattle.names.specs.RowsFound.{NoRow}
+use Rattle.names.specs.declared.Row.{Row}
 use Rattle.answers.specs.Reader.{Answers, replySays}
 use Rattle.answers.specs.LinesAreCalls.{callOf, takesOf, setsOf}
-use Rattle.answers.specs.LineLists.{callsBy, sessionBy, replyAfter}
+use Rattle.answers.specs.NamedLines.{RowOfName}
+use Rattle.answers.specs.LineLists.{deviceAt, callsBy, sessionBy, replyAfter}
 
 -- the text says the first legal plan of the requests taken, in the order taken, that plan's writes, `ok`, and nothing else
 pub record TurnTold (s : Setup) (q : List Entry) (text : List ℕ) : Type 0 where
@@ -32,17 +42,32 @@ pub record TurnTold (s : Setup) (q : List Entry) (text : List ℕ) : Type 0 wher
   pub says : replySays text ≡ some (takesOf (assign (taken s q) places) ++ setsOf (writes s (requestsOf (taken s q)) places) ++ Answers none ∷ [])
 
 -- after any lines, from a session not yet opened
-pub record SaidAfter (start : Session) (lines : List (List ℕ)) : Type 0 where
+pub record SaidAfter (n : NameLists) (start : Session) (lines : List (List ℕ)) : Type 0 where
   -- the session is the one that their calls leave
-  pub session : sessionBy start lines ≡ sessionAfter start (callsBy lines)
+  pub session : sessionBy n start lines ≡ sessionAfter start (callsBy n lines)
   -- a record that the table refuses there is answered with the number alone
-  pub refused : (r : Record) → Fits r → (x : Refusal) → refusal queueLimit (queueAfter (callsBy lines)) (callOf r) ≡ some x
-      → replySays (replyAfter start lines (recordText r)) ≡ some (Answers (some (numberOf x)) ∷ [])
+  pub refused : (r : Record) → Fits r → (x : Refusal) → refusal queueLimit (queueAfter (callsBy n lines)) (callOf r) ≡ some x
+      → replySays (replyAfter n start lines (recordText r)) ≡ some (Answers (some (numberOf x)) ∷ [])
   -- any other open, add or drop with `ok` alone
-  pub accepted : (r : Record) → Fits r → r ≢ Turn → refusal queueLimit (queueAfter (callsBy lines)) (callOf r) ≡ none
-      → replySays (replyAfter start lines (recordText r)) ≡ some (Answers none ∷ [])
+  pub accepted : (r : Record) → Fits r → r ≢ Turn → refusal queueLimit (queueAfter (callsBy n lines)) (callOf r) ≡ none
+      → replySays (replyAfter n start lines (recordText r)) ≡ some (Answers none ∷ [])
   -- every turn once it is open with the plan and its writes
-  pub turn : (s : Setup) (q : List Entry) → queueAfter (callsBy lines) ≡ opened s q → TurnTold s q (replyAfter start lines (recordText Turn))
+  pub turn : (s : Setup) (q : List Entry) → queueAfter (callsBy n lines) ≡ opened s q → TurnTold s q (replyAfter n start lines (recordText Turn))
+  -- and a request by name as the record that it stands for, on the device of the queue there
+  pub named : (line : List ℕ) (id : ℕ) (name : List ℕ) (a : CounterSet) → IsNamed line id name a → AreLists n
+      → replyAfter n start lines line ≡ replyAfter n start lines (recordText (Add id (requestNamed n name (deviceAt (queueAfter (callsBy n lines))) a)))
+  -- it is answered 1 alone beside an ill-formed list ..
+  pub ill-formed : (line : List ℕ) (id : ℕ) (name : List ℕ) (a : CounterSet) → IsNamed line id name a → ¬ AreLists n
+      → replySays (replyAfter n start lines line) ≡ some (Answers (some 1) ∷ [])
+  -- .. 8 where neither list has the name, and 7 where its row is for another device
+  pub missing : (s : Setup) (q : List Entry) → queueAfter (callsBy n lines) ≡ opened s q
+      → (line : List ℕ) (id : ℕ) (name : List ℕ) (a : CounterSet) → IsNamed line id name a → AreLists n → IsId id → ¬ Waits id q
+      → NoRow name (n .site) → NoRow name (n .house)
+      → replySays (replyAfter n start lines line) ≡ some (Answers (some 8) ∷ [])
+  pub elsewhere : (s : Setup) (q : List Entry) → queueAfter (callsBy n lines) ≡ opened s q
+      → (line : List ℕ) (id : ℕ) (name : List ℕ) (a : CounterSet) → IsNamed line id name a → AreLists n → IsId id → ¬ Waits id q
+      → (row : Row) → RowOfName n name row → ¬ (letterOf (row .device) ≡ letterOf (s .device))
+      → replySays (replyAfter n start lines line) ≡ some (Answers (some 7) ∷ [])
 
 abbrev pub LinesSay : Type 0
-LinesSay = (start : Session) → start .opened ≡ false → (lines : List (List ℕ)) → SaidAfter start lines
+LinesSay = (n : NameLists) (start : Session) → start .opened ≡ false → (lines : List (List ℕ)) → SaidAfter n start lines

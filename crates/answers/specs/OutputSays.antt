@@ -7,6 +7,7 @@ use mathlib.Core.Option.{Option, some}
 use Prim.Native.Nat.{ℕ}
 use Rattle.plans.specs.Lists.{All}
 use Rattle.sessions.specs.declared.Session.{Session}
+use Rattle.names.specs.Lists.{NameLists}
 use Rattle.answers.specs.Reader.{Said, Takes, Sets, Answers, replySays}
 use Rattle.answers.specs.LineLists.{replyAfter}
 
@@ -25,6 +26,6 @@ pub record OneReply (text : List ℕ) : Type 0 where
 
 pub record OutputSays : Type 0 where
   -- the reply to any line, whatever its bytes, after any lines
-  pub each : (start : Session) → start .opened ≡ false → (lines : List (List ℕ)) (line : List ℕ) → OneReply (replyAfter start lines line)
+  pub each : (n : NameLists) (start : Session) → start .opened ≡ false → (lines : List (List ℕ)) (line : List ℕ) → OneReply (replyAfter n start lines line)
   -- texts one after another say what each says
   pub joined : (a b : List ℕ) (xs ys : List Said) → replySays a ≡ some xs → replySays b ≡ some ys → replySays (a ++ b) ≡ some (xs ++ ys)

@@ -14,11 +14,13 @@ use Rattle.sessions.specs.declared.Assigned.{Assigned}
 use Rattle.sessions.specs.declared.TurnAnswered.{TurnAnswered}
 use Rattle.sessions.specs.Sessions.{openOf, addOf, dropOf, turnOf, turnSlice, planOf}
 use Rattle.records.specs.Text.{bytes, hexText, decimalText, lineOf}
-use Rattle.records.specs.Parse.{parseLine, parsedRefusal}
+use Rattle.records.specs.Parse.{parsedRefusal}
 use Rattle.records.specs.declared.Record.{Record}
 use Rattle.records.specs.declared.Record.the-variants.{Open, Add, Drop, Turn}
 use Rattle.records.specs.declared.Parsed.{Parsed}
 use Rattle.records.specs.declared.Parsed.the-variants.{Line, Fault}
+use Rattle.names.specs.Lists.{NameLists}
+use Rattle.parser.specs.ParseWith.{parseLineWith}
 
 -- the text of an answer, and the session afterwards
 pub record Reply : Type 0 where
@@ -70,6 +72,6 @@ unfoldable pub parsedReply : Session → Parsed → Reply
 parsedReply s (Line r) = recordReply s r
 parsedReply s (Fault k) = record { text = answerText (answerFor (parsedRefusal (Fault k))); session = s }
 
--- the reply to a line
-unfoldable pub answerLine : Session → List ℕ → Reply
-answerLine s line = parsedReply s (parseLine line)
+-- the reply to a line; a name stands for a request on the session's device
+unfoldable pub answerLine : NameLists → Session → List ℕ → Reply
+answerLine n s line = parsedReply s (parseLineWith n (s .setup .device) line)

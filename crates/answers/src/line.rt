@@ -2,17 +2,20 @@
 use crate::LineReply;
 use crate::replies::REPLY_ROOM;
 use crate::replies::reply;
-use records::parse::parse_line;
+use parser::parse::parse_line;
 use sessions::Session;
 ghost use mathlib.Core.Path.{_≡_};
+ghost use Rattle.names.specs.Lists.{NameLists};
 ghost use Rattle.answers.specs.Replies.{answerLine};
 ghost use Rattle.answers.specs.Written.{inArray};
 
-// The reply to a line.
-pub fn answer_line(session: Session, line: &[u8]) -> LineReply
-    ensures { λ r. ⌜ r ≡ inArray (answerLine session (now (line .entry))) ⌝ }
+// The reply to a line, its name looked up in the site's list and the house's.
+pub fn answer_line<'a>(session: Session, line: &[u8], site: &'a [u8], house: &'a [u8]) -> LineReply
+    ensures { λ r. ⌜ r ≡ inArray (answerLine (record { site = now (site .entry); house = now (house .entry) }) session (now (line .entry))) ⌝ }
 {
-    let parsed = parse_line(line);
+    let setup = session.setup;
+    let device = setup.device;
+    let parsed = parse_line(line, device, site, house);
     let mut text: [u8; REPLY_ROOM] = [0; REPLY_ROOM];
     let replied = reply(session, parsed, &mut text);
     let next = replied.session;

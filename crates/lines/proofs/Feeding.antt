@@ -13,6 +13,7 @@ use Rattle.records.specs.declared.Parsed.{Parsed}
 use Rattle.answers.specs.Replies.{parsedReply}
 use Rattle.answers.specs.Written.{replyRoom, atStart, repliedIn, repliedOut}
 use Rattle.answers.specs.declared.Replied.{Replied}
+use Rattle.names.specs.Lists.{NameLists}
 use Rattle.lines.specs.Blocks.{takenOf, takenFrom, fedOf, fedOut}
 use Rattle.lines.specs.Pieces.{NewlineFree, FirstNewline, keptLine}
 use Rattle.lines.specs.Stream.{lineStart, lineReply, feedState, feedText}
@@ -27,25 +28,25 @@ use Rattle.lines.proofs.Runs.{ended-reply}
 use Rattle.lines.proofs.Taking.{taken-run, taken-newline, taken-full}
 
 -- what has been taken and written when so many bytes of a block are taken, and how many will be
-pub record FedSoFar (f : Feed) (block out : List ℕ) (next : Feed) (taken written : ℕ) (output : List ℕ) : Type 0 where
+pub record FedSoFar (n : NameLists) (f : Feed) (block out : List ℕ) (next : Feed) (taken written : ℕ) (output : List ℕ) : Type 0 where
   pub within : taken ≤ length block
   pub room : written ≤ length out
-  pub state : next ≡ feedState f (take taken block)
-  pub count : written ≡ length (feedText f (take taken block))
-  pub text : output ≡ atStart (feedText f (take taken block)) out
-  pub rest : taken + takenOf (length out - written) next (drop taken block) ≡ takenOf (length out) f block
+  pub state : next ≡ feedState n f (take taken block)
+  pub count : written ≡ length (feedText n f (take taken block))
+  pub text : output ≡ atStart (feedText n f (take taken block)) out
+  pub rest : taken + takenOf n (length out - written) next (drop taken block) ≡ takenOf n (length out) f block
 
 -- at the beginning of the block
-pub fed-none : (f : Feed) (block out : List ℕ) → FedSoFar f block out f 0 0 out
+pub fed-none : (n : NameLists) (f : Feed) (block out : List ℕ) → FedSoFar n f block out f 0 0 out
 unfolding feedState feedText atStart
-fed-none f block out =
+fed-none n f block out =
     record {
       within = omega arith;
       room = omega arith;
       state = refl;
       count = refl;
       text = refl;
-      rest = zero-add (takenOf (length out - 0) f block) ∙ rw sub-zero;
+      rest = zero-add (takenOf n (length out - 0) f block) ∙ rw sub-zero;
     }
 
 -- a text behind another
@@ -71,93 +72,93 @@ unfolding repliedOut
 replied-out s p out h = rw (le-ltb (length out) replyRoom h, repliedOut)
 
 -- what is added to it
-module _ {f : Feed} {block out : List ℕ} {next : Feed} {taken written : ℕ} {output : List ℕ} (so : FedSoFar f block out next taken written output) where
+module _ {n : NameLists} {f : Feed} {block out : List ℕ} {next : Feed} {taken written : ℕ} {output : List ℕ} (so : FedSoFar n f block out next taken written output) where
   -- the output keeps its length
   pub fed-length : length output ≡ length out
   unfolding atStart
   fed-length = ap length (so .text) ∙ simp (length-append, length-drop) (omega (arith, so .count, so .room))
 
   -- where no more is taken
-  fed-all : taken ≡ takenOf (length out) f block
-      → (_≡_ {A = Fed} (record { feed = next; taken = taken; written = written }) (fedOf f block (length out))) × (output ≡ fedOut f block out)
+  fed-all : taken ≡ takenOf n (length out) f block
+      → (_≡_ {A = Fed} (record { feed = next; taken = taken; written = written }) (fedOf n f block (length out))) × (output ≡ fedOut n f block out)
   unfolding fedOf fedOut takenFrom
   fed-all e = (rw (so .state, so .count, ← e), rw (← e) (so .text))
 
   -- a line that ends within the block
-  module _ {n : ℕ} (first : FirstNewline (take (length block - taken) (drop taken block)) n) (inside : taken + n < length block) (h : replyRoom ≤ length out - written) where
+  module _ {m : ℕ} (first : FirstNewline (take (length block - taken) (drop taken block)) m) (inside : taken + m < length block) (h : replyRoom ≤ length out - written) where
     -- the state at the newline, and the reply to the line
     abbrev pub ended : Feed
-    ended = feedState next (piece block taken n)
+    ended = feedState n next (piece block taken m)
 
-    line-state : lineStart (lineReply ended .session) ≡ feedState f (take (taken + n + 1) block)
+    line-state : lineStart (lineReply n ended .session) ≡ feedState n f (take (taken + m + 1) block)
     line-state =
         sym
         (rw (
           with-newline block taken first inside,
-          state-append f (take taken block) (piece block taken n ++ newline ∷ []),
+          state-append n f (take taken block) (piece block taken m ++ newline ∷ []),
           ← so .state,
-          state-append next (piece block taken n) (newline ∷ []),
+          state-append n next (piece block taken m) (newline ∷ []),
         )
-        (newline-state ended))
+        (newline-state n ended))
 
-    line-text : feedText f (take (taken + n + 1) block) ≡ feedText f (take taken block) ++ lineReply ended .text
+    line-text : feedText n f (take (taken + m + 1) block) ≡ feedText n f (take taken block) ++ lineReply n ended .text
     line-text =
         rw (
           with-newline block taken first inside,
-          text-append f (take taken block) (piece block taken n ++ newline ∷ []),
+          text-append n f (take taken block) (piece block taken m ++ newline ∷ []),
           ← so .state,
-          text-append next (piece block taken n) (newline ∷ []),
-          run-silent next (piece block taken n) (piece-free block taken first),
-          newline-text ended,
+          text-append n next (piece block taken m) (newline ∷ []),
+          run-silent n next (piece block taken m) (piece-free block taken first),
+          newline-text n ended,
         )
 
-    line-taken : takenOf (length out - written) next (drop taken block)
-        ≡ n + suc (takenOf (length out - (written + length (lineReply ended .text))) (lineStart (lineReply ended .session)) (drop (taken + n + 1) block))
+    line-taken : takenOf n (length out - written) next (drop taken block)
+        ≡ m + suc (takenOf n (length out - (written + length (lineReply n ended .text))) (lineStart (lineReply n ended .session)) (drop (taken + m + 1) block))
     line-taken =
-        ap (takenOf (length out - written) next) (from-newline block taken first inside)
-        ∙ taken-run (length out - written) next (piece block taken n) (newline ∷ drop (taken + n + 1) block) h (piece-free block taken first)
+        ap (takenOf n (length out - written) next) (from-newline block taken first inside)
+        ∙ taken-run n (length out - written) next (piece block taken m) (newline ∷ drop (taken + m + 1) block) h (piece-free block taken first)
         ∙ rw (
           piece-length block taken first,
-          taken-newline (length out - written) ended (drop (taken + n + 1) block) h,
-          sub-add-eq (length out) written (length (lineReply ended .text)),
+          taken-newline n (length out - written) ended (drop (taken + m + 1) block) h,
+          sub-add-eq (length out) written (length (lineReply n ended .text)),
         )
 
-    pub fed-line : length (lineReply ended .text) ≤ replyRoom
-        → FedSoFar f block out (lineStart (lineReply ended .session)) (taken + n + 1) (written + length (lineReply ended .text))
-        (take written output ++ atStart (lineReply ended .text) (drop written output))
+    pub fed-line : length (lineReply n ended .text) ≤ replyRoom
+        → FedSoFar n f block out (lineStart (lineReply n ended .session)) (taken + m + 1) (written + length (lineReply n ended .text))
+        (take written output ++ atStart (lineReply n ended .text) (drop written output))
     fed-line short =
         record {
           within = omega arith;
           room = omega arith;
           state = line-state;
           count = rw (line-text, length-append, ← so .count);
-          text = rw (line-text, so .text, so .count) (start-more (feedText f (take taken block)) (lineReply ended .text) out);
+          text = rw (line-text, so .text, so .count) (start-more (feedText n f (take taken block)) (lineReply n ended .text) out);
           rest = omega (arith, so .rest, line-taken);
         }
 
     -- the same of what the reply to the line leaves in the lent part of the output
     module _ {parsed : Parsed} {r : Replied} {part : List ℕ}
-        (is : parsed ≡ keptLine ended)
+        (is : parsed ≡ keptLine n ended)
         (answer : r ≡ repliedIn (next .session) parsed (length (take (length output - written) (drop written output))))
         (text : part ≡ repliedOut (next .session) parsed (take (length output - written) (drop written output)))
       where
         roomy : replyRoom ≤ length (drop written output)
         roomy = omega (arith, length-drop written output, fed-length)
 
-        reply-is : parsedReply (next .session) parsed ≡ lineReply ended
-        reply-is = rw is (sym (ended-reply next (piece block taken n) (piece-free block taken first)))
+        reply-is : parsedReply (next .session) parsed ≡ lineReply n ended
+        reply-is = rw is (sym (ended-reply n next (piece block taken m) (piece-free block taken first)))
 
-        answer-is : r ≡ record { session = lineReply ended .session; written = length (lineReply ended .text) }
+        answer-is : r ≡ record { session = lineReply n ended .session; written = length (lineReply n ended .text) }
         answer-is = answer ∙ rw (all-left output written, replied-in (next .session) parsed (length (drop written output)) roomy, reply-is)
 
-        text-is : part ++ drop (length output - written) (drop written output) ≡ atStart (lineReply ended .text) (drop written output)
+        text-is : part ++ drop (length output - written) (drop written output) ≡ atStart (lineReply n ended .text) (drop written output)
         text-is =
             rw (drop-of-length-le (drop written output) {i = length output - written} (omega (arith, length-drop written output)), append-nil)
             (text ∙ rw (all-left output written, replied-out (next .session) parsed (drop written output) roomy, reply-is))
 
-        pub fed-reply : FedSoFar f block out (lineStart (r .session)) (taken + n + 1) (written + r .written)
+        pub fed-reply : FedSoFar n f block out (lineStart (r .session)) (taken + m + 1) (written + r .written)
             (take written output ++ (part ++ drop (length output - written) (drop written output)))
-        fed-reply = rw (answer-is, text-is) (fed-line (line-reply-length ended))
+        fed-reply = rw (answer-is, text-is) (fed-line (line-reply-length n ended))
 
   -- the rest of a block without a newline
   module _ (free : NewlineFree (take (length block - taken) (drop taken block))) (h : replyRoom ≤ length out - written) where
@@ -167,25 +168,25 @@ module _ {f : Feed} {block out : List ℕ} {next : Feed} {taken written : ℕ} {
     whole : take (length block) block ≡ take taken block ++ drop taken block
     whole = take-length block ∙ sym (take-append-drop taken block)
 
-    rest-text : feedText f (take (length block) block) ≡ feedText f (take taken block)
+    rest-text : feedText n f (take (length block) block) ≡ feedText n f (take taken block)
     rest-text =
-        rw (whole, text-append f (take taken block) (drop taken block), ← so .state, run-silent next (drop taken block) rest-is-free, append-nil)
+        rw (whole, text-append n f (take taken block) (drop taken block), ← so .state, run-silent n next (drop taken block) rest-is-free, append-nil)
 
-    rest-taken : takenOf (length out - written) next (drop taken block) ≡ length (drop taken block)
+    rest-taken : takenOf n (length out - written) next (drop taken block) ≡ length (drop taken block)
     unfolding takenOf
     rest-taken =
-        ap (takenOf (length out - written) next) (sym (append-nil (drop taken block)))
-        ∙ taken-run (length out - written) next (drop taken block) [] h rest-is-free
+        ap (takenOf n (length out - written) next) (sym (append-nil (drop taken block)))
+        ∙ taken-run n (length out - written) next (drop taken block) [] h rest-is-free
         ∙ add-zero (length (drop taken block))
 
-    pub fed-rest : FedSoFar f block out (feedState next (take (length block - taken) (drop taken block))) (length block) written output
+    pub fed-rest : FedSoFar n f block out (feedState n next (take (length block - taken) (drop taken block))) (length block) written output
     unfolding takenOf
     fed-rest =
         rw (all-left block taken)
         (record {
           within = omega arith;
           room = so .room;
-          state = sym (rw (whole, state-append f (take taken block) (drop taken block), ← so .state));
+          state = sym (rw (whole, state-append n f (take taken block) (drop taken block), ← so .state));
           count = rw rest-text (so .count);
           text = rw rest-text (so .text);
           rest = rw drop-length (omega (arith, so .rest, rest-taken, length-drop taken block, so .within));
@@ -193,11 +194,11 @@ module _ {f : Feed} {block out : List ℕ} {next : Feed} {taken written : ℕ} {
 
   -- an output without room
   pub fed-full : length out - written < replyRoom
-      → (_≡_ {A = Fed} (record { feed = next; taken = taken; written = written }) (fedOf f block (length out))) × (output ≡ fedOut f block out)
-  fed-full h = fed-all (omega (arith, so .rest, taken-full (length out - written) next (drop taken block) h))
+      → (_≡_ {A = Fed} (record { feed = next; taken = taken; written = written }) (fedOf n f block (length out))) × (output ≡ fedOut n f block out)
+  fed-full h = fed-all (omega (arith, so .rest, taken-full n (length out - written) next (drop taken block) h))
 
   -- a block that is used up
   pub fed-end : taken ≡ length block
-      → (_≡_ {A = Fed} (record { feed = next; taken = taken; written = written }) (fedOf f block (length out))) × (output ≡ fedOut f block out)
+      → (_≡_ {A = Fed} (record { feed = next; taken = taken; written = written }) (fedOf n f block (length out))) × (output ≡ fedOut n f block out)
   unfolding takenOf
   fed-end e = fed-all (omega (arith, rw (drop-of-length-le block {i = taken} (omega arith)) at (so .rest)))

@@ -16,6 +16,7 @@ use Rattle.requests.specs.Choice.{either}
 use Rattle.requests.proofs.Tests.{either-true, either-false}
 use Rattle.records.specs.Text.{newline}
 use Rattle.records.specs.Parse.{longest}
+use Rattle.names.specs.Lists.{NameLists}
 use Rattle.lines.specs.Pieces.{NewlineFree}
 use Rattle.lines.specs.Stream.{keepByte, byteState, byteText, feedState, feedText}
 use Rattle.lines.specs.declared.Feed.{Feed}
@@ -30,14 +31,15 @@ tail-free b bs free m = free (List·Memᴰ·tail m)
 
 -- ---- the text
 
-pub no-text : (f : Feed) (b : ℕ) → eqb b newline ≡ false → byteText f b ≡ []
-unfolding byteText
-no-text f b e = rw (e, byteText)
+module _ (n : NameLists) where
+  pub no-text : (f : Feed) (b : ℕ) → eqb b newline ≡ false → byteText n f b ≡ []
+  unfolding byteText
+  no-text f b e = rw (e, byteText)
 
-pub run-silent : (f : Feed) (text : List ℕ) → NewlineFree text → feedText f text ≡ []
-unfolding feedText
-run-silent f [] free = refl
-run-silent f (b ∷ bs) free = rw (no-text f b (head-free b bs free)) (run-silent (byteState f b) bs (tail-free b bs free))
+  pub run-silent : (f : Feed) (text : List ℕ) → NewlineFree text → feedText n f text ≡ []
+  unfolding feedText
+  run-silent f [] free = refl
+  run-silent f (b ∷ bs) free = rw (no-text f b (head-free b bs free)) (run-silent (byteState n f b) bs (tail-free b bs free))
 
 -- ---- the state
 
@@ -61,10 +63,6 @@ module _ (f : Feed) where
   after-none = rw (take-nil {A = ℕ} (longest - f .used), le-ltb (longest - f .used) 0 (omega arith), either-false (f .long), add-zero (f .used))
 
   module _ (b : ℕ) where
-    pub not-ending : eqb b newline ≡ false → byteState f b ≡ keepByte f b
-    unfolding byteState
-    not-ending e = rw (e, byteState)
-
     -- a byte behind fewer than 80
     pub keep-fitting : f .used < longest → keepByte f b ≡ record { session = f .session; kept = set (f .kept) (f .used) b; used = suc (f .used); long = f .long }
     unfolding keepByte
@@ -88,11 +86,17 @@ module _ (f : Feed) where
         let n : longest - f .used ≡ 0 = omega arith in
         rw (keep-full full, n, lt-ltb 0 (suc (length bs)) (omega arith), either-true (f .long))
 
-pub kept-run : (f : Feed) (text : List ℕ) → NewlineFree text → feedState f text ≡ afterRun f text
-unfolding feedState
-kept-run f [] free = after-none f
-kept-run f (b ∷ bs) free = rw (not-ending f b (head-free b bs free)) (kept-run (keepByte f b) bs (tail-free b bs free) ∙ go (ltb (f .used) longest) refl)
-  where
-    go : (t : Bool) → ltb (f .used) longest ≡ t → afterRun (keepByte f b) bs ≡ afterRun f (b ∷ bs)
-    go true h = after-fitting f b bs (ltb-true (f .used) longest h)
-    go false h = after-full f b bs (ltb-false (f .used) longest h)
+module _ (n : NameLists) where
+  -- a byte that does not end the line
+  pub not-ending : (f : Feed) (b : ℕ) → eqb b newline ≡ false → byteState n f b ≡ keepByte f b
+  unfolding byteState
+  not-ending f b e = rw (e, byteState)
+
+  pub kept-run : (f : Feed) (text : List ℕ) → NewlineFree text → feedState n f text ≡ afterRun f text
+  unfolding feedState
+  kept-run f [] free = after-none f
+  kept-run f (b ∷ bs) free = rw (not-ending f b (head-free b bs free)) (kept-run (keepByte f b) bs (tail-free b bs free) ∙ go (ltb (f .used) longest) refl)
+    where
+      go : (t : Bool) → ltb (f .used) longest ≡ t → afterRun (keepByte f b) bs ≡ afterRun f (b ∷ bs)
+      go true h = after-fitting f b bs (ltb-true (f .used) longest h)
+      go false h = after-full f b bs (ltb-false (f .used) longest h)

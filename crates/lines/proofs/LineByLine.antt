@@ -1,4 +1,4 @@
--- The stream answers each line as `answerLine` does: the bytes that it keeps of a line are those that `parseLine` reads.
+-- The stream answers each line as `answerLine` does: the bytes that it keeps of a line are those that are read of a line.
 --     line-reply     the reply to bytes without a newline, once they are closed by one
 use mathlib.Core.Path.{_≡_, refl, ap, sym, _∙_}
 use mathlib.Core.Logic.{_≢_}
@@ -13,12 +13,15 @@ use lib.Seq.{take-at, getD-at, sets, sets-eq}
 use borrow.Author.Tests.{lt-ltb, eq-eqb}
 use Rattle.requests.specs.declared.Refusal.the-variants.{NotInGrammar}
 use Rattle.requests.specs.declared.Answer.the-variants.{Refused}
+use Rattle.requests.specs.declared.Device.{Device}
 use Rattle.requests.specs.Choice.{either}
 use Rattle.requests.proofs.Tests.{either-true}
 use Rattle.sessions.specs.declared.Session.{Session}
 use Rattle.records.specs.Text.{newline}
-use Rattle.records.specs.Parse.{longest, parseText, isClosed, textLength, parseLine}
+use Rattle.records.specs.Parse.{longest, isClosed, textLength}
+use Rattle.parser.specs.ParseWith.{parseTextWith, parseLineWith}
 use Rattle.answers.specs.Replies.{Reply, answerText, parsedReply, answerLine}
+use Rattle.names.specs.Lists.{NameLists}
 use Rattle.lines.specs.Stream.{lineStart, lineReply, byteState, byteText, feedState, feedText, unfinished, endText}
 use Rattle.lines.specs.Pieces.{NewlineFree}
 use Rattle.lines.specs.LineByLine.{LineByLine}
@@ -49,14 +52,17 @@ module _ (s : Session) (text : List ℕ) where
   unfolding afterRun lineStart
   kept-session = refl
 
-  kept-reply : lineReply (afterRun (lineStart s) text) ≡ parsedReply s (parseText (take longest text) true (ltb longest (length text)))
+-- so the reply is that to the first 80 bytes
+module _ (n : NameLists) (s : Session) (text : List ℕ) where
+  kept-reply : lineReply n (afterRun (lineStart s) text) ≡ parsedReply s (parseTextWith n (s .setup .device) (take longest text) true (ltb longest (length text)))
   unfolding lineReply
-  kept-reply = rw (kept-session, kept-front, kept-long)
+  kept-reply = rw (kept-session s text, kept-front s text, kept-long s text)
 
-  pub line-reply : NewlineFree text → lineReply (feedState (lineStart s) text) ≡ parsedReply s (parseText (take longest text) true (ltb longest (length text)))
-  line-reply free = ap lineReply (kept-run (lineStart s) text free) ∙ kept-reply
+  pub line-reply : NewlineFree text
+      → lineReply n (feedState n (lineStart s) text) ≡ parsedReply s (parseTextWith n (s .setup .device) (take longest text) true (ltb longest (length text)))
+  line-reply free = ap (lineReply n) (kept-run n (lineStart s) text free) ∙ kept-reply
 
--- ---- what `parseLine` reads
+-- ---- what is read of a line
 
 module _ (text : List ℕ) where
   abbrev line : List ℕ
@@ -73,19 +79,20 @@ module _ (text : List ℕ) where
   unfolding textLength
   text-length = rw (closed, closed-length)
 
-  parsed : parseLine line ≡ parseText (take longest text) true (ltb longest (length text))
-  unfolding parseLine
-  parsed = rw (closed, text-length, take-at text (newline ∷ []) (length text) refl)
+  parsed : (n : NameLists) (d : Device) → parseLineWith n d line ≡ parseTextWith n d (take longest text) true (ltb longest (length text))
+  unfolding parseLineWith
+  parsed n d = rw (closed, text-length, take-at text (newline ∷ []) (length text) refl)
 
 -- ---- the line
 
-pub newline-state : (f : Feed) → feedState f (newline ∷ []) ≡ lineStart (lineReply f .session)
-unfolding feedState byteState newline
-newline-state f = refl
+module _ (n : NameLists) where
+  pub newline-state : (f : Feed) → feedState n f (newline ∷ []) ≡ lineStart (lineReply n f .session)
+  unfolding feedState byteState newline
+  newline-state f = refl
 
-pub newline-text : (f : Feed) → feedText f (newline ∷ []) ≡ lineReply f .text
-unfolding feedText byteText newline
-newline-text f = append-nil (lineReply f .text)
+  pub newline-text : (f : Feed) → feedText n f (newline ∷ []) ≡ lineReply n f .text
+  unfolding feedText byteText newline
+  newline-text f = append-nil (lineReply n f .text)
 
 -- at the beginning of a line there is none
 nothing : (s : Session) → endText (lineStart s) ≡ []
@@ -96,33 +103,39 @@ some-length : (text : List ℕ) → text ≢ [] → 0 < length text
 some-length [] some = absurd (some refl)
 some-length (b ∷ bs) some = omega arith
 
-module _ (s : Session) (text : List ℕ) (free : NewlineFree text) where
+module _ (n : NameLists) (s : Session) (text : List ℕ) (free : NewlineFree text) where
   -- the reply is that to the line
-  answered : lineReply (feedState (lineStart s) text) ≡ answerLine s (text ++ newline ∷ [])
+  answered : lineReply n (feedState n (lineStart s) text) ≡ answerLine n s (text ++ newline ∷ [])
   unfolding answerLine
-  answered = line-reply s text free ∙ ap (parsedReply s) (sym (parsed text))
+  answered = line-reply n s text free ∙ ap (parsedReply s) (sym (parsed text n (s .setup .device)))
 
-  reply : feedText (lineStart s) (text ++ newline ∷ []) ≡ answerLine s (text ++ newline ∷ []) .text
+  reply : feedText n (lineStart s) (text ++ newline ∷ []) ≡ answerLine n s (text ++ newline ∷ []) .text
   reply =
-      text-append (lineStart s) text (newline ∷ [])
-      ∙ rw (run-silent (lineStart s) text free)
-      (newline-text (feedState (lineStart s) text) ∙ ap (λ (r : Reply). r .text) answered)
+      text-append n (lineStart s) text (newline ∷ [])
+      ∙ rw (run-silent n (lineStart s) text free)
+      (newline-text n (feedState n (lineStart s) text) ∙ ap (λ (r : Reply). r .text) answered)
 
-  next : feedState (lineStart s) (text ++ newline ∷ []) ≡ lineStart (answerLine s (text ++ newline ∷ []) .session)
+  next : feedState n (lineStart s) (text ++ newline ∷ []) ≡ lineStart (answerLine n s (text ++ newline ∷ []) .session)
   next =
-      state-append (lineStart s) text (newline ∷ [])
-      ∙ newline-state (feedState (lineStart s) text)
+      state-append n (lineStart s) text (newline ∷ [])
+      ∙ newline-state n (feedState n (lineStart s) text)
       ∙ ap (λ (r : Reply). lineStart (r .session)) answered
 
   begun : text ≢ [] → 0 < afterRun (lineStart s) text .used
   unfolding afterRun lineStart longest
   begun some = omega (arith, some-length text some, length-take 80 text)
 
-  ended : text ≢ [] → endText (feedState (lineStart s) text) ≡ answerText (Refused NotInGrammar)
+  ended : text ≢ [] → endText (feedState n (lineStart s) text) ≡ answerText (Refused NotInGrammar)
   unfolding endText unfinished
   ended some =
-      rw (kept-run (lineStart s) text free, lt-ltb 0 (afterRun (lineStart s) text .used) (begun some), either-true (afterRun (lineStart s) text .long))
+      rw (kept-run n (lineStart s) text free, lt-ltb 0 (afterRun (lineStart s) text .used) (begun some), either-true (afterRun (lineStart s) text .long))
 
 pub line-by-line : LineByLine
-line-by-line s text free =
-    record { reply = reply s text free; next = next s text free; silent = run-silent (lineStart s) text free; ended = ended s text free; empty = nothing s }
+line-by-line n s text free =
+    record {
+      reply = reply n s text free;
+      next = next n s text free;
+      silent = run-silent n (lineStart s) text free;
+      ended = ended n s text free;
+      empty = nothing s;
+    }

@@ -11,12 +11,15 @@ use borrow.Author.Tests.{lt-ltb, ltb-false}
 use lib.Dec.{ltb}
 use lib.ListN.{length, getD, take, drop, set, length-take}
 use lib.Seq.{drop-cons, take-suc}
+use Rattle.requests.specs.declared.Device.{Device}
 use Rattle.requests.specs.Choice.{either, pick}
 use Rattle.requests.proofs.Tests.{either-true, either-parts}
 use Rattle.records.specs.Text.{newline}
-use Rattle.records.specs.Parse.{longest, parseText}
+use Rattle.records.specs.Parse.{longest}
+use Rattle.parser.specs.ParseWith.{parseTextWith}
 use Rattle.records.specs.declared.Parsed.{Parsed}
 use Rattle.answers.specs.Replies.{parsedReply}
+use Rattle.names.specs.Lists.{NameLists}
 use Rattle.lines.specs.Pieces.{NewlineFree, keptLine, stateOf, KeptOn, EndedLine}
 use Rattle.lines.specs.Stream.{keepByte, lineReply, feedState}
 use Rattle.lines.specs.declared.Extent.{Extent}
@@ -30,28 +33,29 @@ free-next block at inside free other =
     rw (add-one, take-suc block at 0 inside) (λ m.
     ⊎-elim free (λ last. other (sym (List·Memᴰ·eq-of-singleton last))) (List·Memᴰ·append-cases (take at block) m))
 
--- a run leaves the session
-pub run-session : (f : Feed) (bs : List ℕ) → NewlineFree bs → feedState f bs .session ≡ f .session
-unfolding afterRun
-run-session f bs free = rw (kept-run f bs free)
+module _ (n : NameLists) where
+  -- a run leaves the session
+  pub run-session : (f : Feed) (bs : List ℕ) → NewlineFree bs → feedState n f bs .session ≡ f .session
+  unfolding afterRun
+  run-session f bs free = rw (kept-run n f bs free)
 
--- the reply to a line is the reply to what its kept bytes are
-pub ended-reply : (f : Feed) (bs : List ℕ) → NewlineFree bs → lineReply (feedState f bs) ≡ parsedReply (f .session) (keptLine (feedState f bs))
-unfolding lineReply keptLine
-ended-reply f bs free = rw (run-session f bs free)
+  -- the reply to a line is the reply to what its kept bytes are
+  pub ended-reply : (f : Feed) (bs : List ℕ) → NewlineFree bs → lineReply n (feedState n f bs) ≡ parsedReply (f .session) (keptLine n (feedState n f bs))
+  unfolding lineReply keptLine
+  ended-reply f bs free = rw (run-session f bs free)
 
--- the first byte of a run is kept
-first-kept : (f : Feed) (b : ℕ) (bs : List ℕ) → NewlineFree (b ∷ bs) → feedState f (b ∷ bs) ≡ feedState (keepByte f b) bs
-unfolding feedState
-first-kept f b bs free = rw (not-ending f b (head-free b bs free))
+  -- the first byte of a run is kept
+  first-kept : (f : Feed) (b : ℕ) (bs : List ℕ) → NewlineFree (b ∷ bs) → feedState n f (b ∷ bs) ≡ feedState n (keepByte f b) bs
+  unfolding feedState
+  first-kept f b bs free = rw (not-ending n f b (head-free b bs free))
 
--- bytes past the longest line only tell that the line is longer
-pub overlong : (f : Feed) (b : ℕ) (bs : List ℕ) → longest ≤ f .used → NewlineFree (b ∷ bs)
-    → feedState f (b ∷ bs) ≡ record { session = f .session; kept = f .kept; used = f .used; long = true }
-unfolding afterRun
-overlong f b bs full free =
-    let n : longest - f .used ≡ 0 = omega arith in
-    kept-run f (b ∷ bs) free ∙ rw (n, add-zero (f .used), lt-ltb 0 (suc (length bs)) (omega arith), either-true (f .long))
+  -- bytes past the longest line only tell that the line is longer
+  pub overlong : (f : Feed) (b : ℕ) (bs : List ℕ) → longest ≤ f .used → NewlineFree (b ∷ bs)
+      → feedState n f (b ∷ bs) ≡ record { session = f .session; kept = f .kept; used = f .used; long = true }
+  unfolding afterRun
+  overlong f b bs full free =
+      let none-left : longest - f .used ≡ 0 = omega arith in
+      kept-run n f (b ∷ bs) free ∙ rw (none-left, add-zero (f .used), lt-ltb 0 (suc (length bs)) (omega arith), either-true (f .long))
 
 -- a piece is kept byte by byte
 module _ (piece : List ℕ) (i : ℕ) (inside : i < length piece) (free : NewlineFree (drop i piece)) where
@@ -61,44 +65,44 @@ module _ (piece : List ℕ) (i : ℕ) (inside : i < length piece) (free : Newlin
   pub free-more : NewlineFree (drop (i + 1) piece)
   free-more = rw add-one (tail-free (getD piece i 0) (drop (suc i) piece) here)
 
-  pub keep-more : (f : Feed) → f .used < longest
-      → feedState (record { session = f .session; kept = set (f .kept) (f .used) (getD piece i 0); used = f .used + 1; long = f .long }) (drop (i + 1) piece)
-      ≡ feedState f (drop i piece)
-  keep-more f h =
+  pub keep-more : (n : NameLists) (f : Feed) → f .used < longest
+      → feedState n (record { session = f .session; kept = set (f .kept) (f .used) (getD piece i 0); used = f .used + 1; long = f .long }) (drop (i + 1) piece)
+      ≡ feedState n f (drop i piece)
+  keep-more n f h =
       rw (add-one (f .used), add-one i, drop-cons piece i 0 inside)
       (sym
-      (first-kept f (getD piece i 0) (drop (suc i) piece) here
-      ∙ ap (λ (g : Feed). feedState g (drop (suc i) piece)) (keep-fitting f (getD piece i 0) h)))
+      (first-kept n f (getD piece i 0) (drop (suc i) piece) here
+      ∙ ap (λ (g : Feed). feedState n g (drop (suc i) piece)) (keep-fitting f (getD piece i 0) h)))
 
-  pub keep-no-more : (f : Feed) → longest ≤ f .used
-      → _≡_ {A = Feed} (record { session = f .session; kept = f .kept; used = f .used; long = true }) (feedState f (drop i piece))
-  keep-no-more f h = rw (drop-cons piece i 0 inside) (sym (overlong f (getD piece i 0) (drop (suc i) piece) h here))
+  pub keep-no-more : (n : NameLists) (f : Feed) → longest ≤ f .used
+      → _≡_ {A = Feed} (record { session = f .session; kept = f .kept; used = f .used; long = true }) (feedState n f (drop i piece))
+  keep-no-more n f h = rw (drop-cons piece i 0 inside) (sym (overlong n f (getD piece i 0) (drop (suc i) piece) h here))
 
 -- a piece that ends a line of which nothing is kept is the line
-pub whole-line : (f : Feed) (bs : List ℕ) → length (f .kept) ≡ longest → either (f .long) (ltb 0 (f .used)) ≡ false → NewlineFree bs
-    → keptLine (feedState f bs) ≡ parseText (take longest bs) true (ltb longest (length bs))
+pub whole-line : (n : NameLists) (f : Feed) (bs : List ℕ) → length (f .kept) ≡ longest → either (f .long) (ltb 0 (f .used)) ≡ false → NewlineFree bs
+    → keptLine n (feedState n f bs) ≡ parseTextWith n (f .session .setup .device) (take longest bs) true (ltb longest (length bs))
 unfolding keptLine afterRun either
-whole-line f bs full none free =
+whole-line n f bs full none free =
     let unused : f .used ≡ 0 = omega (arith, ltb-false 0 (f .used) (either-parts (f .long) (ltb 0 (f .used)) none .1)) in
     rw (
-      kept-run f bs free,
+      kept-run n f bs free,
       unused,
       either-parts (f .long) (ltb 0 (f .used)) none .0,
       sub-zero longest,
       front (take longest bs) (f .kept) (omega (arith, length-take longest bs)),
     )
 
--- what a line is that ends with a piece: the start of what is kept of it, or of the piece
-module _ (kept : List ℕ) (used : ℕ) (long : Bool) (piece after : List ℕ) (e : Extent) {line start : List ℕ} {carried : Bool} {p : Parsed}
+-- what a line asks for that ends with a piece: the start of what is kept of it, or of the piece
+module _ (n : NameLists) (d : Device) (kept : List ℕ) (used : ℕ) (long : Bool) (piece after : List ℕ) (e : Extent) {line start : List ℕ} {carried : Bool} {p : Parsed}
     (chosen : line ≡ pick carried after piece)
     (cut : start ≡ take (e .used) line)
-    (is : p ≡ parseText start true (e .long))
+    (is : p ≡ parseTextWith n d start true (e .long))
   where
-    pub ended-carried : carried ≡ true → KeptOn kept used long piece after e → EndedLine kept used long piece p
+    pub ended-carried : carried ≡ true → KeptOn kept used long piece after e → EndedLine n d kept used long piece p
     unfolding keptLine
-    ended-carried given kept-on s = rw (kept-on s) (is ∙ rw (cut, chosen, given))
+    ended-carried given kept-on s here = rw (kept-on n s, here) (is ∙ rw (cut, chosen, given))
 
     pub ended-whole : carried ≡ false → either long (ltb 0 used) ≡ false → length kept ≡ longest → NewlineFree piece
-        → e ≡ record { used = longest; long = ltb longest (length piece) } → EndedLine kept used long piece p
-    ended-whole given none full free extent s =
-        is ∙ rw (cut, chosen, given, extent) (sym (whole-line (stateOf s kept used long) piece full none free))
+        → e ≡ record { used = longest; long = ltb longest (length piece) } → EndedLine n d kept used long piece p
+    ended-whole given none full free extent s here =
+        is ∙ rw (cut, chosen, given, extent, ← here) (sym (whole-line n (stateOf s kept used long) piece full none free))

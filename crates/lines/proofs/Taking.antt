@@ -8,6 +8,7 @@ use borrow.Author.Tests.{lt-ltb, le-ltb}
 use lib.ListN.{length}
 use Rattle.records.specs.Text.{newline}
 use Rattle.answers.specs.Written.{replyRoom}
+use Rattle.names.specs.Lists.{NameLists}
 use Rattle.lines.specs.Blocks.{takenOf}
 use Rattle.lines.specs.Pieces.{NewlineFree}
 use Rattle.lines.specs.Stream.{lineStart, lineReply, byteState, byteText, feedState}
@@ -15,23 +16,24 @@ use Rattle.lines.specs.declared.Feed.{Feed}
 use Rattle.lines.proofs.Kept.{head-free, tail-free, no-text}
 use Rattle.lines.proofs.Progress.{taken-none, taken-one}
 
--- a run without a newline
-pub taken-run : (room : ℕ) (f : Feed) (bs rest : List ℕ) → replyRoom ≤ room → NewlineFree bs
-    → takenOf room f (bs ++ rest) ≡ length bs + takenOf room (feedState f bs) rest
-unfolding feedState
-taken-run room f [] rest h free = sym (zero-add (takenOf room f rest))
-taken-run room f (b ∷ bs) rest h free =
-    taken-one room f b (bs ++ rest) (le-ltb room replyRoom h)
-    ∙ rw (no-text f b (head-free b bs free), sub-zero, taken-run room (byteState f b) bs rest h (tail-free b bs free)) (omega arith)
+module _ (n : NameLists) where
+  -- a run without a newline
+  pub taken-run : (room : ℕ) (f : Feed) (bs rest : List ℕ) → replyRoom ≤ room → NewlineFree bs
+      → takenOf n room f (bs ++ rest) ≡ length bs + takenOf n room (feedState n f bs) rest
+  unfolding feedState
+  taken-run room f [] rest h free = sym (zero-add (takenOf n room f rest))
+  taken-run room f (b ∷ bs) rest h free =
+      taken-one n room f b (bs ++ rest) (le-ltb room replyRoom h)
+      ∙ rw (no-text n f b (head-free b bs free), sub-zero, taken-run room (byteState n f b) bs rest h (tail-free b bs free)) (omega arith)
 
--- a newline
-pub taken-newline : (room : ℕ) (f : Feed) (rest : List ℕ) → replyRoom ≤ room
-    → takenOf room f (newline ∷ rest) ≡ suc (takenOf (room - length (lineReply f .text)) (lineStart (lineReply f .session)) rest)
-unfolding newline byteText byteState
-taken-newline room f rest h = taken-one room f newline rest (le-ltb room replyRoom h)
+  -- a newline
+  pub taken-newline : (room : ℕ) (f : Feed) (rest : List ℕ) → replyRoom ≤ room
+      → takenOf n room f (newline ∷ rest) ≡ suc (takenOf n (room - length (lineReply n f .text)) (lineStart (lineReply n f .session)) rest)
+  unfolding newline byteText byteState
+  taken-newline room f rest h = taken-one n room f newline rest (le-ltb room replyRoom h)
 
--- nothing without room
-pub taken-full : (room : ℕ) (f : Feed) (bs : List ℕ) → room < replyRoom → takenOf room f bs ≡ 0
-unfolding takenOf
-taken-full room f [] h = refl
-taken-full room f (b ∷ bs) h = taken-none room f b bs (lt-ltb room replyRoom h)
+  -- nothing without room
+  pub taken-full : (room : ℕ) (f : Feed) (bs : List ℕ) → room < replyRoom → takenOf n room f bs ≡ 0
+  unfolding takenOf
+  taken-full room f [] h = refl
+  taken-full room f (b ∷ bs) h = taken-none n room f b bs (lt-ltb room replyRoom h)

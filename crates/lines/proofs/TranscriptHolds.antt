@@ -1,7 +1,7 @@
 -- The output of a whole input is the replies to its lines: `LineByLine` at each line, one after another, by the laws on two pieces.
 use mathlib.Core.Path.{_≡_, refl, ap, sym, _∙_}
 use mathlib.Core.Logic.{_≢_, _⊎_, inl, inr}
-use mathlib.Core.List.{List, [], _∷_, _++_, append-assoc, flatMap, List·Memᴰ, List·Memᴰ·cases-cons, List·Memᴰ·not-nil}
+use mathlib.Core.List.{List, [], _∷_, _++_, append-assoc, map, flatMap, List·Memᴰ, List·Memᴰ·cases-cons, List·Memᴰ·not-nil}
 use mathlib.Core.Bool.{Bool, true, false}
 use Prim.Native.Nat.{ℕ}
 use native.Mathlib.Omega.{arith}
@@ -9,11 +9,12 @@ use lib.Dec.{eqb}
 use borrow.Author.Tests.{eqb-true, eqb-false}
 use Rattle.plans.specs.Lists.{All, nil, cons}
 use Rattle.sessions.specs.declared.Session.{Session}
-use Rattle.sessions.specs.Sessions.{newSession, sessionAfter}
+use Rattle.sessions.specs.Sessions.{newSession}
 use Rattle.records.specs.Text.{newline}
-use Rattle.records.specs.Parse.{parseLine}
 use Rattle.answers.specs.Replies.{answerLine}
-use Rattle.answers.proofs.LineLists.{line-session}
+use Rattle.answers.specs.LineLists.{sessionBy}
+use Rattle.answers.proofs.LineLists.{session-by}
+use Rattle.names.specs.Lists.{NameLists}
 use Rattle.lines.specs.Stream.{lineStart, feedStart, feedState, feedText, endText, transcript}
 use Rattle.lines.specs.Pieces.{NewlineFree}
 use Rattle.lines.specs.Transcript.{closed, repliesTo, atEnd, callsOf, Transcript}
@@ -85,54 +86,55 @@ lines-in (b ∷ bs) = go (eqb b newline) refl (lines-in bs)
 
 -- ---- their replies
 
--- a rest is answered at the end alone
-rest-output : (s : Session) (rest : List ℕ) → NewlineFree rest → feedText (lineStart s) rest ++ endText (feedState (lineStart s) rest) ≡ atEnd rest
-unfolding atEnd feedText feedState
-rest-output s [] free = line-by-line s [] free .empty
-rest-output s (b ∷ bs) free =
-    let line = line-by-line s (b ∷ bs) free in
-    let some : (b ∷ bs) ≢ [] = λ e. let z : _≡_ {A = ℕ} 0 1 = cc in absurd (omega arith) in
-    rw (line .silent) (line .ended some)
+module _ (n : NameLists) where
+  -- a rest is answered at the end alone
+  rest-output : (s : Session) (rest : List ℕ) → NewlineFree rest → feedText n (lineStart s) rest ++ endText (feedState n (lineStart s) rest) ≡ atEnd rest
+  unfolding atEnd feedText feedState
+  rest-output s [] free = line-by-line n s [] free .empty
+  rest-output s (b ∷ bs) free =
+      let line = line-by-line n s (b ∷ bs) free in
+      let some : (b ∷ bs) ≢ [] = λ e. let z : _≡_ {A = ℕ} 0 1 = cc in absurd (omega arith) in
+      rw (line .silent) (line .ended some)
 
-module _ (s : Session) (text : List ℕ) (free : NewlineFree text) (input : List ℕ) where
-  -- the output of a line before more input
-  line-first : feedText (lineStart s) (closed text ++ input) ≡ answerLine s (closed text) .text ++ feedText (lineStart (answerLine s (closed text) .session)) input
-  line-first = text-append (lineStart s) (closed text) input ∙ rw (line-by-line s text free .reply, line-by-line s text free .next)
+  module _ (s : Session) (text : List ℕ) (free : NewlineFree text) (input : List ℕ) where
+    -- the output of a line before more input
+    line-first : feedText n (lineStart s) (closed text ++ input) ≡ answerLine n s (closed text) .text ++ feedText n (lineStart (answerLine n s (closed text) .session)) input
+    line-first = text-append n (lineStart s) (closed text) input ∙ rw (line-by-line n s text free .reply, line-by-line n s text free .next)
 
-  state-first : feedState (lineStart s) (closed text ++ input) ≡ feedState (lineStart (answerLine s (closed text) .session)) input
-  state-first = state-append (lineStart s) (closed text) input ∙ rw (line-by-line s text free .next)
+    state-first : feedState n (lineStart s) (closed text ++ input) ≡ feedState n (lineStart (answerLine n s (closed text) .session)) input
+    state-first = state-append n (lineStart s) (closed text) input ∙ rw (line-by-line n s text free .next)
 
-output : (s : Session) (texts : List (List ℕ)) (rest : List ℕ) → All NewlineFree texts → NewlineFree rest
-    → feedText (lineStart s) (flatMap closed texts ++ rest) ++ endText (feedState (lineStart s) (flatMap closed texts ++ rest)) ≡ repliesTo s texts ++ atEnd rest
-unfolding flatMap repliesTo
-output s [] rest fs f = rest-output s rest f
-output s (text ∷ texts) rest (cons free fs) f =
-    let more : List ℕ = flatMap closed texts ++ rest in
-    let joined : (closed text ++ flatMap closed texts) ++ rest ≡ closed text ++ more = append-assoc (closed text) (flatMap closed texts) rest in
-    let below = output (answerLine s (closed text) .session) texts rest fs f in
-    rw (joined, line-first s text free more, state-first s text free more, append-assoc, append-assoc) (ap (λ (l : List ℕ). answerLine s (closed text) .text ++ l) below)
+  output : (s : Session) (texts : List (List ℕ)) (rest : List ℕ) → All NewlineFree texts → NewlineFree rest
+      → feedText n (lineStart s) (flatMap closed texts ++ rest) ++ endText (feedState n (lineStart s) (flatMap closed texts ++ rest)) ≡ repliesTo n s texts ++ atEnd rest
+  unfolding flatMap repliesTo
+  output s [] rest fs f = rest-output s rest f
+  output s (text ∷ texts) rest (cons free fs) f =
+      let more : List ℕ = flatMap closed texts ++ rest in
+      let joined : (closed text ++ flatMap closed texts) ++ rest ≡ closed text ++ more = append-assoc (closed text) (flatMap closed texts) rest in
+      let below = output (answerLine n s (closed text) .session) texts rest fs f in
+      rw (joined, line-first s text free more, state-first s text free more, append-assoc, append-assoc) (ap (λ (l : List ℕ). answerLine n s (closed text) .text ++ l) below)
 
 -- ---- the session
 
-rest-session : (s : Session) (rest : List ℕ) → NewlineFree rest → feedState (lineStart s) rest .session ≡ s
-unfolding afterRun lineStart
-rest-session s rest free = ap (λ (f : Feed). f .session) (kept-run (lineStart s) rest free)
+module _ (n : NameLists) where
+  rest-session : (s : Session) (rest : List ℕ) → NewlineFree rest → feedState n (lineStart s) rest .session ≡ s
+  unfolding afterRun lineStart
+  rest-session s rest free = ap (λ (f : Feed). f .session) (kept-run n (lineStart s) rest free)
 
-session : (s : Session) (texts : List (List ℕ)) (rest : List ℕ) → All NewlineFree texts → NewlineFree rest
-    → feedState (lineStart s) (flatMap closed texts ++ rest) .session ≡ sessionAfter s (callsOf texts)
-unfolding flatMap callsOf answerLine sessionAfter
-session s [] rest fs f = rest-session s rest f
-session s (text ∷ texts) rest (cons free fs) f =
-    let more : List ℕ = flatMap closed texts ++ rest in
-    let joined : (closed text ++ flatMap closed texts) ++ rest ≡ closed text ++ more = append-assoc (closed text) (flatMap closed texts) rest in
-    rw (joined, state-first s text free more)
-    (session (answerLine s (closed text) .session) texts rest fs f ∙ sym (line-session s (parseLine (closed text)) (callsOf texts)))
+  lines-session : (s : Session) (texts : List (List ℕ)) (rest : List ℕ) → All NewlineFree texts → NewlineFree rest
+      → feedState n (lineStart s) (flatMap closed texts ++ rest) .session ≡ sessionBy n s (map closed texts)
+  unfolding flatMap sessionBy
+  lines-session s [] rest fs f = rest-session s rest f
+  lines-session s (text ∷ texts) rest (cons free fs) f =
+      let more : List ℕ = flatMap closed texts ++ rest in
+      let joined : (closed text ++ flatMap closed texts) ++ rest ≡ closed text ++ more = append-assoc (closed text) (flatMap closed texts) rest in
+      rw (joined, state-first n s text free more) (lines-session (answerLine n s (closed text) .session) texts rest fs f)
 
 pub transcript-holds : Transcript
-unfolding transcript feedStart
+unfolding transcript feedStart newSession
 transcript-holds =
     record {
       lines-of = λ input. let l = lines-in input in (l .texts, l .rest, l .free, l .free-rest, l .whole);
-      output = output newSession;
-      session = session newSession;
+      output = λ n. output n newSession;
+      session = λ n texts rest fs f. lines-session n newSession texts rest fs f ∙ session-by n newSession refl (map closed texts);
     }

@@ -7,6 +7,7 @@ pub mod Cutting
 pub mod Progress
 pub mod Tries
 pub mod OrderTries
+pub mod NameTries
 -- The code's own: how it holds its values. No claim.
 pub mod Pieces
 pub mod Blocks

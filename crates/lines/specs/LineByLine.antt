@@ -7,21 +7,22 @@ use Rattle.requests.specs.declared.Refusal.the-variants.{NotInGrammar}
 use Rattle.requests.specs.declared.Answer.the-variants.{Refused}
 use Rattle.sessions.specs.declared.Session.{Session}
 use Rattle.records.specs.Text.{newline}
+use Rattle.names.specs.Lists.{NameLists}
 use Rattle.answers.specs.Replies.{answerText, answerLine}
 use Rattle.lines.specs.Pieces.{NewlineFree}
 use Rattle.lines.specs.Stream.{lineStart, feedState, feedText, endText}
 
 -- bytes without a newline, from the beginning of a line
-pub record LineAnswered (s : Session) (text : List ℕ) : Type 0 where
+pub record LineAnswered (n : NameLists) (s : Session) (text : List ℕ) : Type 0 where
   -- closed by a newline they are answered as a line ..
-  pub reply : feedText (lineStart s) (text ++ newline ∷ []) ≡ answerLine s (text ++ newline ∷ []) .text
+  pub reply : feedText n (lineStart s) (text ++ newline ∷ []) ≡ answerLine n s (text ++ newline ∷ []) .text
   -- .. and the next line begins in the session that this leaves
-  pub next : feedState (lineStart s) (text ++ newline ∷ []) ≡ lineStart (answerLine s (text ++ newline ∷ []) .session)
+  pub next : feedState n (lineStart s) (text ++ newline ∷ []) ≡ lineStart (answerLine n s (text ++ newline ∷ []) .session)
   -- before the newline nothing is answered
-  pub silent : feedText (lineStart s) text ≡ []
+  pub silent : feedText n (lineStart s) text ≡ []
   -- where the input ends without it, they are answered 1, unless there are none
-  pub ended : text ≢ [] → endText (feedState (lineStart s) text) ≡ answerText (Refused NotInGrammar)
+  pub ended : text ≢ [] → endText (feedState n (lineStart s) text) ≡ answerText (Refused NotInGrammar)
   pub empty : endText (lineStart s) ≡ []
 
 abbrev pub LineByLine : Type 0
-LineByLine = (s : Session) (text : List ℕ) → NewlineFree text → LineAnswered s text
+LineByLine = (n : NameLists) (s : Session) (text : List ℕ) → NewlineFree text → LineAnswered n s text

@@ -2,12 +2,13 @@
 use mathlib.Core.List.{List, _∷_}
 use Prim.Native.Nat.{ℕ, _<_, _≤_}
 use lib.ListN.{length}
+use Rattle.names.specs.Lists.{NameLists}
 use Rattle.answers.specs.Written.{replyRoom}
 use Rattle.lines.specs.Stream.{feedText}
 use Rattle.lines.specs.Blocks.{takenOf, takenFrom}
 use Rattle.lines.specs.declared.Feed.{Feed}
 
 pub record Progress : Type 0 where
-  pub some : (f : Feed) (b : ℕ) (bs : List ℕ) (room : ℕ) → replyRoom ≤ room → 0 < takenOf room f (b ∷ bs)
-  pub no-more : (f : Feed) (block : List ℕ) (room : ℕ) → takenOf room f block ≤ length block
-  pub held : (f : Feed) (block : List ℕ) (room : ℕ) → length (feedText f (takenFrom f block room)) ≤ room
+  pub some : (n : NameLists) (f : Feed) (b : ℕ) (bs : List ℕ) (room : ℕ) → replyRoom ≤ room → 0 < takenOf n room f (b ∷ bs)
+  pub no-more : (n : NameLists) (f : Feed) (block : List ℕ) (room : ℕ) → takenOf n room f block ≤ length block
+  pub held : (n : NameLists) (f : Feed) (block : List ℕ) (room : ℕ) → length (feedText n f (takenFrom n f block room)) ≤ room

@@ -1,4 +1,4 @@
--- The line program as a fold over bytes: the state after each byte, and the text that it gives.
+-- The line program as a fold over bytes: the state after each byte, and the text that it gives, with two lists of names.
 use mathlib.Core.Bool.{Bool, true, false}
 use mathlib.Core.List.{List, [], _∷_, _++_}
 use Prim.Native.Nat.{ℕ, _+_}
@@ -10,7 +10,9 @@ use Rattle.requests.specs.Choice.{either, pick}
 use Rattle.sessions.specs.declared.Session.{Session}
 use Rattle.sessions.specs.Sessions.{newSession}
 use Rattle.records.specs.Text.{newline}
-use Rattle.records.specs.Parse.{longest, parseText}
+use Rattle.records.specs.Parse.{longest}
+use Rattle.names.specs.Lists.{NameLists}
+use Rattle.parser.specs.ParseWith.{parseTextWith}
 use Rattle.answers.specs.Replies.{Reply, answerText, parsedReply}
 use Rattle.lines.specs.declared.Feed.{Feed}
 
@@ -23,8 +25,8 @@ unfoldable pub feedStart : Feed
 feedStart = lineStart newSession
 
 -- the reply to the line that has just ended
-unfoldable pub lineReply : Feed → Reply
-lineReply f = parsedReply (f .session) (parseText (take (f .used) (f .kept)) true (f .long))
+unfoldable pub lineReply : NameLists → Feed → Reply
+lineReply n f = parsedReply (f .session) (parseTextWith n (f .session .setup .device) (take (f .used) (f .kept)) true (f .long))
 
 -- a byte of an unfinished line, of which 80 are kept
 unfoldable pub keepByte : Feed → ℕ → Feed
@@ -35,22 +37,22 @@ keepByte f b =
     ]
 
 -- the state after a byte
-unfoldable pub byteState : Feed → ℕ → Feed
-byteState f b = elim (eqb b newline) [ true ↦ lineStart (lineReply f .session) | false ↦ keepByte f b ]
+unfoldable pub byteState : NameLists → Feed → ℕ → Feed
+byteState n f b = elim (eqb b newline) [ true ↦ lineStart (lineReply n f .session) | false ↦ keepByte f b ]
 
 -- the text that it gives
-unfoldable pub byteText : Feed → ℕ → List ℕ
-byteText f b = elim (eqb b newline) [ true ↦ lineReply f .text | false ↦ [] ]
+unfoldable pub byteText : NameLists → Feed → ℕ → List ℕ
+byteText n f b = elim (eqb b newline) [ true ↦ lineReply n f .text | false ↦ [] ]
 
 -- the state after a run of bytes
-unfoldable pub feedState : Feed → List ℕ → Feed
-feedState f [] = f
-feedState f (b ∷ bs) = feedState (byteState f b) bs
+unfoldable pub feedState : NameLists → Feed → List ℕ → Feed
+feedState n f [] = f
+feedState n f (b ∷ bs) = feedState n (byteState n f b) bs
 
 -- the text that it gives
-unfoldable pub feedText : Feed → List ℕ → List ℕ
-feedText f [] = []
-feedText f (b ∷ bs) = byteText f b ++ feedText (byteState f b) bs
+unfoldable pub feedText : NameLists → Feed → List ℕ → List ℕ
+feedText n f [] = []
+feedText n f (b ∷ bs) = byteText n f b ++ feedText n (byteState n f b) bs
 
 -- whether a line has begun and not ended
 unfoldable pub unfinished : Feed → Bool
@@ -65,5 +67,5 @@ unfoldable pub endReply : Feed → Reply
 endReply f = record { text = endText f; session = f .session }
 
 -- the whole output of a whole input
-unfoldable pub transcript : List ℕ → List ℕ
-transcript input = feedText feedStart input ++ endText (feedState feedStart input)
+unfoldable pub transcript : NameLists → List ℕ → List ℕ
+transcript n input = feedText n feedStart input ++ endText (feedState n feedStart input)

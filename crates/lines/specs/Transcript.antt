@@ -1,6 +1,7 @@
--- The whole output of a whole input: the replies to its lines, one after another, each in the session that the last one left.
+-- The whole output of a whole input: the replies to its lines, one after another, each in the session that the last one left, with the same two
+-- lists of names.
 use mathlib.Core.Path.{_≡_}
-use mathlib.Core.List.{List, [], _∷_, _++_, flatMap}
+use mathlib.Core.List.{List, [], _∷_, _++_, map, flatMap}
 use Prim.Native.Nat.{ℕ}
 use Rattle.requests.specs.declared.Refusal.the-variants.{NotInGrammar}
 use Rattle.requests.specs.declared.Answer.the-variants.{Refused}
@@ -9,9 +10,9 @@ use Rattle.sessions.specs.declared.Session.{Session}
 use Rattle.sessions.specs.Calls.{Call}
 use Rattle.sessions.specs.Sessions.{newSession, sessionAfter}
 use Rattle.records.specs.Text.{newline}
-use Rattle.records.specs.Parse.{parseLine}
+use Rattle.names.specs.Lists.{NameLists}
 use Rattle.answers.specs.Replies.{answerText, answerLine}
-use Rattle.answers.specs.LinesAreCalls.{callsIn}
+use Rattle.answers.specs.LineLists.{callsBy}
 use Rattle.lines.specs.Pieces.{NewlineFree}
 use Rattle.lines.specs.Stream.{feedStart, feedState, transcript}
 
@@ -20,9 +21,9 @@ abbrev pub closed : List ℕ → List ℕ
 closed text = text ++ newline ∷ []
 
 -- the replies to lines
-unfoldable pub repliesTo : Session → List (List ℕ) → List ℕ
-repliesTo s [] = []
-repliesTo s (text ∷ texts) = answerLine s (closed text) .text ++ repliesTo (answerLine s (closed text) .session) texts
+unfoldable pub repliesTo : NameLists → Session → List (List ℕ) → List ℕ
+repliesTo n s [] = []
+repliesTo n s (text ∷ texts) = answerLine n s (closed text) .text ++ repliesTo n (answerLine n s (closed text) .session) texts
 
 -- at the end: a line without its newline is answered 1, and no line is not
 unfoldable pub atEnd : List ℕ → List ℕ
@@ -30,15 +31,15 @@ atEnd [] = []
 atEnd (b ∷ bs) = answerText (Refused NotInGrammar)
 
 -- the calls of lines
-unfoldable pub callsOf : List (List ℕ) → List Call
-callsOf texts = flatMap (λ (text : List ℕ). callsIn (parseLine (closed text))) texts
+abbrev pub callsOf : NameLists → List (List ℕ) → List Call
+callsOf n texts = callsBy n (map closed texts)
 
 pub record Transcript : Type 0 where
   -- every input is lines, and a rest without a newline
   pub lines-of : (input : List ℕ) → (texts : List (List ℕ)) × (rest : List ℕ) × All NewlineFree texts × NewlineFree rest × (input ≡ flatMap closed texts ++ rest)
   -- its output is their replies
-  pub output : (texts : List (List ℕ)) (rest : List ℕ) → All NewlineFree texts → NewlineFree rest
-      → transcript (flatMap closed texts ++ rest) ≡ repliesTo newSession texts ++ atEnd rest
+  pub output : (n : NameLists) (texts : List (List ℕ)) (rest : List ℕ) → All NewlineFree texts → NewlineFree rest
+      → transcript n (flatMap closed texts ++ rest) ≡ repliesTo n newSession texts ++ atEnd rest
   -- and the session afterwards is the one that their calls leave
-  pub session : (texts : List (List ℕ)) (rest : List ℕ) → All NewlineFree texts → NewlineFree rest
-      → feedState feedStart (flatMap closed texts ++ rest) .session ≡ sessionAfter newSession (callsOf texts)
+  pub session : (n : NameLists) (texts : List (List ℕ)) (rest : List ℕ) → All NewlineFree texts → NewlineFree rest
+      → feedState n feedStart (flatMap closed texts ++ rest) .session ≡ sessionAfter newSession (callsOf n texts)

@@ -5,7 +5,8 @@ use Prim.Native.Nat.{ℕ}
 use Prim.Native.String.{String}
 use Rattle.requests.specs.declared.Entry.{Entry}
 use Rattle.sessions.specs.Sessions.{queued}
-use Rattle.answers.specs.Examples.{typed}
+use Rattle.names.specs.Lists.{NameLists}
+use Rattle.records.specs.Examples.{typed}
 use Rattle.lines.specs.Stream.{feedStart, feedState, transcript}
 
 -- "Whole input (blanks stand for tabs, in the output too)", "Whole output, no header", and the ids waiting afterwards
@@ -19,10 +20,14 @@ pub record Outcome : Type 0 where
   pub text : List ℕ
   pub ids : List ℕ
 
--- what an input gives
+-- what an input gives with two lists of names
+unfoldable pub outcomeWith : NameLists → Try → Outcome
+outcomeWith n t =
+    record { text = transcript n (typed (t .input)); ids = map (λ (e : Entry). e .id) (queued (feedState n feedStart (typed (t .input)) .session)) }
+
+-- what it gives without names
 unfoldable pub outcome : Try → Outcome
-outcome t =
-    record { text = transcript (typed (t .input)); ids = map (λ (e : Entry). e .id) (queued (feedState feedStart (typed (t .input)) .session)) }
+outcome t = outcomeWith (record { site = []; house = [] }) t
 
 -- what it must give
 unfoldable pub expected : Try → Outcome

@@ -1,12 +1,14 @@
 // Pieces of a line: kept until the line ends, and parsed then.
 use crate::Extent;
 use crate::LONGEST;
+use parser::parse::parse_text;
 use records::Parsed;
-use records::parse::parse_text;
+use requests::Device;
 ghost use mathlib.Core.Path.{_≡_};
 ghost use lib.Dec.{ltb};
 ghost use lib.ListN.{take};
 ghost use Rattle.requests.specs.Choice.{either, pick};
+ghost use Rattle.names.specs.Lists.{NameLists};
 ghost use Rattle.lines.specs.Pieces.{NewlineFree, KeptOn, EndedLine};
 
 // Whether a line has begun.
@@ -60,11 +62,19 @@ fn start_of<'a>(text: &'a [u8], n: usize) -> &'a [u8]
     text
 }
 
-// What a line is that ends with a piece.
+// What a line asks for that ends with a piece.
 // One call of `parse_text` serves a kept line and a whole one, so that it is compiled into the caller's loop.
-pub fn parse_ended(kept: &mut [u8; LONGEST], used: usize, long: bool, piece: &[u8]) -> Parsed
+pub fn parse_ended<'a>(
+    kept: &mut [u8; LONGEST],
+    used: usize,
+    long: bool,
+    piece: &[u8],
+    device: Device,
+    site: &'a [u8],
+    house: &'a [u8],
+) -> Parsed
     requires { ⌜ NewlineFree (now piece) ⌝ }
-    ensures { λ r. ⌜ EndedLine (now (kept .entry)) used long (now (piece .entry)) r ⌝ }
+    ensures { λ r. ⌜ EndedLine (record { site = now (site .entry); house = now (house .entry) }) device (now (kept .entry)) used long (now (piece .entry)) r ⌝ }
 {
     let carried = begun(used, long);
     let mut ended = Extent {
@@ -75,5 +85,12 @@ pub fn parse_ended(kept: &mut [u8; LONGEST], used: usize, long: bool, piece: &[u
         ended = keep(kept, used, long, piece);
     }
     let line = line_of(carried, kept, piece);
-    parse_text(start_of(line, ended.used), true, ended.long)
+    parse_text(
+        start_of(line, ended.used),
+        true,
+        ended.long,
+        device,
+        site,
+        house,
+    )
 }

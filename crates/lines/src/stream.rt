@@ -13,6 +13,7 @@ use planner::open::new_session;
 use sessions::Session;
 ghost use mathlib.Core.Path.{_≡_};
 ghost use lib.ListN.{length};
+ghost use Rattle.names.specs.Lists.{NameLists};
 ghost use Rattle.answers.specs.Written.{inArray};
 ghost use Rattle.lines.specs.Stream.{lineStart, feedStart, endReply};
 ghost use Rattle.lines.specs.Pieces.{stateOf};
@@ -60,11 +61,12 @@ fn fed(
     }
 }
 
-// Takes bytes of a block while the output has room for any reply, and writes the replies.
+// Takes bytes of a block while the output has room for any reply, and writes the replies. Names are looked up in the site's
+// list and the house's.
 // The parts of the state are locals, since a struct is copied whole wherever it is handed on.
-pub fn feed(feed: Feed, block: &[u8], out: &mut [u8]) -> Fed
-    ensures answer { λ r. ⌜ r ≡ fedOf feed (now (block .entry)) (length (now (out .entry))) ⌝ }
-    ensures output { λ _. ⌜ now (out .exit) ≡ fedOut feed (now (block .entry)) (now (out .entry)) ⌝ }
+pub fn feed<'a>(feed: Feed, block: &[u8], site: &'a [u8], house: &'a [u8], out: &mut [u8]) -> Fed
+    ensures answer { λ r. ⌜ r ≡ fedOf (record { site = now (site .entry); house = now (house .entry) }) feed (now (block .entry)) (length (now (out .entry))) ⌝ }
+    ensures output { λ _. ⌜ now (out .exit) ≡ fedOut (record { site = now (site .entry); house = now (house .entry) }) feed (now (block .entry)) (now (out .entry)) ⌝ }
 {
     let mut session = feed.session;
     let mut kept = feed.kept;
@@ -81,7 +83,17 @@ pub fn feed(feed: Feed, block: &[u8], out: &mut [u8]) -> Fed
             let rest = keep(&mut kept, used, long, &block[taken..]);
             return fed(session, kept, rest.used, rest.long, end, written);
         }
-        let parsed = parse_ended(&mut kept, used, long, &block[taken..end]);
+        let setup = session.setup;
+        let device = setup.device;
+        let parsed = parse_ended(
+            &mut kept,
+            used,
+            long,
+            &block[taken..end],
+            device,
+            site,
+            house,
+        );
         let replied = reply(session, parsed, &mut out[written..]);
         session = replied.session;
         kept = [0u8; LONGEST];
@@ -102,7 +114,7 @@ pub fn end(state: Feed) -> LineReply
     if begun(state.used, state.long) {
         let mut longer = state;
         longer.long = true;
-        let last = feed(longer, b"\n", &mut text);
+        let last = feed(longer, b"\n", b"", b"", &mut text);
         let next = last.feed;
         let session = next.session;
         return LineReply {

@@ -21,6 +21,7 @@ use std::num::wrapping_add_usize;
 ghost use mathlib.Core.Path.{_≡_};
 ghost use Prim.Native.Nat.{_≤_};
 ghost use lib.ListN.{length};
+ghost use Rattle.names.specs.Lists.{NameLists};
 ghost use Rattle.descriptors.specs.Writes.{Reached};
 ghost use Rattle.relay.specs.Passing.{Passing};
 ghost use Rattle.relay.specs.Fitness.{Unfit};
@@ -44,15 +45,22 @@ pub enum Ending {
 }
 
 // Answers a block: what the output holds is written before more of the block is answered.
-fn pass_block(state: Feed, block: &[u8], output: i32, out: &mut [u8]) -> Passed
+fn pass_block<'a>(
+    state: Feed,
+    block: &[u8],
+    site: &'a [u8],
+    house: &'a [u8],
+    output: i32,
+    out: &mut [u8],
+) -> Passed
     requires { ⌜ replyRoom ≤ length (now out) ⌝ }
-    ensures { λ r. ⌜ Passing state (now (block .entry)) r ⌝ }
+    ensures { λ r. ⌜ Passing (record { site = now (site .entry); house = now (house .entry) }) state (now (block .entry)) r ⌝ }
 {
     let mut current = state;
     let mut taken = 0;
     let mut sent = 0;
     while taken < block.len() {
-        let fed = feed(current, &block[taken..], out);
+        let fed = feed(current, &block[taken..], site, house, out);
         current = fed.feed;
         taken += fed.taken;
         let n = fed.written;
@@ -85,7 +93,14 @@ fn send_first(output: i32, text: &[u8], n: usize) -> Writing
 }
 
 // Answers what is read, block by block, and then the end of the input.
-fn answer_all(input: i32, output: i32, block: &mut [u8], out: &mut [u8]) -> Next
+fn answer_all<'a>(
+    input: i32,
+    output: i32,
+    site: &'a [u8],
+    house: &'a [u8],
+    block: &mut [u8],
+    out: &mut [u8],
+) -> Next
     requires { ⌜ replyRoom ≤ length (now out) ⌝ }
 {
     let mut state = start();
@@ -97,7 +112,7 @@ fn answer_all(input: i32, output: i32, block: &mut [u8], out: &mut [u8]) -> Next
         if n == 0 {
             break;
         }
-        let passed = pass_block(state, &block[..n], output, out);
+        let passed = pass_block(state, &block[..n], site, house, output, out);
         let ended = passed.next;
         if !is_complete(ended) {
             return ended;
@@ -112,9 +127,17 @@ fn answer_all(input: i32, output: i32, block: &mut [u8], out: &mut [u8]) -> Next
     last_of(reading, ended)
 }
 
-// Answers the lines that come from the input, a session of their own, until it ends, or a read or write fails.
+// Answers the lines that come from the input, a session of their own, until it ends, or a read or write fails. Names are looked
+// up in the site's list and the house's.
 // A block without a byte is refused, and so is an output without room for a reply: neither is used then.
-pub fn answer_input(input: i32, output: i32, block: &mut [u8], out: &mut [u8]) -> Ending
+pub fn answer_input<'a>(
+    input: i32,
+    output: i32,
+    site: &'a [u8],
+    house: &'a [u8],
+    block: &mut [u8],
+    out: &mut [u8],
+) -> Ending
     ensures refused { λ r. ⌜ (Unfit (now (block .entry)) (now (out .entry)) → r ≡ Ending.Refused) ⌝ }
     ensures fit { λ r. ⌜ (r ≡ Ending.Refused → Unfit (now (block .entry)) (now (out .entry))) ⌝ }
     ensures unused { λ _. ⌜ (Unfit (now (block .entry)) (now (out .entry)) → (now (block .exit) ≡ now (block .entry)) × (now (out .exit) ≡ now (out .entry))) ⌝ }
@@ -125,5 +148,5 @@ pub fn answer_input(input: i32, output: i32, block: &mut [u8], out: &mut [u8]) -
     if out.len() < REPLY_ROOM {
         return Ending::Refused;
     }
-    ending_of(answer_all(input, output, block, out))
+    ending_of(answer_all(input, output, site, house, block, out))
 }

@@ -11,10 +11,10 @@ use Rattle.relay.proofs.answer_all.Statement.{statement}
 use Rattle.relay.proofs.answer_all.Tie as tie
 
 abbrev Inv-loop : tie.InvT-loop
-Inv-loop input output block₀ out₀ state₀ reading₀ turns₀ block out state reading turns = (length block ≡ length block₀) × (length out ≡ length out₀)
+Inv-loop input output site house block₀ out₀ state₀ reading₀ turns₀ block out state reading turns = (length block ≡ length block₀) × (length out ≡ length out₀)
 
 abbrev μ-loop : tie.MeasureT-loop
-μ-loop input output block₀ out₀ state₀ reading₀ turns₀ block out state reading turns = turns
+μ-loop input output site house block₀ out₀ state₀ reading₀ turns₀ block out state reading turns = turns
 
 start-requires : tie.Need-start-requires Inv-loop μ-loop
 start-requires c κs = search needs

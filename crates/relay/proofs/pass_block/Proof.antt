@@ -10,6 +10,7 @@ use borrow.Author.Tests.{not-true, not-false}
 use lib.ListN.{length}
 use lib.Seq.{length-take-le, take-all}
 use Rattle.answers.specs.Written.{replyRoom}
+use Rattle.names.specs.Lists.{NameLists}
 use Rattle.lines.specs.Stream.{feedText}
 use Rattle.descriptors.specs.Writes.{isComplete}
 use Rattle.descriptors.specs.declared.Next.the-variants.{Complete}
@@ -19,22 +20,22 @@ use Rattle.relay.proofs.pass_block.Statement.{statement}
 use Rattle.relay.proofs.pass_block.Tie as tie
 
 abbrev Inv-loop : tie.InvT-loop
-Inv-loop block output out₀ current₀ taken₀ sent₀ out current taken sent = PassedSoFar current₀ block current taken sent × (length out ≡ length out₀) × (replyRoom ≤ length out)
+Inv-loop block site house output out₀ current₀ taken₀ sent₀ out current taken sent = PassedSoFar (record { site = site; house = house }) current₀ block current taken sent × (length out ≡ length out₀) × (replyRoom ≤ length out)
 
 abbrev μ-loop : tie.MeasureT-loop
-μ-loop block output out₀ current₀ taken₀ sent₀ out current taken sent = length block - taken
+μ-loop block site house output out₀ current₀ taken₀ sent₀ out current taken sent = length block - taken
 
 -- what the turn's call of `feed` adds
 part : (c : tie.After-struct-known Inv-loop μ-loop)
     → let l = c .before .before .before .before .before .before .before .before .loop in
-    let a = c .before .before .before .before .before .before .before .before .before .before .before .args in
-    PartPassed (a .state) (now (a .block)) (l .taken) (l .sent) (length (l .out)) (c .before .before .before .before .feed .result)
+    let a = c .before .before .before .before .before .before .before .before .before .before .before .before .before .args in
+    PartPassed (record { site = now (a .site); house = now (a .house) }) (a .state) (now (a .block)) (l .taken) (l .sent) (length (l .out)) (c .before .before .before .before .feed .result)
 part c =
     let l = c .before .before .before .before .before .before .before .before .loop in
     part-passed (length (l .out)) (l .inv .0) (omega arith) (l .inv .2) (c .before .before .before .before .feed .ensures .0)
 
 loop-holds : tie.Need-loop-holds Inv-loop μ-loop
-loop-holds c = (passed-none _ _, refl, c .before .before .pre)
+loop-holds c = (passed-none _ _ _, refl, c .before .before .before .before .pre)
 
 sub-feed : tie.Need-sub-feed Inv-loop μ-loop
 sub-feed c = c .before .loop .inv .0 .within
@@ -49,7 +50,7 @@ feed-requires : tie.Need-feed-requires Inv-loop μ-loop
 feed-requires c κs = tt
 
 add-taken : tie.Need-add-taken Inv-loop μ-loop
-add-taken c = omega (arith, part c .within, c .before .before .before .before .before .before .before .before .before .before .before .good)
+add-taken c = omega (arith, part c .within, c .before .before .before .before .before .before .before .before .before .before .before .before .before .good)
 
 slice-reshare-prefix-send : tie.Need-slice-reshare-prefix-send Inv-loop μ-loop
 slice-reshare-prefix-send c = omega (arith, part c .held)
@@ -57,7 +58,7 @@ slice-reshare-prefix-send c = omega (arith, part c .held)
 slice-aggregate-send : tie.Need-slice-aggregate-send Inv-loop μ-loop
 slice-aggregate-send c =
     let f = c .before .before .before .before .before .feed in
-    sym (length-take-le (f .result .written) (f .last .1 .1 .0) (omega (arith, part (c .before) .held)))
+    sym (length-take-le (f .result .written) (f .last .1 .1 .1 .1 .0) (omega (arith, part (c .before) .held)))
 
 send-requires : tie.Need-send-requires Inv-loop μ-loop
 send-requires c κs = tt
@@ -88,7 +89,7 @@ loop-again c =
     let l = c .before .before .before .before .before .before .before .before .before .before .before .before .before .loop in
     let p = part (c .before .before .before .before .before) in
     let full : s .result .next ≡ Complete = complete-is (s .result .next) (sym (c .before .is-complete .ensures) ∙ not-false (c .before .is-complete .result) (c .if1 .left)) in
-    let done : s .result .done ≡ f .result .written = known (s .ensures) .complete full ∙ length-take-le (f .result .written) (f .last .1 .1 .0) (omega (arith, p .held)) in
+    let done : s .result .done ≡ f .result .written = known (s .ensures) .complete full ∙ length-take-le (f .result .written) (f .last .1 .1 .1 .1 .0) (omega (arith, p .held)) in
     let total = c .before .before .wrapping-add-usize .ensures ∙ ap (λ (d : ℕ). (l .sent + d) % 2 ^ 64) done in
     (record { within = p .within; state = p .state; count = p .count _ total }, search needs, omega arith)
 
@@ -98,11 +99,11 @@ same-length-2 c = c .before .loop .inv .1
 returns-2 : tie.Need-returns-2 Inv-loop μ-loop
 returns-2 c =
     let l = c .before .loop in
-    let a = c .before .before .before .before .args in
+    let a = c .before .before .before .before .before .before .args in
     record {
       state = l .inv .0 .state;
       all = λ e. omega (arith, l .inv .0 .within);
-      replies = λ e. l .inv .0 .count ∙ ap (λ (t : List ℕ). length (feedText (a .state) t) % 2 ^ 64) (take-all (l .taken) (now (a .block)) (omega arith));
+      replies = λ e. l .inv .0 .count ∙ ap (λ (t : List ℕ). length (feedText (record { site = now (a .site); house = now (a .house) }) (a .state) t) % 2 ^ 64) (take-all (l .taken) (now (a .block)) (omega arith));
     }
 
 pub pass-block-spec : {M : Type 1} → statement M

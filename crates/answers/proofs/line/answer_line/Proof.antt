@@ -20,8 +20,8 @@ unfolding replyRoom
 returns c =
     let answered = c .before .before .reply in
     let parsed = c .before .before .before .before in
-    let a = parsed .before .before .args in
-    array-reply (a .session) (now (a .line)) (parsed .parse-line .result) (answered .result) _ (parsed .parse-line .ensures) (answered .ensures .0) (answered .ensures .1)
+    let a = parsed .before .before .before .before .before .args in
+    array-reply _ (a .session) (now (a .line)) (parsed .parse-line .result) (answered .result) _ (parsed .parse-line .ensures) (answered .ensures .0) (answered .ensures .1)
 
 pub answer-line-spec : {M : Type 1} → statement M
 answer-line-spec =

@@ -7,6 +7,7 @@ use lib.ListN.{length, drop}
 use lib.Seq.{drop-length}
 use Rattle.records.specs.Parse.{longest}
 use Rattle.sessions.specs.declared.Session.{Session}
+use Rattle.names.specs.Lists.{NameLists}
 use Rattle.lines.specs.Pieces.{NewlineFree, stateOf}
 use Rattle.lines.specs.Stream.{feedState}
 use Rattle.lines.proofs.Runs.{free-more, keep-more, keep-no-more}
@@ -15,20 +16,20 @@ use Rattle.lines.proofs.pieces.keep.Tie as tie
 
 abbrev Inv-loop : tie.InvT-loop
 Inv-loop kept₀ used long piece next₀ i₀ kept next i =
-    (i ≤ length piece) × NewlineFree (drop i piece) × ((s : Session) → feedState (stateOf s kept next long) (drop i piece) ≡ feedState (stateOf s kept₀ next₀ long) piece)
+    (i ≤ length piece) × NewlineFree (drop i piece) × ((n : NameLists) (s : Session) → feedState n (stateOf s kept next long) (drop i piece) ≡ feedState n (stateOf s kept₀ next₀ long) piece)
 
 abbrev μ-loop : tie.MeasureT-loop
 μ-loop kept₀ used long piece next₀ i₀ kept next i = length piece - i
 
 loop-holds : tie.Need-loop-holds Inv-loop μ-loop
-loop-holds c = (omega arith, c .pre, λ s. refl)
+loop-holds c = (omega arith, c .pre, λ n s. refl)
 
 returns : tie.Need-returns Inv-loop μ-loop
 unfolding longest
 returns c =
     let l = c .before .before .loop in
     let a = c .before .before .before .args in
-    λ s. sym (keep-no-more (now (a .piece)) (l .i) (omega arith) (l .inv .1) (stateOf s (l .kept) (l .next) (a .long)) (omega arith) ∙ l .inv .2 s)
+    λ n s. sym (keep-no-more (now (a .piece)) (l .i) (omega arith) (l .inv .1) n (stateOf s (l .kept) (l .next) (a .long)) (omega arith) ∙ l .inv .2 n s)
 
 shared-slice-read-kept : tie.Need-shared-slice-read-kept Inv-loop μ-loop
 shared-slice-read-kept c = omega arith
@@ -52,7 +53,7 @@ loop-again c =
     let a = c .before .before .before .before .args in (
       omega arith,
       free-more (now (a .piece)) (l .i) (omega arith) (l .inv .1),
-      λ s. keep-more (now (a .piece)) (l .i) (omega arith) (l .inv .1) (stateOf s (l .kept) (l .next) (a .long)) (omega arith) ∙ l .inv .2 s,
+      λ n s. keep-more (now (a .piece)) (l .i) (omega arith) (l .inv .1) n (stateOf s (l .kept) (l .next) (a .long)) (omega arith) ∙ l .inv .2 n s,
     )
 
 returns-2 : tie.Need-returns-2 Inv-loop μ-loop
@@ -61,7 +62,7 @@ returns-2 c =
     let l = c .before .loop in
     let a = c .before .before .args in
     let e : l .i ≡ length (now (a .piece)) = omega arith in
-    λ s. sym (rw (e, drop-length) at (l .inv .2 s))
+    λ n s. sym (rw (e, drop-length) at (l .inv .2 n s))
 
 pub keep-spec : {M : Type 1} → statement M
 keep-spec =

@@ -27,12 +27,12 @@ returns : tie.Need-returns
 unfolding longest
 returns c =
     let joined = c .before .before .before .before .before in
-    let start = joined .before .before .before in
+    let start = joined .before .before .before .before .before in
     let a = start .args in
     let line = c .before .before in
     let room = line .before .line-of-arg2 .given .0 in
-    let carried = ended-carried (now (a .kept)) (a .used) (a .long) (now (a .piece)) (joined .if1 .kept) (joined .if1 .ended) (line .line-of .ensures) (c .before .start-of .ensures) (c .parse-text .ensures) in
-    let whole = ended-whole (now (a .kept)) (a .used) (a .long) (now (a .piece)) (joined .if1 .kept) (joined .if1 .ended) (line .line-of .ensures) (c .before .start-of .ensures) (c .parse-text .ensures) in
+    let carried = ended-carried _ (a .device) (now (a .kept)) (a .used) (a .long) (now (a .piece)) (joined .if1 .kept) (joined .if1 .ended) (line .line-of .ensures) (c .before .start-of .ensures) (c .parse-text .ensures) in
+    let whole = ended-whole _ (a .device) (now (a .kept)) (a .used) (a .long) (now (a .piece)) (joined .if1 .kept) (joined .if1 .ended) (line .line-of .ensures) (c .before .start-of .ensures) (c .parse-text .ensures) in
     ⊎-elim
     (λ way. carried (way .0 .taken) (rw (way .3, way .4) (way .2 .ensures)))
     (λ way. whole (way .0 .left) (sym (joined .before .begun .ensures) ∙ way .0 .left) (rw (way .1) at room) (start .pre) (way .2))

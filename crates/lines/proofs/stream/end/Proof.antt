@@ -17,6 +17,12 @@ slice-aggregate-feed c = search needs
 slice-aggregate-feed-2 : tie.Need-slice-aggregate-feed-2
 slice-aggregate-feed-2 c = search needs
 
+slice-aggregate-feed-3 : tie.Need-slice-aggregate-feed-3
+slice-aggregate-feed-3 c = search needs
+
+slice-aggregate-feed-4 : tie.Need-slice-aggregate-feed-4
+slice-aggregate-feed-4 c = search needs
+
 feed-requires : tie.Need-feed-requires
 feed-requires c κs = search needs
 
@@ -24,8 +30,8 @@ returns : tie.Need-returns
 unfolding newline replyRoom unfinished
 returns c =
     let fed = c .before .before .before .feed in
-    let tested = c .before .before .before .before .before .before in
-    ended-begun (tested .before .before .args .state) (sym (tested .before .begun .ensures) ∙ tested .if1 .taken) (fed .ensures .0) (fed .ensures .1)
+    let tested = c .before .before .before .before .before .before .before .before in
+    ended-begun _ (tested .before .before .args .state) (sym (tested .before .begun .ensures) ∙ tested .if1 .taken) (fed .ensures .0) (fed .ensures .1)
 
 returns-2 : tie.Need-returns-2
 unfolding replyRoom unfinished
@@ -38,6 +44,8 @@ end-spec =
     begun-requires
     slice-aggregate-feed
     slice-aggregate-feed-2
+    slice-aggregate-feed-3
+    slice-aggregate-feed-4
     feed-requires
     returns
     returns-2)

@@ -15,14 +15,14 @@ use Rattle.lines.proofs.stream.feed.Statement.{statement}
 use Rattle.lines.proofs.stream.feed.Tie as tie
 
 abbrev Inv-loop : tie.InvT-loop
-Inv-loop block out₀ session₀ kept₀ used₀ long₀ taken₀ written₀ out session kept used long taken written =
-    FedSoFar (stateOf session₀ kept₀ used₀ long₀) block out₀ (stateOf session kept used long) taken written out
+Inv-loop block site house out₀ session₀ kept₀ used₀ long₀ taken₀ written₀ out session kept used long taken written =
+    FedSoFar (record { site = site; house = house }) (stateOf session₀ kept₀ used₀ long₀) block out₀ (stateOf session kept used long) taken written out
 
 abbrev μ-loop : tie.MeasureT-loop
-μ-loop block out₀ session₀ kept₀ used₀ long₀ taken₀ written₀ out session kept used long taken written = length block - taken
+μ-loop block site house out₀ session₀ kept₀ used₀ long₀ taken₀ written₀ out session kept used long taken written = length block - taken
 
 loop-holds : tie.Need-loop-holds Inv-loop μ-loop
-loop-holds c = let a = c .before .before .before .before .args in fed-none (a .feed) (now (a .block)) (now (a .out))
+loop-holds c = let a = c .before .before .before .before .before .before .args in fed-none _ (a .feed) (now (a .block)) (now (a .out))
 
 sub-if1 : tie.Need-sub-if1 Inv-loop μ-loop
 sub-if1 c = let l = c .before .loop in omega (arith, l .inv .room, fed-length (l .inv))
@@ -54,9 +54,8 @@ newline-in-requires c κs = tt
 
 add-end : tie.Need-add-end Inv-loop μ-loop
 add-end c =
-    let start = c .before .before .before .before .before .before .before .before .before in
     let l = c .before .before .before .before .loop in
-    omega (arith, left-within (now (start .args .block)) (l .taken) (c .newline-in .ensures), l .inv .within, start .good)
+    omega (arith, left-within (now (c .before .before .before .before .before .before .before .before .before .before .before .args .block)) (l .taken) (c .newline-in .ensures), l .inv .within, c .before .before .before .before .before .before .before .before .before .before .before .good)
 
 sub-keep : tie.Need-sub-keep Inv-loop μ-loop
 sub-keep c = c .before .before .before .before .before .before .loop .inv .within
@@ -68,7 +67,7 @@ part-keep-end : tie.Need-part-keep-end Inv-loop μ-loop
 part-keep-end c = search needs
 
 keep-requires : tie.Need-keep-requires Inv-loop μ-loop
-keep-requires c κs = rest-free (now (c .before .before .before .before .before .before .before .before .before .before .before .before .args .block)) (c .before .before .before .before .before .before .before .loop .taken) (c .before .before .before .newline-in .ensures) (c .before .before .if2 .taken)
+keep-requires c κs = rest-free (now (c .before .before .before .before .before .before .before .before .before .before .before .before .before .before .args .block)) (c .before .before .before .before .before .before .before .loop .taken) (c .before .before .before .newline-in .ensures) (c .before .before .if2 .taken)
 
 fed-requires-2 : tie.Need-fed-requires-2 Inv-loop μ-loop
 fed-requires-2 c κs = tt
@@ -79,11 +78,12 @@ same-length-2 c = fed-length (c .before .before .before .before .before .before 
 returns-2 : tie.Need-returns-2 Inv-loop μ-loop
 unfolding replyRoom
 returns-2 c =
+    let a = c .before .before .before .before .before .before .before .before .before .before .before .before .before .before .before .before .args in
     let l = c .before .before .before .before .before .before .before .before .before .loop in
     let end = c .before .before .before .before .if2 .taken in
-    let free = rest-free (now (c .before .before .before .before .before .before .before .before .before .before .before .before .before .before .args .block)) (l .taken) (c .before .before .before .before .before .newline-in .ensures) end in
+    let free = rest-free (now (a .block)) (l .taken) (c .before .before .before .before .before .newline-in .ensures) end in
     let rest = fed-end (fed-rest (l .inv) free (omega (arith, c .before .before .before .before .before .before .before .if1 .left, fed-length (l .inv)))) refl in
-    (rw (c .fed2 .ensures, ← c .before .keep .ensures (l .session), end) (rest .0), rest .1)
+    (rw (c .fed2 .ensures, ← c .before .keep .ensures (record { site = now (a .site); house = now (a .house) }) (l .session), end) (rest .0), rest .1)
 
 sub-parse-ended : tie.Need-sub-parse-ended Inv-loop μ-loop
 sub-parse-ended c = omega arith
@@ -93,14 +93,14 @@ part-parse-ended-start c = search needs
 
 part-parse-ended-end : tie.Need-part-parse-ended-end Inv-loop μ-loop
 part-parse-ended-end c =
-    let l = c .before .before .before .before .before .before .loop in
-    omega (arith, left-within (now (c .before .before .before .before .before .before .before .before .before .before .before .args .block)) (l .taken) (c .before .before .newline-in .ensures), l .inv .within)
+    let l = c .before .before .before .before .before .before .before .loop in
+    omega (arith, left-within (now (c .before .before .before .before .before .before .before .before .before .before .before .before .before .before .args .block)) (l .taken) (c .before .before .before .newline-in .ensures), l .inv .within)
 
 parse-ended-requires : tie.Need-parse-ended-requires Inv-loop μ-loop
-parse-ended-requires c κs = piece-free (now (c .before .before .before .before .before .before .before .before .before .before .before .before .args .block)) (c .before .before .before .before .before .before .before .loop .taken) (c .before .before .before .newline-in .ensures)
+parse-ended-requires c κs = piece-free (now (c .before .before .before .before .before .before .before .before .before .before .before .before .before .before .before .args .block)) (c .before .before .before .before .before .before .before .before .loop .taken) (c .before .before .before .before .newline-in .ensures)
 
 sub-reply : tie.Need-sub-reply Inv-loop μ-loop
-sub-reply c = let l = c .before .before .before .before .before .before .before .before .loop in omega (arith, l .inv .room, fed-length (l .inv))
+sub-reply c = let l = c .before .before .before .before .before .before .before .before .before .loop in omega (arith, l .inv .room, fed-length (l .inv))
 
 part-reply-start : tie.Need-part-reply-start Inv-loop μ-loop
 part-reply-start c = search needs
@@ -116,24 +116,23 @@ loop-again : tie.Need-loop-again Inv-loop μ-loop
 unfolding replyRoom lineStart longest
 loop-again c =
     let replied = c .before .before .before .before .reply in
-    let found = c .before .before .before .before .before .before .before .before .before in
-    let first = found .before .newline-in .ensures in
-    let l = c .before .before .before .before .before .before .before .before .before .before .before .before .before .before .loop in
-    let block = now (c .before .before .before .before .before .before .before .before .before .before .before .before .before .before .before .before .before .before .before .args .block) in
+    let first = c .before .before .before .before .before .before .before .before .before .before .before .newline-in .ensures in
+    let l = c .before .before .before .before .before .before .before .before .before .before .before .before .before .before .before .loop in
+    let block = now (c .before .before .before .before .before .before .before .before .before .before .before .before .before .before .before .before .before .before .before .before .before .before .args .block) in
     fed-reply
     (l .inv)
     first
-    (omega (arith, left-within block (l .taken) first, l .inv .within, found .if2 .left))
-    (omega (arith, c .before .before .before .before .before .before .before .before .before .before .before .before .if1 .left, fed-length (l .inv)))
-    (c .before .before .before .before .before .before .parse-ended .ensures (l .session))
+    (omega (arith, left-within block (l .taken) first, l .inv .within, c .before .before .before .before .before .before .before .before .before .before .if2 .left))
+    (omega (arith, c .before .before .before .before .before .before .before .before .before .before .before .before .before .if1 .left, fed-length (l .inv)))
+    (c .before .before .before .before .before .before .parse-ended .ensures (l .session) refl)
     (replied .ensures .0)
     (replied .ensures .1)
 
 add-written : tie.Need-add-written Inv-loop μ-loop
-add-written c = omega (arith, loop-again c .room, c .before .before .before .before .before .before .before .before .before .before .before .before .before .before .before .before .before .before .before .good)
+add-written c = omega (arith, loop-again c .room, c .before .before .before .before .before .before .before .before .before .before .before .before .before .before .before .before .before .before .before .before .before .before .good)
 
 add-taken : tie.Need-add-taken Inv-loop μ-loop
-add-taken c = omega (arith, loop-again c .within, c .before .before .before .before .before .before .before .before .before .before .before .before .before .before .before .before .before .before .before .good)
+add-taken c = omega (arith, loop-again c .within, c .before .before .before .before .before .before .before .before .before .before .before .before .before .before .before .before .before .before .before .before .before .before .good)
 
 loop-less : tie.Need-loop-less Inv-loop μ-loop
 loop-less c = omega (arith, loop-again c .within)

@@ -1,0 +1,60 @@
+-- Document 02, order 9: how a request by name is answered, in the words of one who has the two lists and reads the reply.
+use mathlib.Core.Path.{_≡_}
+use mathlib.Core.Logic.{_⊎_}
+use mathlib.Core.Bool.{true, false}
+use mathlib.Core.List.{List, [], _∷_, _++_}
+use Prim.Native.Nat.{ℕ}
+use Rattle.requests.specs.declared.CounterSet.{CounterSet}
+use Rattle.requests.specs.declared.Answer.the-variants.{Refused}
+use Rattle.requests.specs.declared.Refusal.{Refusal}
+use Rattle.requests.specs.declared.Refusal.the-variants.{NotInGrammar, CallOrder, BadId, IdWaiting, KindNotOnDevice, NotListed}
+use Rattle.requests.specs.declared.Request.the-variants.{Event}
+use Rattle.requests.specs.Devices.{letterOf}
+use Rattle.sessions.specs.declared.Session.{Session}
+use Rattle.sessions.specs.RefusalTable.{IsId, Waits}
+use Rattle.sessions.specs.Sessions.{queued}
+use Rattle.records.specs.Text.{newline}
+use Rattle.records.specs.Records.{recordText}
+use Rattle.records.specs.declared.Record.the-variants.{Add}
+use Rattle.names.specs.Lists.{NameLists}
+use Rattle.names.specs.RowGrammar.{RowFits, rowLine, AreLists}
+use Rattle.names.specs.RowsFound.{NoRow, FoundIn}
+use Rattle.names.specs.declared.Row.{Row}
+use Rattle.parser.specs.NamedText.{IsNamed}
+use Rattle.answers.specs.Replies.{answerText, answerLine}
+
+-- the row that a name finds says this
+pub record RowOfName (n : NameLists) (name : List ℕ) (row : Row) : Type 0 where
+  pub text : List ℕ
+  pub found : FoundIn n name text
+  pub fits : RowFits (record { name = name; row = row })
+  pub says : text ++ newline ∷ [] ≡ rowLine (record { name = name; row = row })
+
+-- the line is refused, and changes nothing
+abbrev pub RefusedWith : NameLists → Session → List ℕ → Refusal → Type 0
+RefusedWith n s line x = (answerLine n s line .text ≡ answerText (Refused x)) × (answerLine n s line .session ≡ s)
+
+pub record NamedLines (n : NameLists) (s : Session) (line : List ℕ) (id : ℕ) (name : List ℕ) (a : CounterSet) : Type 0 where
+  -- "An ill-formed row in either list is refused with 1 before any search": in every session, also before open
+  pub ill-formed : ¬ AreLists n → RefusedWith n s line NotInGrammar
+  -- 2, 4 and 5, whatever the name finds
+  pub not-open : AreLists n → s .opened ≡ false → RefusedWith n s line CallOrder
+  pub bad-id : AreLists n → s .opened ≡ true → ¬ IsId id → RefusedWith n s line BadId
+  pub waiting : AreLists n → s .opened ≡ true → IsId id → Waits id (queued s) → RefusedWith n s line IdWaiting
+  -- "a name in neither list gets 8", whatever the allowed set, and in a full queue too
+  pub missing : AreLists n → s .opened ≡ true → IsId id → ¬ Waits id (queued s) → NoRow name (n .site) → NoRow name (n .house)
+      → RefusedWith n s line NotListed
+  -- ".. a found row for another device 7"
+  pub elsewhere : AreLists n → s .opened ≡ true → IsId id → ¬ Waits id (queued s) → (row : Row) → RowOfName n name row
+      → ¬ (letterOf (row .device) ≡ letterOf (s .setup .device)) → RefusedWith n s line KindNotOnDevice
+  -- "A found row is used as the same request typed in numbers would be, all later refusals included": text and session
+  pub as-numbers : AreLists n → (row : Row) → RowOfName n name row → letterOf (row .device) ≡ letterOf (s .setup .device)
+      → answerLine n s line ≡ answerLine n s (recordText (Add id (Event (row .code) (row .mask) a)))
+
+pub record NamesAnswered : Type 0 where
+  -- a name finds a row in well-formed lists, or there is none
+  pub settled : (n : NameLists) (name : List ℕ) → AreLists n → (NoRow name (n .site) × NoRow name (n .house)) ⊎ ((row : Row) × RowOfName n name row)
+  pub named : (n : NameLists) (s : Session) (line : List ℕ) (id : ℕ) (name : List ℕ) (a : CounterSet) → IsNamed line id name a → NamedLines n s line id name a
+  -- no other line looks at the lists
+  pub others : (n m : NameLists) (s : Session) (line : List ℕ) → ((id : ℕ) (name : List ℕ) (a : CounterSet) → ¬ IsNamed line id name a)
+      → answerLine n s line ≡ answerLine m s line
