@@ -3,7 +3,7 @@
 // The blocks are short and the output has room for little more than one reply, so lines are cut, and blocks are answered in parts.
 use libc::STDOUT_FILENO;
 
-// Answers a file's lines.
+// Answers a file's lines, with no names.
 fn answer_file(path: &[u8]) {
     let input = os::open_read(path);
     if input < 0 {
@@ -12,7 +12,7 @@ fn answer_file(path: &[u8]) {
     }
     let mut block = [0u8; 61];
     let mut out = [0u8; 2100];
-    relay::answer_input(input, STDOUT_FILENO, &mut block, &mut out);
+    relay::answer_input(input, STDOUT_FILENO, b"", b"", &mut block, &mut out);
     libc::close(input);
 }
 
