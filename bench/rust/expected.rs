@@ -2,6 +2,8 @@
 #![allow(dead_code)]
 
 use crate::answer::{answer, Output, LONGEST_ANSWER};
+use crate::names::model::Plain;
+use crate::names::Texts;
 use crate::planner::model::Session;
 use crate::planner::Calls;
 
@@ -11,9 +13,10 @@ pub struct Expected {
     pub after: Vec<usize>,
 }
 
-/// Answers a transcript, and shows of each line the session before it, its bytes and its answer.
-pub fn expected(transcript: &[u8], mut show: impl FnMut(&Session, &[u8], &[u8])) -> Expected {
+/// Answers a transcript with these lists, and shows of each line the session before it, its bytes and its answer.
+pub fn expected(transcript: &[u8], texts: &Texts, mut show: impl FnMut(&Session, &[u8], &[u8])) -> Expected {
     let mut session = Session::new();
+    let lists = Plain::of(texts);
     let mut block = [0; LONGEST_ANSWER];
     let mut expected = Expected { bytes: Vec::new(), after: Vec::new() };
     for part in transcript.split_inclusive(|&byte| byte == b'\n') {
@@ -21,7 +24,7 @@ pub fn expected(transcript: &[u8], mut show: impl FnMut(&Session, &[u8], &[u8]))
         let mut out = Output { block: &mut block, used: 0 };
         let line = part.strip_suffix(b"\n");
         match line {
-            Some(line) => answer(&mut session, line, &mut out),
+            Some(line) => answer(&mut session, &lists, line, &mut out),
             None => out.refuse(1),
         }
         let answered = &out.block[..out.used];

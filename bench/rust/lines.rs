@@ -6,6 +6,7 @@ mod answer;
 #[path = "line_program/call.rs"]
 mod call;
 mod instructions;
+mod names;
 mod numbers;
 mod planner;
 mod processor;

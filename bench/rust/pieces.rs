@@ -27,9 +27,10 @@ fn collect(mut stdout: ChildStdout) -> Receiver<Vec<u8>> {
     receiver
 }
 
-/// What the program writes; `after` says how much of it is due after each newline sent.
-pub fn output_of(program: &str, transcript: &[u8], after: &[usize], numbers: &mut Numbers) -> Vec<u8> {
-    let mut child = Command::new(program).stdin(Stdio::piped()).stdout(Stdio::piped()).spawn().expect("a program");
+/// What the program with these arguments writes; `after` says how much of it is due after each newline sent.
+pub fn output_of(program: &str, words: &[&str], transcript: &[u8], after: &[usize], numbers: &mut Numbers) -> Vec<u8> {
+    let mut child = Command::new(program);
+    let mut child = child.args(words).stdin(Stdio::piped()).stdout(Stdio::piped()).spawn().expect("a program");
     let mut stdin = child.stdin.take().expect("a pipe");
     let answers = collect(child.stdout.take().expect("a pipe"));
     let longest = numbers.pick(&[1, 7, 40, 300]);

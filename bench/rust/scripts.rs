@@ -5,6 +5,7 @@
 mod answer;
 #[path = "line_program/call.rs"]
 mod call;
+mod names;
 mod numbers;
 mod planner;
 mod random_script;

@@ -1,10 +1,13 @@
 //! How often each answer was given on each device, and how many turns there were of each kind.
 
+use crate::call::{call_of, Call};
 use crate::kinds::{Turned, KINDS};
+use crate::named_tally::NamedTally;
 use crate::planner::devices::DEVICES;
 use crate::planner::model::Session;
+use crate::transcript::lists::DrawnLists;
 
-const VERBS: [&str; 7] = ["open", "event", "packet", "offcore", "latency", "drop", "turn"];
+const VERBS: [&str; 8] = ["open", "event", "packet", "offcore", "latency", "named", "drop", "turn"];
 /// The highest refusal that a line can get.
 const REFUSALS: usize = 13;
 /// The refusals that an open in the grammar can get.
@@ -21,6 +24,7 @@ pub struct Tally {
     /// The turns of each device, and of each kind on it.
     turns: [u64; DEVICES.len()],
     kinds: [[u64; DEVICES.len()]; KINDS.len()],
+    named: NamedTally,
 }
 
 impl Tally {
@@ -32,21 +36,24 @@ impl Tally {
             opens_refused: [0; REFUSALS + 1],
             turns: [0; DEVICES.len()],
             kinds: [[0; DEVICES.len()]; KINDS.len()],
+            named: NamedTally::new(),
         }
     }
 
-    /// Counts a line with the session before it and its answer.
-    pub fn count(&mut self, session: &Session, line: &[u8], answered: &[u8]) {
+    /// Counts a line with the session before it, the lists and its answer.
+    pub fn count(&mut self, session: &Session, lists: &DrawnLists, line: &[u8], answered: &[u8]) {
         self.lines += 1;
         let said = line.split(|&byte| byte == b'\t').next();
-        if answered.ends_with(b"ok\n") {
+        let refusal = refusal_in(answered);
+        if refusal == 0 {
             let verb = VERBS.iter().position(|verb| said == Some(verb.as_bytes()));
             self.accepted[verb.expect("a verb")] += 1;
         } else {
-            let number = std::str::from_utf8(&answered[3..answered.len() - 1]).expect("a number");
-            let number = number.parse::<usize>().expect("a number");
-            self.refused[number] += 1;
-            self.opens_refused[number] += (said == Some(b"open")) as u64;
+            self.refused[refusal] += 1;
+            self.opens_refused[refusal] += (said == Some(b"open")) as u64;
+        }
+        if let Some(Call::Named { name, .. }) = call_of(line) {
+            self.named.count(session, lists, name, refusal);
         }
         if line == b"turn" {
             self.count_turn(session);
@@ -74,6 +81,7 @@ impl Tally {
         for ((kind, _), counts) in KINDS.iter().zip(self.kinds) {
             print_row(kind, counts.map(|n| n.to_string()));
         }
+        self.named.print();
     }
 
     /// Every verb was accepted, every refusal given and every kind of turn made, or the comparison says too little.
@@ -85,6 +93,15 @@ impl Tally {
         for ((kind, _), counts) in KINDS.iter().zip(self.kinds) {
             assert!(counts.iter().sum::<u64>() * SELDOM > turns, "seldom in a turn: {kind}");
         }
+        self.named.nothing_missed();
+    }
+}
+
+/// The number that refuses a line, 0 where it is accepted.
+fn refusal_in(answered: &[u8]) -> usize {
+    match answered.strip_prefix(b"no\t") {
+        Some(rest) => std::str::from_utf8(&rest[..rest.len() - 1]).ok().and_then(|number| number.parse().ok()).expect("a number"),
+        None => 0,
     }
 }
 

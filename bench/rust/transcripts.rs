@@ -1,9 +1,11 @@
-//! Prints a transcript: `long DEVICE LINES SEED`, `mixed DEVICE USABLE CALLS SEED`, or `random NUMBER SEED`.
+//! Prints a transcript: `long DEVICE LINES SEED`, `mixed DEVICE USABLE CALLS SEED`, or `random NUMBER SEED`; and the lists of
+//! names that go with the last: `site NUMBER SEED` and `house NUMBER SEED`.
 
 #[path = "line_program/answer.rs"]
 mod answer;
 #[path = "line_program/call.rs"]
 mod call;
+mod names;
 mod numbers;
 mod planner;
 mod transcript;
@@ -18,8 +20,10 @@ fn main() {
     let transcript = match words[..] {
         ["long", d, lines, seed] => transcript::long(device(d), number(lines) as usize, number(seed)),
         ["mixed", d, usable, calls, seed] => transcript::mixed(device(d), number(usable), number(calls), number(seed)),
-        ["random", n, seed] => transcript::random(number(n), number(seed)),
-        _ => panic!("long DEVICE LINES SEED, mixed DEVICE USABLE CALLS SEED, or random NUMBER SEED"),
+        ["random", n, seed] => transcript::random(number(n), number(seed)).text,
+        ["site", n, seed] => transcript::random(number(n), number(seed)).lists.texts.site,
+        ["house", n, seed] => transcript::random(number(n), number(seed)).lists.texts.house,
+        _ => panic!("long DEVICE LINES SEED, mixed DEVICE USABLE CALLS SEED, or random, site or house NUMBER SEED"),
     };
     std::io::stdout().write_all(&transcript).expect("standard output");
 }

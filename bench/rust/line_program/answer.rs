@@ -1,6 +1,7 @@
 //! The answer of a line: the call is made, and its answer is written in the grammar of document 01, 'Lines'.
 
 use crate::call::{call_of, Call};
+use crate::names::Lists;
 use crate::planner::requests::{Entry, Place};
 use crate::planner::{Calls, Turn, LIST};
 
@@ -100,12 +101,14 @@ fn put_hex(digits: &mut [u8], number: u64) {
     }
 }
 
-/// Makes the call of a line (without its newline) and writes the answer; there is room for the longest.
-pub fn answer(session: &mut impl Calls, line: &[u8], out: &mut Output) {
+/// Makes the call of a line (without its newline) and writes the answer; there is room for the longest. Only a `named` line
+/// looks at the lists.
+pub fn answer(session: &mut impl Calls, lists: &impl Lists, line: &[u8], out: &mut Output) {
     let outcome = match call_of(line) {
         None => Err(1),
         Some(Call::Open(opening)) => session.open(opening),
         Some(Call::Add { id, request }) => session.add(id, request),
+        Some(Call::Named { id, name, allowed }) => lists.look_up(name).and_then(|row| session.add_named(id, row, allowed)),
         Some(Call::Drop { id }) => session.drop(id),
         Some(Call::Turn) => {
             let mut list = [0; LIST];

@@ -1,8 +1,9 @@
-//! The grammar of document 01, 'Lines', with the fields that the orders add to `open`: a line without its newline becomes a
-//! call, or nothing.
+//! The grammar of document 01, 'Lines', with the fields that the orders add to `open` and the line `named`: a line without its
+//! newline becomes a call, or nothing. So does a row of a list of names become an event.
 
+use crate::names::{is_name_byte, NAME_LIMIT};
 use crate::planner::devices::{Device, Opening};
-use crate::planner::requests::Request;
+use crate::planner::requests::{NamedEvent, Request};
 
 /// The most bytes of a line, without its newline.
 pub const LINE_LIMIT: usize = 80;
@@ -10,9 +11,10 @@ pub const LINE_LIMIT: usize = 80;
 const DECIMAL_DIGITS: usize = 5;
 
 #[derive(Clone, Copy, PartialEq, Eq, Debug)]
-pub enum Call {
+pub enum Call<'a> {
     Open(Opening),
     Add { id: u64, request: Request },
+    Named { id: u64, name: &'a [u8], allowed: u64 },
     Drop { id: u64 },
     Turn,
 }
@@ -53,6 +55,16 @@ impl<'a> Fields<'a> {
     fn hex(&mut self, width: usize) -> Option<u64> {
         hex_of(self.next()?, width)
     }
+
+    fn name(&mut self) -> Option<&'a [u8]> {
+        name_of(self.next()?)
+    }
+}
+
+/// A name: 1 to 40 bytes of upper-case letters, digits and underscore.
+fn name_of(field: &[u8]) -> Option<&[u8]> {
+    let fits = !field.is_empty() && field.len() <= NAME_LIMIT && field.iter().all(|&byte| is_name_byte(byte));
+    fits.then_some(field)
 }
 
 /// A decimal of at most five digits and without a leading zero.
@@ -125,8 +137,19 @@ fn latency(fields: &mut Fields) -> Option<Request> {
     Some(Request::Latency { types, first: fields.decimal()?, second: fields.decimal()? })
 }
 
+/// The name and the event of a list's row, without its newline; nothing where the row is ill-formed.
+pub fn row_of(row: &[u8]) -> Option<(&[u8], NamedEvent)> {
+    let mut fields = Fields { rest: Some(row) };
+    let (name, device) = (fields.name()?, device_of(fields.next()?)?);
+    let (code, mask) = (fields.hex(2)? as u8, fields.hex(2)? as u8);
+    match fields.rest {
+        None => Some((name, NamedEvent { letter: device.letter, code, mask })),
+        Some(_) => None,
+    }
+}
+
 /// The call of a line; nothing where the line is too long, a field is ill-formed, or one is missing or left over.
-pub fn call_of(line: &[u8]) -> Option<Call> {
+pub fn call_of(line: &[u8]) -> Option<Call<'_>> {
     if line.len() > LINE_LIMIT {
         return None;
     }
@@ -137,6 +160,7 @@ pub fn call_of(line: &[u8]) -> Option<Call> {
         b"packet" => Call::Add { id: fields.decimal()?, request: packet(&mut fields)? },
         b"offcore" => Call::Add { id: fields.decimal()?, request: offcore(&mut fields)? },
         b"latency" => Call::Add { id: fields.decimal()?, request: latency(&mut fields)? },
+        b"named" => Call::Named { id: fields.decimal()?, name: fields.name()?, allowed: fields.decimal()? },
         b"drop" => Call::Drop { id: fields.decimal()? },
         b"turn" => Call::Turn,
         _ => return None,

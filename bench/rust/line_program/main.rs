@@ -1,14 +1,22 @@
-//! The line program in Rust, written from document 01: lines on standard input, answers on standard output.
+//! The line program in Rust, written from documents 01 and 02: lines on standard input, answers on standard output.
+//! `line_program [SITE HOUSE]`, where the two files are the lists of names.
 //! With `--cfg same_road` it takes the road of the proved planner, otherwise the fastest one known.
 //! One session behind `&mut`, its queue in a fixed array; two fixed blocks; no heap between the first line and the last.
 
 mod answer;
 mod call;
+#[path = "../names/mod.rs"]
+mod names;
 #[path = "../planner/mod.rs"]
 mod planner;
 
 use answer::{answer, Output, LONGEST_ANSWER};
 use call::LINE_LIMIT;
+#[cfg(not(same_road))]
+use names::index::Index as NamesOf;
+#[cfg(same_road)]
+use names::road::EachTime as NamesOf;
+use names::{files, Lists};
 #[cfg(same_road)]
 use planner::fast::session::SameRoad as Session;
 #[cfg(not(same_road))]
@@ -38,7 +46,7 @@ fn flush(output: &mut File, out: &mut Output) -> Result<()> {
 }
 
 /// Answers every line. An unfinished line waits at the front of the block; of an overlong one nothing is kept.
-fn answer_lines(input: &mut File, output: &mut File) -> Result<()> {
+fn answer_lines(input: &mut File, output: &mut File, lists: &impl Lists) -> Result<()> {
     let mut session = Session::new();
     let mut block = [0; LINE_LIMIT + BLOCK];
     let mut out = Output { block: &mut [0; BLOCK], used: 0 };
@@ -54,7 +62,7 @@ fn answer_lines(input: &mut File, output: &mut File) -> Result<()> {
                 out.refuse(1);
                 overlong = false;
             } else {
-                answer(&mut session, &rest[..length], &mut out);
+                answer(&mut session, lists, &rest[..length], &mut out);
             }
             rest = &rest[length + 1..];
             if out.block.len() - out.used < LONGEST_ANSWER {
@@ -74,8 +82,10 @@ fn answer_lines(input: &mut File, output: &mut File) -> Result<()> {
 }
 
 fn main() {
+    let texts = files::given("line_program");
+    let lists = NamesOf::of(&texts);
     // The two files stay open: they are the process's, not ours.
     let (input, output) = unsafe { (File::from_raw_fd(0), File::from_raw_fd(1)) };
     // A closed output ends the program quietly: nobody is left to be told.
-    let _ = answer_lines(&mut ManuallyDrop::new(input), &mut ManuallyDrop::new(output));
+    let _ = answer_lines(&mut ManuallyDrop::new(input), &mut ManuallyDrop::new(output), &lists);
 }

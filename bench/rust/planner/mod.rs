@@ -13,7 +13,7 @@ pub mod requests;
 pub mod u_box;
 
 use devices::Opening;
-use requests::{Entry, Place, Request};
+use requests::{Entry, NamedEvent, Place, Request};
 
 /// The most requests that can wait.
 pub const LIMIT: usize = 16;
@@ -42,6 +42,8 @@ pub trait Calls {
     fn new() -> Self;
     fn open(&mut self, opening: Opening) -> Result<(), u64>;
     fn add(&mut self, id: u64, request: Request) -> Result<(), u64>;
+    /// An add by name (order 9), where well-formed lists have this row under it, or none.
+    fn add_named(&mut self, id: u64, row: Option<NamedEvent>, allowed: u64) -> Result<(), u64>;
     fn drop(&mut self, id: u64) -> Result<(), u64>;
     fn turn(&mut self, list: &mut [u64]) -> Result<Turn, u64>;
     /// So many turns at once (order 6): the lists one after another, and the places where they end.

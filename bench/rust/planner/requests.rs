@@ -24,6 +24,21 @@ pub struct Entry {
     pub request: Request,
 }
 
+/// The event that a row of a list of names gives, and the letter of its device (order 9).
+#[derive(Clone, Copy, PartialEq, Eq, Debug)]
+pub struct NamedEvent {
+    pub letter: u8,
+    pub code: u8,
+    pub mask: u8,
+}
+
+impl NamedEvent {
+    /// The same request typed in numbers.
+    pub fn request(self, allowed: u64) -> Request {
+        Request::Event { code: self.code, mask: self.mask, allowed }
+    }
+}
+
 pub const VACANT: Entry = Entry { id: 0, request: Request::Event { code: 0, mask: 0, allowed: 0 } };
 
 const TYPES: u64 = 0xFFBF;

@@ -5,9 +5,9 @@ use crate::planner::catalogue::Event;
 use crate::planner::devices::{Device, Filters, Opening};
 use crate::planner::requests::MASK_BITS;
 
-/// What the calls are drawn for: the device and what it is opened with, how many ids there are, and how many of a hundred
-/// fields get an odd value. In a tight bench requests get in each other's way: nested sets, few words, and those
-/// of latency requests.
+/// What the calls are drawn for: the device and what it is opened with, how many ids there are, how many of a hundred fields
+/// get an odd value, how many of a hundred calls are adds by a name, and the names that there are rows of. In a tight bench
+/// requests get in each other's way: nested sets, few words, and those of latency requests.
 pub struct Bench {
     pub numbers: Numbers,
     pub device: &'static Device,
@@ -18,6 +18,8 @@ pub struct Bench {
     pub core: Option<u64>,
     pub ids: u64,
     pub odd: u64,
+    pub named: u64,
+    pub names: Vec<String>,
     pub tight: bool,
 }
 
@@ -111,19 +113,19 @@ const ASKED: [&str; 20] = [
 ];
 
 impl Bench {
-    fn odd(&mut self) -> bool {
+    pub fn odd(&mut self) -> bool {
         let odd = self.odd;
         self.numbers.chance(odd)
     }
 
-    fn id(&mut self) -> u64 {
+    pub fn id(&mut self) -> u64 {
         match self.odd() {
             true => self.numbers.pick(&[0, 65535, 65536, 99999, 70000]),
             false => self.numbers.below(self.ids) + 1,
         }
     }
 
-    fn set(&mut self) -> u64 {
+    pub fn set(&mut self) -> u64 {
         let all = self.device.all();
         if self.odd() {
             return self.numbers.pick(&[0, all + 1, 31, 63, 64, 255, 65535, 99999, all & !self.usable]);
@@ -151,7 +153,7 @@ impl Bench {
     }
 
     /// A pair that is mostly not listed: one of the odd ones, a listed code with any mask, or any code of the range of C.
-    fn odd_pair(&mut self) -> (u8, u8) {
+    pub fn odd_pair(&mut self) -> (u8, u8) {
         let any = self.numbers.below(256) as u8;
         let mask = self.numbers.pick(&[0, 1, any]);
         match self.numbers.below(3) {

@@ -3,13 +3,18 @@
 
 pub mod calls;
 mod damage;
+pub mod list_damage;
+pub mod lists;
 
 use crate::answer::{answer, Output, LONGEST_ANSWER};
+use crate::names::road::EachTime;
+use crate::names::Texts;
 use crate::numbers::Numbers;
 use crate::planner::devices::{Device, Opening, DEVICES};
 use crate::planner::fast::session::Session;
 use crate::planner::{u_box, Calls};
 use calls::{open_line, Bench};
+use lists::DrawnLists;
 
 /// The lines between two choices of how long the queue should be.
 const STRETCH: usize = 64;
@@ -58,7 +63,7 @@ pub fn bench_on(device: &'static Device, usable: u64, odd: u64, mut numbers: Num
     let box_number = numbers.below(device.boxes.len() as u64);
     let freeze = if device.uncore { numbers.below(2) } else { 0 };
     let core = (device.uncore && numbers.chance(50)).then(|| numbers.below(u_box::CORES));
-    Bench { numbers, device, usable, fixed, box_number, freeze, core, ids: IDS, odd, tight: false }
+    Bench { numbers, device, usable, fixed, box_number, freeze, core, ids: IDS, odd, named: 0, names: Vec::new(), tight: false }
 }
 
 /// A transcript of so many lines: mostly accepted adds and drops, a fifth turns, a tenth refused or ill-formed lines.
@@ -67,6 +72,7 @@ pub fn long(device: char, lines: usize, seed: u64) -> Vec<u8> {
     let mut bench = bench_on(device, device.all(), 0, numbers_from(seed));
     (bench.fixed, bench.box_number, bench.freeze, bench.core) = (0, 0, 0, None);
     let mut session = Session::new();
+    let no_names = Texts::default();
     let mut block = [0; LONGEST_ANSWER];
     let mut transcript = Vec::new();
     let mut goal = 0;
@@ -76,7 +82,7 @@ pub fn long(device: char, lines: usize, seed: u64) -> Vec<u8> {
         }
         let mut line = if n == 0 { bench.open().into() } else { next_call(&mut bench, &session, goal) };
         line.retain(|&byte| byte != b'\n');
-        answer(&mut session, &line, &mut Output { block: &mut block, used: 0 });
+        answer(&mut session, &EachTime::of(&no_names), &line, &mut Output { block: &mut block, used: 0 });
         push(&mut transcript, &line);
     }
     transcript
@@ -91,6 +97,9 @@ fn overflow(bench: &mut Bench, transcript: &mut Vec<u8>) {
 }
 
 fn call(bench: &mut Bench) -> String {
+    if bench.named > 0 && bench.numbers.below(100) < bench.named {
+        return lists::named(bench);
+    }
     match bench.numbers.below(20) {
         0 => bench.open(),
         1..=11 => bench.add(),
@@ -178,10 +187,11 @@ pub fn mixed(device: char, usable: u64, calls: u64, seed: u64) -> Vec<u8> {
     transcript
 }
 
-/// A transcript whose turns are hard: accepted calls, most on all counters, with requests that get in each other's way.
+/// A transcript whose turns are hard: accepted calls, most on all counters, with requests that get in each other's way, and
+/// few names.
 fn tight(mut bench: Bench, calls: u64) -> Vec<u8> {
     let all = bench.device.all();
-    bench.odd = 0;
+    (bench.odd, bench.named) = (0, bench.named / 5);
     let unusable = 1 << bench.numbers.below(bench.device.counters);
     bench.usable = bench.numbers.pick(&[all, all, all & !unusable]);
     bench.ids = bench.numbers.pick(&[4, 8, IDS]);
@@ -207,8 +217,14 @@ fn loose(mut bench: Bench, calls: u64) -> Vec<u8> {
     transcript
 }
 
+/// What line programs are given: a text, and the lists of its names.
+pub struct Transcript {
+    pub text: Vec<u8>,
+    pub lists: DrawnLists,
+}
+
 /// The transcript of this number: every device and every usable set in turn, and every fourth one tight.
-pub fn random(number: u64, seed: u64) -> Vec<u8> {
+pub fn random(number: u64, seed: u64) -> Transcript {
     let mut numbers = numbers_from(seed ^ number << 20);
     let count = DEVICES.len() as u64;
     let device = &DEVICES[(number % count) as usize];
@@ -216,9 +232,12 @@ pub fn random(number: u64, seed: u64) -> Vec<u8> {
     let calls = if round % 250 == 249 { 6000 } else { numbers.below(100) };
     let usable = round % device.all() + 1;
     let odd = [0, 4, 15, 40][(round / device.all() % 4) as usize];
-    let bench = bench_on(device, usable, odd, numbers);
-    match round % 4 {
+    let mut bench = bench_on(device, usable, odd, numbers);
+    let lists = lists::drawn(&mut bench);
+    bench.named = bench.numbers.pick(&[0, 10, 25, 50]);
+    let text = match round % 4 {
         3 => tight(bench, calls),
         _ => loose(bench, calls),
-    }
+    };
+    Transcript { text, lists }
 }

@@ -4,7 +4,7 @@ use super::lent::LentOn;
 use super::road::{Fastest, Proved, Road};
 use super::writes::write_list;
 use crate::planner::devices::{Opening, Setup};
-use crate::planner::requests::{refusal_of, Entry, Place, Request, VACANT};
+use crate::planner::requests::{refusal_of, Entry, NamedEvent, Place, Request, VACANT};
 use crate::planner::{Calls, Turn, LIMIT, LIST, PLACES, SHIFT};
 use std::marker::PhantomData;
 
@@ -24,6 +24,18 @@ pub type SameRoad = SessionOn<Proved>;
 impl<R> SessionOn<R> {
     fn position(&self, id: u64) -> Option<usize> {
         self.queue[..self.waiting].iter().position(|entry| entry.id == id)
+    }
+
+    /// What every add checks first: 2, 4 and 5.
+    fn setup_for(&self, id: u64) -> Result<Setup, u64> {
+        let setup = self.setup.ok_or(2u64)?;
+        if id == 0 || id > 65535 {
+            return Err(4);
+        }
+        match self.position(id) {
+            Some(_) => Err(5),
+            None => Ok(setup),
+        }
     }
 
     /// Those passed over close up, and the taken ones go behind them.
@@ -58,14 +70,10 @@ impl<R: Road> Calls for SessionOn<R> {
         Ok(())
     }
 
+    /// Inlined in both of its places: with a call of its own every add would be slower.
+    #[inline(always)]
     fn add(&mut self, id: u64, request: Request) -> Result<(), u64> {
-        let setup = self.setup.ok_or(2u64)?;
-        if id == 0 || id > 65535 {
-            return Err(4);
-        }
-        if self.position(id).is_some() {
-            return Err(5);
-        }
+        let setup = self.setup_for(id)?;
         if let Some(number) = refusal_of(setup.device, request) {
             return Err(number);
         }
@@ -78,6 +86,14 @@ impl<R: Road> Calls for SessionOn<R> {
         self.queue[self.waiting] = Entry { id, request };
         self.waiting += 1;
         Ok(())
+    }
+
+    /// A row of this device goes the way of every add; what the name is refused with comes behind the first checks.
+    fn add_named(&mut self, id: u64, row: Option<NamedEvent>, allowed: u64) -> Result<(), u64> {
+        match (self.setup, row) {
+            (Some(setup), Some(row)) if row.letter == setup.device.letter => self.add(id, row.request(allowed)),
+            (_, row) => self.setup_for(id).and(Err(if row.is_some() { 7 } else { 8 })),
+        }
     }
 
     fn drop(&mut self, id: u64) -> Result<(), u64> {

@@ -10,7 +10,7 @@ pub mod rules;
 pub mod writes;
 
 use super::devices::{Device, Opening, Setup};
-use super::requests::{self, event_refusal, Entry, Place, Request, VACANT};
+use super::requests::{self, event_refusal, Entry, NamedEvent, Place, Request, VACANT};
 use super::{Calls, Turn, LIMIT, LIST, PLACES, SHIFT};
 use plan::first_plan;
 
@@ -62,6 +62,20 @@ fn turn_of(taken: &[Entry], plan: &[Place], writes: usize) -> Turn {
     turn
 }
 
+impl Session {
+    /// What every add checks first: 2, 4 and 5.
+    fn setup_for(&self, id: u64) -> Result<Setup, u64> {
+        let setup = self.setup.ok_or(2u64)?;
+        if id == 0 || id > 65535 {
+            return Err(4);
+        }
+        if self.queue.iter().any(|entry| entry.id == id) {
+            return Err(5);
+        }
+        Ok(setup)
+    }
+}
+
 impl Calls for Session {
     type Lent = lent::Lent;
 
@@ -82,13 +96,7 @@ impl Calls for Session {
     }
 
     fn add(&mut self, id: u64, request: Request) -> Result<(), u64> {
-        let setup = self.setup.ok_or(2u64)?;
-        if id == 0 || id > 65535 {
-            return Err(4);
-        }
-        if self.queue.iter().any(|entry| entry.id == id) {
-            return Err(5);
-        }
+        let setup = self.setup_for(id)?;
         if let Some(number) = refusal_of(setup.device, request) {
             return Err(number);
         }
@@ -100,6 +108,15 @@ impl Calls for Session {
         }
         self.queue.push(Entry { id, request });
         Ok(())
+    }
+
+    fn add_named(&mut self, id: u64, row: Option<NamedEvent>, allowed: u64) -> Result<(), u64> {
+        let setup = self.setup_for(id)?;
+        let row = row.ok_or(8u64)?;
+        if row.letter != setup.device.letter {
+            return Err(7);
+        }
+        self.add(id, row.request(allowed))
     }
 
     fn drop(&mut self, id: u64) -> Result<(), u64> {
