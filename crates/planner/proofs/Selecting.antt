@@ -18,6 +18,7 @@ use Rattle.plans.specs.Parts.{usableCount}
 use Rattle.plans.specs.Rows.{rowsFrom}
 use Rattle.plans.specs.Packed.{codeOf, packed, placesFrom}
 use Rattle.plans.specs.Reach.{leftBy, leftFrom, leftOf}
+use Rattle.plans.proofs.RequestRows.{rows-length}
 use Rattle.plans.proofs.ReachHolds.{reach}
 use Rattle.plans.proofs.Unpacking.{some-packed, plan-unpacked}
 use Rattle.plans.proofs.PartsHold.{parts}
@@ -26,7 +27,7 @@ use Rattle.sessions.specs.Turns.{requestsOf, taken, placesOf}
 use Rattle.sessions.specs.Sessions.{vacant}
 use Rattle.planner.specs.declared.Chosen.{Chosen}
 use Rattle.planner.specs.Selections.{entriesAt, Searched, Selected}
-use Rattle.planner.proofs.Assigning.{entries-length, entries-noted, requests-next}
+use Rattle.planner.proofs.Assigning.{entries-noted, requests-next}
 use Rattle.sessions.proofs.TakenPlan.{requests-length}
 use Rattle.sessions.proofs.Takes.{taking}
 use Rattle.planner.proofs.Searching.{found-plan, found-none}
@@ -73,43 +74,56 @@ inside-more l n i room inside so-far j h = go (decLt j n)
     go (yes front) = rw (getD-set-other l n j i 0 (λ e. omega arith)) (so-far j front)
     go (no o) = let e : j ≡ n = omega arith in rw (e, getD-set-same l n i 0 room) inside
 
+-- the entry behind those taken, and what was searched for them with it
+module _ {s : Setup} (q : List Entry) {rows : List ℕ} {count : ℕ} (rows-taken : rowsFrom rows 0 count ≡ requestsOf (taken s q)) (e : Entry)
+    {next : List ℕ} {found : ℕ} (search : Searched s rows count (e .request) next found) where
+  -- what was searched for is the plan of the entry behind those taken
+  pub behind : rowsFrom rows 0 count ++ (e .request ∷ []) ≡ requestsOf (taken s q ++ (e ∷ []))
+  behind = rw rows-taken (sym (requests-next (taken s q) e))
+
+  pub fits-behind : (found ≡ 0 → ⊥) → HasPlan s (requestsOf (taken s q ++ (e ∷ [])))
+  fits-behind exists = found-plan s _ (λ z. exists (search .answer ∙ rw behind z))
+
+  pub fits-not : found ≡ 0 → ¬ HasPlan s (requestsOf (taken s q ++ (e ∷ [])))
+  fits-not missing = found-none s _ (rw (← behind) (sym (search .answer) ∙ missing))
+
+  -- there is room for one more
+  pub taken-room : (found ≡ 0 → ⊥) → (count < usableCount s) × (count < 8)
+  unfolding capacity
+  taken-room exists =
+      let m = parts .at-most s _ (fits-behind exists) in
+      let t : length (taken s q) ≡ count = sym (requests-length (taken s q)) ∙ sym (ap length rows-taken) ∙ rows-length rows 0 count in
+      let r : length (requestsOf (taken s q ++ (e ∷ []))) ≡ count + 1 = requests-length (taken s q ++ (e ∷ [])) ∙ rw (length-append, t) in
+      let u = plan-length .usable-at-most s in
+      let d = plan-length .device-at-most (s .device) in
+      (omega arith, omega arith)
+
+  -- the sets of counters that are left
+  module _ {left : ℕ} (so-left : s .usable .0 < 64 → left ≡ leftOf s (requestsOf (taken s q))) where
+    pub left-takes : {less : ℕ} → less ≡ leftBy (counterCount (s .device)) (e .request) left → (found ≡ 0 → ⊥) → s .usable .0 < 64
+        → less ≡ leftOf s (requestsOf (taken s (q ++ (e ∷ []))))
+    left-takes w exists fits =
+        rw (taking s .taken-fits q e (fits-behind exists), requests-next, reach .grows s (requestsOf (taken s q)) (e .request), ← so-left fits) w
+
+    pub left-passes : found ≡ 0 → s .usable .0 < 64 → left ≡ leftOf s (requestsOf (taken s (q ++ (e ∷ []))))
+    left-passes missing fits = rw (taking s .taken-not q e (fits-not missing)) (so-left fits)
+
 module _ {s : Setup} {queue q : List Entry} {rows ts ps : List ℕ} {c : Chosen} (so-far : Selected s queue q rows ts ps c) (i : ℕ)
     {next : List ℕ} {found : ℕ} (search : Searched s rows (c .count) (getD queue i vacant .request) next found) where
   abbrev e : Entry
   e = getD queue i vacant
 
-  -- what was searched for is the plan of the entry behind those taken
-  behind : rowsFrom rows 0 (c .count) ++ (e .request ∷ []) ≡ requestsOf (taken s q ++ (e ∷ []))
-  behind = rw (so-far .rows-taken) (sym (requests-next (taken s q) e))
-
-  fits-behind : (found ≡ 0 → ⊥) → HasPlan s (requestsOf (taken s q ++ (e ∷ [])))
-  fits-behind exists = found-plan s _ (λ z. exists (search .answer ∙ rw behind z))
-
-  fits-not : found ≡ 0 → ¬ HasPlan s (requestsOf (taken s q ++ (e ∷ [])))
-  fits-not missing = found-none s _ (rw (← behind) (sym (search .answer) ∙ missing))
-
-  -- there is room for one more
-  pub taken-room : (found ≡ 0 → ⊥) → (c .count < usableCount s) × (c .count < 8)
-  unfolding capacity
-  taken-room exists =
-      let m = parts .at-most s _ (fits-behind exists) in
-      let t : length (taken s q) ≡ c .count = ap length (sym (so-far .taken-entries)) ∙ entries-length queue (c .count) ts (omega (arith, so-far .within .few, so-far .within .taken-size)) in
-      let r : length (requestsOf (taken s q ++ (e ∷ []))) ≡ c .count + 1 = requests-length (taken s q ++ (e ∷ [])) ∙ rw (length-append, t) in
-      let u = plan-length .usable-at-most s in
-      let d = plan-length .device-at-most (s .device) in
-      (omega arith, omega arith)
-
   pub selected-takes : (found ≡ 0 → ⊥) → i < 16 → c .rest + c .count < 16
       → Selected s queue (q ++ (e ∷ [])) next (set ts (c .count) i) ps (record { code = found; count = c .count + 1; rest = c .rest })
   selected-takes exists inside more =
-      let f = fits-behind exists in
+      let f = fits-behind q (so-far .rows-taken) e search exists in
       let yes = taking s .taken-fits q e f in
       let no = taking s .passed-fits q e f in
-      let room = taken-room exists in
+      let room = taken-room q (so-far .rows-taken) e search exists in
       let w = so-far .within in
       record {
-        rows-taken = rw yes (search .behind exists ∙ behind);
-        plan-found = rw yes (search .answer ∙ rw behind);
+        rows-taken = rw yes (search .behind exists ∙ behind q (so-far .rows-taken) e search);
+        plan-found = rw yes (search .answer ∙ rw (behind q (so-far .rows-taken) e search));
         plan-some = exists;
         taken-entries = rw (entries-noted queue (c .count) ts i (omega (arith, w .taken-size, room .1)), so-far .taken-entries) (sym yes);
         taken-usable = omega (arith, room .0);
@@ -128,7 +142,7 @@ module _ {s : Setup} {queue q : List Entry} {rows ts ps : List ℕ} {c : Chosen}
   pub selected-passes : found ≡ 0 → i < 16 → c .rest + c .count < 16
       → Selected s queue (q ++ (e ∷ [])) next ts (set ps (c .rest) i) (record { code = c .code; count = c .count; rest = c .rest + 1 })
   selected-passes missing inside more =
-      let f = fits-not missing in
+      let f = fits-not q (so-far .rows-taken) e search missing in
       let no = taking s .taken-not q e f in
       let yes = taking s .passed-not q e f in
       let w = so-far .within in
@@ -149,16 +163,6 @@ module _ {s : Setup} {queue q : List Entry} {rows ts ps : List ℕ} {c : Chosen}
               passed-inside = inside-more ps (c .rest) i (omega (arith, w .passed-size)) inside (w .passed-inside);
             };
       }
-
-  -- the sets of counters that are left
-  module _ {left : ℕ} (so-left : s .usable .0 < 64 → left ≡ leftOf s (requestsOf (taken s q))) where
-    pub left-takes : {less : ℕ} → less ≡ leftBy (counterCount (s .device)) (e .request) left → (found ≡ 0 → ⊥) → s .usable .0 < 64
-        → less ≡ leftOf s (requestsOf (taken s (q ++ (e ∷ []))))
-    left-takes w exists fits =
-        rw (taking s .taken-fits q e (fits-behind exists), requests-next, reach .grows s (requestsOf (taken s q)) (e .request), ← so-left fits) w
-
-    pub left-passes : found ≡ 0 → s .usable .0 < 64 → left ≡ leftOf s (requestsOf (taken s (q ++ (e ∷ []))))
-    left-passes missing fits = rw (taking s .taken-not q e (fits-not missing)) (so-left fits)
 
 -- ---- after the last entry
 

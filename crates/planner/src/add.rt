@@ -17,10 +17,10 @@ use sessions::QUEUE_LIMIT;
 use sessions::Session;
 ghost use mathlib.Core.Path.{_≡_};
 ghost use mathlib.Core.List.{_∷_, []};
-ghost use Rattle.requests.specs.Refusals.{answerFor};
 ghost use Rattle.plans.specs.Search.{hasPlan};
-ghost use Rattle.sessions.specs.Calls.{Add, waits};
-ghost use Rattle.sessions.specs.Sessions.{queued, refusedBy, addOf};
+ghost use Rattle.sessions.specs.Calls.{Add};
+ghost use Rattle.sessions.specs.Sessions.{addOf};
+ghost use Rattle.planner.specs.Answering.{AnswersFor};
 
 // Whether the request has a plan alone.
 pub fn plans_alone(setup: Setup, request: Request) -> bool
@@ -35,11 +35,16 @@ pub fn plans_alone(setup: Setup, request: Request) -> bool
 }
 
 // The answer to an add, by the refusal table, told whether the id is waiting.
-fn add_answer(session: Session, waiting: bool, id: u64, request: Request) -> Answer
-    requires { ⌜ waiting ≡ waits id (queued session) ⌝ }
-    ensures { λ r. ⌜ r ≡ answerFor (refusedBy session (Add id request)) ⌝ }
+pub fn add_answer(
+    opened: bool,
+    setup: Setup,
+    len: usize,
+    waiting: bool,
+    id: u64,
+    request: Request,
+) -> Answer
+    ensures { λ r. ⌜ AnswersFor opened setup len waiting id (Add id request) r ⌝ }
 {
-    let opened = session.opened;
     if !opened {
         return Answer::Refused(Refusal::CallOrder);
     }
@@ -49,7 +54,6 @@ fn add_answer(session: Session, waiting: bool, id: u64, request: Request) -> Ans
     if waiting {
         return Answer::Refused(Refusal::IdWaiting);
     }
-    let setup = session.setup;
     let checked = request_refusal(setup, request);
     if let Answer::Refused(refusal) = checked {
         return Answer::Refused(refusal);
@@ -57,7 +61,7 @@ fn add_answer(session: Session, waiting: bool, id: u64, request: Request) -> Ans
     if !plans_alone(setup, request) {
         return Answer::Refused(Refusal::NoPlanAlone);
     }
-    if QUEUE_LIMIT <= session.len {
+    if QUEUE_LIMIT <= len {
         return Answer::Refused(Refusal::QueueFull);
     }
     Answer::Accepted
@@ -80,7 +84,8 @@ pub fn add(session: Session, id: u64, request: Request) -> Answered
         }
         at += 1;
     }
-    let answer = add_answer(session, at < n, id, request);
+    let opened = session.opened;
+    let answer = add_answer(opened, setup, session.len, at < n, id, request);
     let mut len = session.len;
     if let Answer::Accepted = answer {
         queue[n] = Entry {
@@ -95,7 +100,6 @@ pub fn add(session: Session, id: u64, request: Request) -> Answered
         }
         len = n + 1;
     }
-    let opened = session.opened;
     let next = Session {
         opened: opened,
         setup: setup,

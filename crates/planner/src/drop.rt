@@ -8,16 +8,13 @@ use sessions::Answered;
 use sessions::QUEUE_LIMIT;
 use sessions::Session;
 ghost use mathlib.Core.Path.{_≡_};
-ghost use Rattle.requests.specs.Refusals.{answerFor};
-ghost use Rattle.sessions.specs.Calls.{Drop, waits};
-ghost use Rattle.sessions.specs.Sessions.{queued, refusedBy, dropOf};
+ghost use Rattle.sessions.specs.Sessions.{dropOf};
+ghost use Rattle.planner.specs.Answering.{AnswersDrop};
 
 // The answer to a drop, by the refusal table, told whether the id is waiting.
-fn drop_answer(session: Session, waiting: bool, id: u64) -> Answer
-    requires { ⌜ waiting ≡ waits id (queued session) ⌝ }
-    ensures { λ r. ⌜ r ≡ answerFor (refusedBy session (Drop id)) ⌝ }
+pub fn drop_answer(opened: bool, waiting: bool, id: u64) -> Answer
+    ensures { λ r. ⌜ AnswersDrop opened waiting id r ⌝ }
 {
-    let opened = session.opened;
     if !opened {
         return Answer::Refused(Refusal::CallOrder);
     }
@@ -44,7 +41,8 @@ pub fn drop_request(session: Session, id: u64) -> Answered
         }
         at += 1;
     }
-    let answer = drop_answer(session, at < n, id);
+    let opened = session.opened;
+    let answer = drop_answer(opened, at < n, id);
     let mut len = session.len;
     if let Answer::Accepted = answer {
         len = at;
@@ -62,7 +60,6 @@ pub fn drop_request(session: Session, id: u64) -> Answered
             k += 1;
         }
     }
-    let opened = session.opened;
     let setup = session.setup;
     let next = Session {
         opened: opened,

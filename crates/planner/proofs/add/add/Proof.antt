@@ -8,11 +8,13 @@ use borrow.Author.Needs.{needs}
 use borrow.Author.Tests.{lt-ltb, le-ltb}
 use native.Mathlib.Numerals.{add-one}
 use native.Mathlib.Omega.{arith}
+use lib.Dec.{ltb}
 use lib.ListN.{length, take, set, replicate, length-append, length-set, length-take}
 use lib.Seq.{take-suc-set}
 use Rattle.requests.specs.declared.Entry.{Entry}
 use Rattle.sessions.specs.declared.Session.{Session}
-use Rattle.sessions.specs.Calls.{Add}
+use Rattle.requests.specs.Refusals.{answerFor}
+use Rattle.sessions.specs.Calls.{Add, waits}
 use Rattle.sessions.specs.Sessions.{vacant, queued, sessionOf, refusedBy, addOf}
 use Rattle.requests.proofs.Windows.{length-mapped, take-min}
 use Rattle.sessions.proofs.TableAnswers.{answered-refused, answered-accepted, add-room, add-closed}
@@ -28,11 +30,11 @@ abbrev μ-loop : tie.MeasureT-loop
 μ-loop session id request setup n queue at₀ at = n - at
 
 abbrev Inv-loop2 : tie.InvT-loop2
-Inv-loop2 session id setup n queue₀ at answer len empty k₀ queue k =
+Inv-loop2 id setup n queue₀ at opened answer len empty k₀ queue k =
     (length queue ≡ 16) × (n + 1 ≤ k) × (k ≤ 16) × (take k queue ≡ take (n + 1) queue₀ ++ replicate (k - (n + 1)) vacant)
 
 abbrev μ-loop2 : tie.MeasureT-loop2
-μ-loop2 session id setup n queue₀ at answer len empty k₀ queue k = 16 - k
+μ-loop2 id setup n queue₀ at opened answer len empty k₀ queue k = 16 - k
 
 bounded-requires : tie.Need-bounded-requires Inv-loop μ-loop Inv-loop2 μ-loop2
 bounded-requires c κs = search needs
@@ -61,13 +63,25 @@ loop-again c =
     (v .0, v .1, omega arith, unmet-next (v .3) _ (omega arith) (omega arith) (c .if1 .left))
 
 add-answer-requires : tie.Need-add-answer-requires Inv-loop μ-loop Inv-loop2 μ-loop2
+add-answer-requires c κs = search needs
+
+-- whether the id is waiting
+found : (c : tie.After-add-answer Inv-loop μ-loop Inv-loop2 μ-loop2) → let a = c .before .before .before .before .before .before .args in
+    ltb (c .before .before .loop .at) (c .before .before .before .before .bounded .result) ≡ waits (a .id) (queued (a .session))
 unfolding queued
-add-answer-requires c κs =
-    let v = c .before .loop .inv in
+found c =
+    let v = c .before .before .loop .inv in
     ⊎-elim
     (λ w. le-ltb _ _ (w .left) ∙ sym (never-met (v .3) vacant (omega (arith, w .left))))
     (λ w. lt-ltb _ _ (w .0 .taken) ∙ sym (met (v .3) _ (omega (arith, w .0 .taken)) (omega (arith, w .0 .taken)) (w .3 .taken)))
-    (c .loop-test .came)
+    (c .before .loop-test .came)
+
+-- the answer is that of the table
+answer-is : (c : tie.After-add-answer Inv-loop μ-loop Inv-loop2 μ-loop2) → let a = c .before .before .before .before .before .before .args in
+    c .add-answer .result ≡ answerFor (refusedBy (a .session) (Add (a .id) (a .request)))
+answer-is c =
+    let b = c .before .before .before .before .before .before in
+    c .add-answer .ensures (b .args .session .queue) (length-16 b) (found c)
 
 enum-told : tie.Need-enum-told Inv-loop μ-loop Inv-loop2 μ-loop2
 enum-told c = search needs
@@ -79,7 +93,7 @@ room c =
     let r = c .before .before in
     let l = r .before .before in
     let a = l .before .before .before .before .args in
-    let h = add-room (a .session) (a .id) (a .request) (sym (r .add-answer .ensures) ∙ c .enum-told .given .1) in
+    let h = add-room (a .session) (a .id) (a .request) (sym (answer-is r) ∙ c .enum-told .given .1) in
     omega (arith, h, length-take (a .session .len) (a .session .queue), l .loop .inv .1, l .before .before .bounded .ensures)
 
 mul-queue : tie.Need-mul-queue Inv-loop μ-loop Inv-loop2 μ-loop2
@@ -155,10 +169,10 @@ returns c =
     let pushed : take (n + 1) (set (s .queue) n e) ≡ q =
     rw (add-one n, take-suc-set (s .queue) n e (omega (arith, fits, size)), take-min (s .queue) (s .len) n (omega (arith, bound, size))) in
     let filled = session-filled (record { opened = s .opened; setup = s .setup; queue = f .queue; len = n + 1 }) (s .setup) q
-    (accepted-opened s (Add (a .id) (a .request)) (add-closed _ (a .id) (a .request)) (sym (r .ensures) ∙ told .enum-told .given .1)) refl
+    (accepted-opened s (Add (a .id) (a .request)) (add-closed _ (a .id) (a .request)) (sym (answer-is m) ∙ told .enum-told .given .1)) refl
     (sym count) (f .inv .0) (rw (count, ← pushed, ← all) (f .inv .3)) in
     ap (λ (x : Session). record { answer = r .result; session = x }) filled
-    ∙ answered-accepted (r .result) (refusedBy s (Add (a .id) (a .request))) (r .ensures) s (sessionOf (s .setup) q) (told .enum-told .given .1)
+    ∙ answered-accepted (r .result) (refusedBy s (Add (a .id) (a .request))) (answer-is m) s (sessionOf (s .setup) q) (told .enum-told .given .1)
 
 returns-2 : tie.Need-returns-2 Inv-loop μ-loop Inv-loop2 μ-loop2
 unfolding addOf queued
@@ -166,7 +180,7 @@ returns-2 c =
     let m = c .before .before in
     let a = m .before .before .before .before .before .before .args in
     let r = m .add-answer in
-    answered-refused (r .result) (refusedBy (a .session) (Add (a .id) (a .request))) (r .ensures) (a .session) _ _ (c .enum-told2 .given .1)
+    answered-refused (r .result) (refusedBy (a .session) (Add (a .id) (a .request))) (answer-is m) (a .session) _ _ (c .enum-told2 .given .1)
 
 pub add-spec : {M : Type 1} → statement M
 add-spec =

@@ -15,37 +15,37 @@ use Rattle.plans.specs.Search.{hasPlan}
 use Rattle.sessions.specs.Calls.{Add, waits}
 use Rattle.sessions.specs.Table.{outsideIds}
 use Rattle.sessions.specs.Sessions.{queueLimit, queued}
-use Rattle.requests.proofs.Windows.{length-mapped}
 use Rattle.requests.proofs.AnswerTests.{answer-none, answer-some}
 use Rattle.sessions.proofs.TableAnswers.{add-closed, add-bad-id, add-waiting, add-ill-formed, add-no-plan, add-full, add-accepted, answer-closed, answer-opened}
+use Rattle.planner.specs.Answering.{sessionWith}
 use Rattle.planner.proofs.add.add_answer.Statement.{statement}
 use Rattle.planner.proofs.add.add_answer.Tie as tie
 
 returns : tie.Need-returns
 unfolding answerFor
-returns c =
+returns c queue size waiting =
     let a = c .before .args in
-    answer-closed (a .session) (Add (a .id) (a .request)) (some CallOrder) (not-true _ (c .if1 .taken)) (add-closed queueLimit (a .id) (a .request))
+    answer-closed (sessionWith (a .opened) (a .setup) (a .len) queue) (Add (a .id) (a .request)) (some CallOrder) (not-true _ (c .if1 .taken)) (add-closed queueLimit (a .id) (a .request))
 
 outside-ids-requires : tie.Need-outside-ids-requires
 outside-ids-requires c κs = search needs
 
 returns-2 : tie.Need-returns-2
 unfolding answerFor
-returns-2 c =
+returns-2 c queue size waiting =
     let a = c .before .before .before .args in
-    let s = a .session in
+    let s = sessionWith (a .opened) (a .setup) (a .len) queue in
     let b : outsideIds (a .id) ≡ true = sym (c .before .outside-ids .ensures) ∙ c .if2 .taken in
     answer-opened s (Add (a .id) (a .request)) (some BadId) (not-false _ (c .before .before .if1 .left)) (add-bad-id queueLimit (s .setup) (queued s) (a .id) (a .request) b)
 
 returns-3 : tie.Need-returns-3
 unfolding answerFor
-returns-3 c =
+returns-3 c queue size waiting =
     let i = c .before in
     let a = i .before .before .before .args in
-    let s = a .session in
+    let s = sessionWith (a .opened) (a .setup) (a .len) queue in
     let b : outsideIds (a .id) ≡ false = sym (i .before .outside-ids .ensures) ∙ i .if2 .left in
-    let w : waits (a .id) (queued s) ≡ true = sym (i .before .before .before .pre) ∙ c .if3 .taken in
+    let w : waits (a .id) (queued s) ≡ true = sym waiting ∙ c .if3 .taken in
     answer-opened s (Add (a .id) (a .request)) (some IdWaiting) (not-false _ (i .before .before .if1 .left)) (add-waiting queueLimit (s .setup) (queued s) (a .id) (a .request) b w)
 
 request-refusal-requires : tie.Need-request-refusal-requires
@@ -55,21 +55,21 @@ enum-known-checked : tie.Need-enum-known-checked
 enum-known-checked c = search needs
 
 -- past the first three tests
-late : (c : tie.After-request-refusal) → let a = c .before .before .before .before .before .before .args in
-    (a .session .opened ≡ true) × (outsideIds (a .id) ≡ false) × (waits (a .id) (queued (a .session)) ≡ false)
+late : (c : tie.After-request-refusal) → let a = c .before .before .before .before .before .args in
+    (a .opened ≡ true) × (outsideIds (a .id) ≡ false) × (a .waiting ≡ false)
 late c =
-    let i = c .before .before .before in
-    (not-false _ (i .before .before .if1 .left), sym (i .before .outside-ids .ensures) ∙ i .if2 .left, sym (i .before .before .before .pre) ∙ c .before .before .if3 .left)
+    let i = c .before .before in
+    (not-false _ (i .before .before .if1 .left), sym (i .before .outside-ids .ensures) ∙ i .if2 .left, c .before .if3 .left)
 
 returns-4 : tie.Need-returns-4
 unfolding answerFor
-returns-4 c =
+returns-4 c queue size waiting =
     let p = c .before .before .before in
-    let a = p .before .before .before .before .before .before .args in
-    let s = a .session in
+    let a = p .before .before .before .before .before .args in
+    let s = sessionWith (a .opened) (a .setup) (a .len) queue in
     let f = late p in
     let e = answer-some (requestRefusal (s .setup) (a .request)) _ (sym (p .request-refusal .ensures) ∙ c .before .checked .given .1) in
-    answer-opened s (Add (a .id) (a .request)) (some _) (f .0) (add-ill-formed queueLimit (s .setup) (queued s) (a .id) (a .request) (f .1) (f .2) _ e)
+    answer-opened s (Add (a .id) (a .request)) (some _) (f .0) (add-ill-formed queueLimit (s .setup) (queued s) (a .id) (a .request) (f .1) (sym waiting ∙ f .2) _ e)
 
 enum-told : tie.Need-enum-told
 enum-told c = search needs
@@ -78,51 +78,47 @@ plans-alone-requires : tie.Need-plans-alone-requires
 plans-alone-requires c κs = search needs
 
 -- past the checks of the request
-formed : (c : tie.After-plans-alone) → let a = c .before .before .before .before .before .before .before .before .before .args in
-    requestRefusal (a .session .setup) (a .request) ≡ none
+formed : (c : tie.After-plans-alone) → let a = c .before .before .before .before .before .before .before .before .args in
+    requestRefusal (a .setup) (a .request) ≡ none
 formed c =
     let p = c .before .before .before in
     answer-none _ (sym (p .request-refusal .ensures) ∙ c .before .enum-told .given .1)
 
 returns-5 : tie.Need-returns-5
 unfolding answerFor
-returns-5 c =
+returns-5 c queue size waiting =
     let p = c .before in
-    let a = p .before .before .before .before .before .before .before .before .before .args in
-    let s = a .session in
+    let a = p .before .before .before .before .before .before .before .before .args in
+    let s = sessionWith (a .opened) (a .setup) (a .len) queue in
     let f = late (p .before .before .before) in
     let n : hasPlan (s .setup) (a .request ∷ []) ≡ false = sym (p .plans-alone .ensures) ∙ not-true _ (c .if4 .taken) in
-    answer-opened s (Add (a .id) (a .request)) (some NoPlanAlone) (f .0) (add-no-plan queueLimit (s .setup) (queued s) (a .id) (a .request) (f .1) (f .2) (formed p) n)
-
-length-16 : (c : tie.Start) → length (c .args .session .queue) ≡ 16
-length-16 c = search (length-mapped, needs)
+    answer-opened s (Add (a .id) (a .request)) (some NoPlanAlone) (f .0) (add-no-plan queueLimit (s .setup) (queued s) (a .id) (a .request) (f .1) (sym waiting ∙ f .2) (formed p) n)
 
 returns-6 : tie.Need-returns-6
 unfolding answerFor queueLimit queued
-returns-6 c =
-    let i = c .before .before in
+returns-6 c queue size waiting =
+    let i = c .before in
     let p = i .before in
-    let b = p .before .before .before .before .before .before .before .before .before in
+    let b = p .before .before .before .before .before .before .before .before in
     let a = b .args in
-    let s = a .session in
+    let s = sessionWith (a .opened) (a .setup) (a .len) queue in
     let f = late (p .before .before .before) in
     let n : hasPlan (s .setup) (a .request ∷ []) ≡ true = sym (p .plans-alone .ensures) ∙ not-false _ (i .if4 .left) in
-    let l = length-16 b in
     let k : leb 16 (length (queued s)) ≡ true = le-leb 16 (length (queued s)) (rw length-take (omega arith)) in
-    answer-opened s (Add (a .id) (a .request)) (some QueueFull) (f .0) (add-full queueLimit (s .setup) (queued s) (a .id) (a .request) (f .1) (f .2) (formed p) n k)
+    answer-opened s (Add (a .id) (a .request)) (some QueueFull) (f .0) (add-full queueLimit (s .setup) (queued s) (a .id) (a .request) (f .1) (sym waiting ∙ f .2) (formed p) n k)
 
 returns-7 : tie.Need-returns-7
 unfolding answerFor queueLimit queued
-returns-7 c =
-    let i = c .before .before in
+returns-7 c queue size waiting =
+    let i = c .before in
     let p = i .before in
-    let b = p .before .before .before .before .before .before .before .before .before in
+    let b = p .before .before .before .before .before .before .before .before in
     let a = b .args in
-    let s = a .session in
+    let s = sessionWith (a .opened) (a .setup) (a .len) queue in
     let f = late (p .before .before .before) in
     let n : hasPlan (s .setup) (a .request ∷ []) ≡ true = sym (p .plans-alone .ensures) ∙ not-false _ (i .if4 .left) in
     let k : leb 16 (length (queued s)) ≡ false = lt-leb 16 (length (queued s)) (rw length-take (omega arith)) in
-    answer-opened s (Add (a .id) (a .request)) none (f .0) (add-accepted queueLimit (s .setup) (queued s) (a .id) (a .request) (f .1) (f .2) (formed p) n k)
+    answer-opened s (Add (a .id) (a .request)) none (f .0) (add-accepted queueLimit (s .setup) (queued s) (a .id) (a .request) (f .1) (sym waiting ∙ f .2) (formed p) n k)
 
 pub add-answer-spec : {M : Type 1} → statement M
 add-answer-spec =

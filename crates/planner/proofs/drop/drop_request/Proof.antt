@@ -2,7 +2,6 @@
 -- up (`ClosedUp`); the places past them are vacant up to k.
 use mathlib.Core.Path.{_≡_, refl, sym, ap, _∙_}
 use mathlib.Core.Logic.{⊎-elim}
-use mathlib.Core.Bool.{true}
 use mathlib.Core.List.{_++_}
 use Prim.Native.Nat.{_-_, _≤_}
 use borrow.Author.Needs.{needs}
@@ -11,6 +10,7 @@ use native.Mathlib.Omega.{arith}
 use lib.Dec.{ltb}
 use lib.ListN.{length, take, replicate, length-set}
 use Rattle.sessions.specs.declared.Session.{Session}
+use Rattle.requests.specs.Refusals.{answerFor}
 use Rattle.sessions.specs.Calls.{Drop, waits}
 use Rattle.sessions.specs.Plain.{removed}
 use Rattle.sessions.specs.Sessions.{vacant, queued, sessionOf, refusedBy, dropOf}
@@ -29,18 +29,18 @@ abbrev μ-loop : tie.MeasureT-loop
 μ-loop session id n queue at₀ at = n - at
 
 abbrev Inv-loop2 : tie.InvT-loop2
-Inv-loop2 session id n queue₀ at answer len₀ i₀ queue len i =
+Inv-loop2 session id n queue₀ at opened answer len₀ i₀ queue len i =
     (n ≤ 16) × (length queue₀ ≡ 16) × (i ≤ n) × ClosedUp queue₀ queue id i len
 
 abbrev μ-loop2 : tie.MeasureT-loop2
-μ-loop2 session id n queue₀ at answer len₀ i₀ queue len i = n - i
+μ-loop2 session id n queue₀ at opened answer len₀ i₀ queue len i = n - i
 
 abbrev Inv-loop3 : tie.InvT-loop3
-Inv-loop3 session id n queue₀ at answer len empty k₀ queue k =
+Inv-loop3 session id n queue₀ at opened answer len empty k₀ queue k =
     (length queue ≡ 16) × (len ≤ k) × (k ≤ 16) × (take k queue ≡ take len queue₀ ++ replicate (k - len) vacant)
 
 abbrev μ-loop3 : tie.MeasureT-loop3
-μ-loop3 session id n queue₀ at answer len empty k₀ queue k = 16 - k
+μ-loop3 session id n queue₀ at opened answer len empty k₀ queue k = 16 - k
 
 bounded-requires : tie.Need-bounded-requires Inv-loop μ-loop Inv-loop2 μ-loop2 Inv-loop3 μ-loop3
 bounded-requires c κs = search needs
@@ -69,13 +69,26 @@ loop-again c =
     (v .0, v .1, omega arith, unmet-next (v .3) _ (omega arith) (omega arith) (c .if1 .left))
 
 drop-answer-requires : tie.Need-drop-answer-requires Inv-loop μ-loop Inv-loop2 μ-loop2 Inv-loop3 μ-loop3
+drop-answer-requires c κs = search needs
+
+-- whether the id is waiting
+found : (c : tie.After-drop-answer Inv-loop μ-loop Inv-loop2 μ-loop2 Inv-loop3 μ-loop3) → let a = c .before .before .before .before .before .args in
+    ltb (c .before .before .loop .at) (c .before .before .before .before .bounded .result) ≡ waits (a .id) (queued (a .session))
 unfolding queued
-drop-answer-requires c κs =
-    let v = c .before .loop .inv in
+found c =
+    let v = c .before .before .loop .inv in
     ⊎-elim
     (λ w. le-ltb _ _ (w .left) ∙ sym (never-met (v .3) vacant (omega (arith, w .left))))
     (λ w. lt-ltb _ _ (w .0 .taken) ∙ sym (met (v .3) _ (omega (arith, w .0 .taken)) (omega (arith, w .0 .taken)) (w .3 .taken)))
-    (c .loop-test .came)
+    (c .before .loop-test .came)
+
+-- the answer is that of the table
+answer-is : (c : tie.After-drop-answer Inv-loop μ-loop Inv-loop2 μ-loop2 Inv-loop3 μ-loop3) → let a = c .before .before .before .before .before .args in
+    c .drop-answer .result ≡ answerFor (refusedBy (a .session) (Drop (a .id)))
+answer-is c =
+    let b = c .before .before .before .before .before in
+    let s = b .args .session in
+    c .drop-answer .ensures (s .setup) (s .len) (s .queue) (length-16 b) (found c)
 
 enum-told : tie.Need-enum-told Inv-loop μ-loop Inv-loop2 μ-loop2 Inv-loop3 μ-loop3
 enum-told c = search needs
@@ -165,11 +178,11 @@ returns c =
     let done : removed (a .id) (take (k .i) (s .queue)) ≡ removed (a .id) (queued s) =
     ap (removed (a .id)) (take-min (s .queue) (s .len) (k .i) (omega (arith, v .1, v .2, w .3 .left, m .before .before .before .before .before .bounded .ensures))) in
     let filled = session-filled (record { opened = s .opened; setup = s .setup; queue = f .queue; len = k .len }) (s .setup) (removed (a .id) (queued s))
-    (accepted-opened s (Drop (a .id)) (drop-closed _ (a .id)) (sym (r .ensures) ∙ w .1 .given .1)) refl
+    (accepted-opened s (Drop (a .id)) (drop-closed _ (a .id)) (sym (answer-is (m .before)) ∙ w .1 .given .1)) refl
     (rw (← done) (v .3 .count)) (f .inv .0) (rw (← done, ← v .3 .count, ← v .3 .front, ← all) (f .inv .3)) in
     rw (w .7, w .8) (ap (λ (x : Session). record { answer = r .result; session = x }) filled
-    ∙ answered-accepted (r .result) (refusedBy s (Drop (a .id))) (r .ensures) s (sessionOf (s .setup) (removed (a .id) (queued s))) (w .1 .given .1)))
-    (λ w. rw (w .2, w .3) (answered-refused (r .result) (refusedBy s (Drop (a .id))) (r .ensures) s _ _ (w .1 .given .1)))
+    ∙ answered-accepted (r .result) (refusedBy s (Drop (a .id))) (answer-is (m .before)) s (sessionOf (s .setup) (removed (a .id) (queued s))) (w .1 .given .1)))
+    (λ w. rw (w .2, w .3) (answered-refused (r .result) (refusedBy s (Drop (a .id))) (answer-is (m .before)) s _ _ (w .1 .given .1)))
     (m .match .came)
 
 pub drop-request-spec : {M : Type 1} → statement M

@@ -65,7 +65,8 @@ room : (c : tie.Else1 Inv-loop μ-loop) → c .before .before .before .before .b
 unfolding vacant
 room c =
     let l = c .before .before .before .before .before .before in
-    taken-room (l .loop .inv .4) (l .loop .at) (c .before .before .plan-with .ensures .0) (c .if1 .left) .1
+    let q = c .before .before .before .before .before .before .before .before .before .before .before .before .args .t1 .queue in
+    taken-room (take (l .loop .at) q) (l .loop .inv .4 .rows-taken) (getD q (l .loop .at) vacant) (c .before .before .plan-with .ensures .0) (c .if1 .left) .1
 
 mul-taken : tie.Need-mul-taken Inv-loop μ-loop
 mul-taken c = let r = room c in omega arith
@@ -99,7 +100,7 @@ loop-again c =
       omega arith,
       omega arith,
       rw next (selected-passes (v .4) i (found .0) (w .0 .taken) (omega arith) (omega arith)),
-      rw next (left-passes (v .4) i (found .0) (v .5) (w .0 .taken)),
+      rw next (left-passes (take i q) (v .4 .rows-taken) (getD q i vacant) (found .0) (v .5) (w .0 .taken)),
     ))
     (λ w.
     rw (w .1, w .2, w .3, w .4, w .5, w .6) (
@@ -108,7 +109,7 @@ loop-again c =
       omega arith,
       omega arith,
       rw next (selected-takes (v .4) i (found .0) (w .0 .left) (omega arith) (omega arith)),
-      rw next (left-takes (v .4) i (found .0) (v .5) (found .1 (w .0 .left)) (w .0 .left)),
+      rw next (left-takes (take i q) (v .4 .rows-taken) (getD q i vacant) (found .0) (v .5) (found .1 (w .0 .left)) (w .0 .left)),
     ))
     (c .if1 .came)
 
