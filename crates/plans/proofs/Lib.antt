@@ -25,4 +25,4 @@ pub mod PartsHold
 pub mod AcceptanceTests
 pub mod ReachHolds
 pub mod ExtendsHold
-mod FreeBeside
+pub mod FreeBeside

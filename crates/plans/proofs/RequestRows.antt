@@ -16,7 +16,7 @@ use Rattle.plans.specs.Rows.{requestOf, requestAt, setRow, setRequest, r
 
 -- ---- one row
 
-row-here : (rows : List ℕ) (i kind a b c : ℕ) → i * 4 + 3 < length rows → requestAt (setRow rows i kind a b c) i ≡ requestOf kind a b c
+pub row-here : (rows : List ℕ) (i kind a b c : ℕ) → i * 4 + 3 < length rows → requestAt (setRow rows i kind a b c) i ≡ requestOf kind a b c
 unfolding requestAt setRow
 row-here rows i kind a b c l =
     let x1 = set rows (i * 4) kind in
@@ -37,30 +37,41 @@ row-here rows i kind a b c l =
     ∙ getD-set-other x1 (i * 4 + 1) (i * 4) a 0 (λ q. omega arith) ∙ getD-set-same rows (i * 4) kind 0 (omega arith) in
     rw (e0, e1, e2, e3)
 
-row-length : (rows : List ℕ) (i kind a b c : ℕ) → length (setRow rows i kind a b c) ≡ length rows
+pub row-length : (rows : List ℕ) (i kind a b c : ℕ) → length (setRow rows i kind a b c) ≡ length rows
 unfolding setRow
 row-length rows i kind a b c = rw (length-set, length-set, length-set, length-set)
 
-cell-front : (rows : List ℕ) (i kind a b c j : ℕ) → j < i * 4 → getD (setRow rows i kind a b c) j 0 ≡ getD rows j 0
+cell-other : (rows : List ℕ) (i kind a b c j k : ℕ) → k < 4 → (j ≡ i → ⊥) → getD (setRow rows i kind a b c) (j * 4 + k) 0 ≡ getD rows (j * 4 + k) 0
 unfolding setRow
-cell-front rows i kind a b c j l =
+cell-other rows i kind a b c j k few other =
     let x1 = set rows (i * 4) kind in
     let x2 = set x1 (i * 4 + 1) a in
     let x3 = set x2 (i * 4 + 2) b in
-    getD-set-other x3 (i * 4 + 3) j c 0 (λ q. omega arith) ∙ getD-set-other x2 (i * 4 + 2) j b 0 (λ q. omega arith)
-    ∙ getD-set-other x1 (i * 4 + 1) j a 0 (λ q. omega arith) ∙ getD-set-other rows (i * 4) j kind 0 (λ q. omega arith)
+    getD-set-other x3 (i * 4 + 3) (j * 4 + k) c 0 (λ q. other (omega arith)) ∙ getD-set-other x2 (i * 4 + 2) (j * 4 + k) b 0 (λ q. other (omega arith))
+    ∙ getD-set-other x1 (i * 4 + 1) (j * 4 + k) a 0 (λ q. other (omega arith)) ∙ getD-set-other rows (i * 4) (j * 4 + k) kind 0 (λ q. other (omega arith))
 
-row-front : (rows : List ℕ) (i kind a b c j : ℕ) → j < i → requestAt (setRow rows i kind a b c) j ≡ requestAt rows j
+pub row-other : (rows : List ℕ) (i kind a b c j : ℕ) → (j ≡ i → ⊥) → requestAt (setRow rows i kind a b c) j ≡ requestAt rows j
 unfolding requestAt
-row-front rows i kind a b c j l =
+row-other rows i kind a b c j other =
+    let z : j * 4 + 0 ≡ j * 4 = omega arith in
+    let first = rw z at (cell-other rows i kind a b c j 0 (omega arith) other) in
     rw (
-      cell-front rows i kind a b c (j * 4) (omega arith),
-      cell-front rows i kind a b c (j * 4 + 1) (omega arith),
-      cell-front rows i kind a b c (j * 4 + 2) (omega arith),
-      cell-front rows i kind a b c (j * 4 + 3) (omega arith),
+      first,
+      cell-other rows i kind a b c j 1 (omega arith) other,
+      cell-other rows i kind a b c j 2 (omega arith) other,
+      cell-other rows i kind a b c j 3 (omega arith) other,
     )
 
 -- ---- a request
+
+-- the numbers of an event and of a latency read back
+pub event-read : (code mask : ℕ) (a : CounterSet) → code < 256 → mask < 256 → requestOf 0 code mask (a .0) ≡ Event code mask a
+unfolding requestOf
+event-read code mask a f g = rw (mod-eq-of-lt f, mod-eq-of-lt g)
+
+pub latency-read : (t : ℕ) (a b : CounterSet) → t < 65536 → requestOf 3 t (a .0) (b .0) ≡ Latency t a b
+unfolding requestOf
+latency-read t a b f = rw (mod-eq-of-lt f)
 
 module _ (rows : List ℕ) (i : ℕ) where
   pub put-length : (r : Request) → length (setRequest rows i r) ≡ length rows
@@ -72,27 +83,10 @@ module _ (rows : List ℕ) (i : ℕ) where
 
   pub put-front : (r : Request) (j : ℕ) → j < i → requestAt (setRequest rows i r) j ≡ requestAt rows j
   unfolding setRequest
-  put-front (Event code mask a) j l = row-front rows i 0 code mask (a .0) j l
-  put-front (Packet x y a) j l = row-front rows i 1 x y (a .0) j l
-  put-front (Offcore w a) j l = row-front rows i 2 w 0 (a .0) j l
-  put-front (Latency t a b) j l = row-front rows i 3 t (a .0) (b .0) j l
-
-  module _ (l : i * 4 + 3 < length rows) where
-    pub event-back : (code mask : ℕ) (a : CounterSet) → code < 256 → mask < 256 → requestAt (setRequest rows i (Event code mask a)) i ≡ Event code mask a
-    unfolding setRequest requestOf
-    event-back code mask a f g = row-here rows i 0 code mask (a .0) l ∙ rw (mod-eq-of-lt f, mod-eq-of-lt g)
-
-    pub packet-back : (x y : ℕ) (a : CounterSet) → requestAt (setRequest rows i (Packet x y a)) i ≡ Packet x y a
-    unfolding setRequest requestOf
-    packet-back x y a = row-here rows i 1 x y (a .0) l
-
-    pub offcore-back : (w : ℕ) (a : CounterSet) → requestAt (setRequest rows i (Offcore w a)) i ≡ Offcore w a
-    unfolding setRequest requestOf
-    offcore-back w a = row-here rows i 2 w 0 (a .0) l
-
-    pub latency-back : (t : ℕ) (a b : CounterSet) → t < 65536 → requestAt (setRequest rows i (Latency t a b)) i ≡ Latency t a b
-    unfolding setRequest requestOf
-    latency-back t a b f = row-here rows i 3 t (a .0) (b .0) l ∙ rw (mod-eq-of-lt f)
+  put-front (Event code mask a) j l = row-other rows i 0 code mask (a .0) j (λ e. omega arith)
+  put-front (Packet x y a) j l = row-other rows i 1 x y (a .0) j (λ e. omega arith)
+  put-front (Offcore w a) j l = row-other rows i 2 w 0 (a .0) j (λ e. omega arith)
+  put-front (Latency t a b) j l = row-other rows i 3 t (a .0) (b .0) j (λ e. omega arith)
 
 -- ---- all rows
 

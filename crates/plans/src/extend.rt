@@ -102,7 +102,7 @@ pub fn counter_beside(
 }
 
 // Whether some allowed counter is usable.
-fn any_usable(setup: Setup, allowed: CounterSet) -> bool
+pub fn any_usable(setup: Setup, allowed: CounterSet) -> bool
     ensures { λ r. ⌜ (r ≡ true → AnyUsable setup allowed) ⌝ }
 {
     next_in(available(allowed, own_counters(setup)), 0) < 64

@@ -58,3 +58,11 @@ pub struct Found {
     pub found: bool,
     pub places: [Given; CAPACITY],
 }
+
+// A request as a row of four numbers: its kind, and what it holds.
+pub struct Row {
+    pub kind: u64,
+    pub a: u64,
+    pub b: u64,
+    pub c: u64,
+}

@@ -4,7 +4,7 @@ use mathlib.Core.List.{List, [], _∷_, _++_, flatMap, map}
 use mathlib.Core.Bool.{Bool, false}
 use Prim.Native.Nat.{ℕ, zero, suc, _+_, _-_, _<_, _≤_, min}
 use native.Mathlib.Omega.{arith}
-use lib.ListN.{length, getD, take, drop, set, replicate}
+use lib.ListN.{length, getD, take, drop, set, replicate, length-set}
 use Rattle.requests.specs.declared.Setup.{Setup}
 use Rattle.requests.specs.declared.Request.{Request}
 use Rattle.requests.specs.Choice.{either}
@@ -20,7 +20,7 @@ use Rattle.plans.proofs.RequestRows.{rows-next}
 use Rattle.layouts.specs.Layout.{tabulate}
 use Rattle.layouts.specs.Settings.{usesOf, wordAt, setFrom, headOr, nonempty, settingsOf}
 use Rattle.layouts.specs.declared.Settings.{Settings}
-use Rattle.registers.specs.Adding.{withUses, withPackets, settingsWith}
+use Rattle.registers.specs.Adding.{withUses, withPackets, othersWith, settingsWith}
 use Rattle.registers.proofs.UsedCounters.{setOf, used-more}
 use Rattle.layouts.proofs.Tabulated.{tabulate-set}
 use Rattle.requests.proofs.Windows.{window-past, window-step}
@@ -41,10 +41,16 @@ words-more [] us = refl
 words-more (x ∷ xs) us =
     tabulate-set capacity (x .0) (x .1) (wordAt (xs ++ us)) ∙ ap (λ (ws : List ℕ). set ws (x .0) (x .1)) (words-more xs us)
 
+-- and keep the length
+pub uses-length : (xs : List (ℕ × ℕ)) (words : List ℕ) → length (withUses xs words) ≡ length words
+unfolding withUses
+uses-length [] words = refl
+uses-length (x ∷ xs) words = length-set (withUses xs words) (x .0) (x .1) ∙ uses-length xs words
+
 -- a plan with one request more in front
 pub settings-add : (s : Setup) (r : Request) (p : Place) (rs : List Request) (ps : List Place)
     → settingsWith s r p (settingsOf s rs ps) ≡ settingsOf s (r ∷ rs) (p ∷ ps)
-unfolding settingsOf settingsWith withPackets ofAll counters flatMap
+unfolding settingsOf settingsWith othersWith withPackets ofAll counters flatMap
 settings-add s r p rs ps =
     rw (
       used-more (s .device) (countersOf p) (counters ps),

@@ -43,15 +43,32 @@ withPackets r t =
       «mask_word» = headOr (t .«match_word», t .«mask_word») (packetsOf r) .1;
     }
 
--- the register values with one more request in front
-unfoldable pub settingsWith : Setup → Request → Place → Settings → Settings
-settingsWith s r p t =
+-- the used counters and the filter registers with one more request in front; the control words stay
+unfoldable pub othersWith : Setup → Request → Place → Settings → Settings
+othersWith s r p t =
     record {
       used = withCounters (s .device) (countersOf p) (t .used);
-      words = withUses (usesOf s r p) (t .words);
+      words = t .words;
       rsp0 = headOr (t .rsp0) (wordsOf 0 r p);
       rsp1 = headOr (t .rsp1) (wordsOf 1 r p);
       packets = withPackets r t .packets;
       «match_word» = withPackets r t .«match_word»;
       «mask_word» = withPackets r t .«mask_word»;
     }
+
+-- register values with other control words
+abbrev pub withWords : List ℕ → Settings → Settings
+withWords words t =
+    record {
+      used = t .used;
+      words = words;
+      rsp0 = t .rsp0;
+      rsp1 = t .rsp1;
+      packets = t .packets;
+      «match_word» = t .«match_word»;
+      «mask_word» = t .«mask_word»;
+    }
+
+-- the register values with one more request in front
+unfoldable pub settingsWith : Setup → Request → Place → Settings → Settings
+settingsWith s r p t = withWords (withUses (usesOf s r p) (t .words)) (othersWith s r p t)

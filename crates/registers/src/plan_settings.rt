@@ -19,14 +19,14 @@ use requests::Setup;
 ghost use mathlib.Core.Path.{_≡_};
 ghost use mathlib.Core.List.{[], map};
 ghost use Prim.Native.Nat.{_<_, min};
-ghost use lib.ListN.{take, set};
+ghost use lib.ListN.{length, take, set};
 ghost use Rattle.requests.specs.Devices.{capacity};
 ghost use Rattle.plans.specs.Places.{first, second, countersOf};
 ghost use Rattle.plans.specs.Legal.{wordsOf};
 ghost use Rattle.plans.specs.Packed.{placesFrom};
 ghost use Rattle.plans.specs.Rows.{rowsFrom};
 ghost use Rattle.layouts.specs.Settings.{usesOf, headOr, settingsOf};
-ghost use Rattle.registers.specs.Adding.{withCounter, withCounters, withUses, withPackets, settingsWith};
+ghost use Rattle.registers.specs.Adding.{withCounter, withCounters, withUses, withPackets, othersWith, settingsWith};
 
 // The counter of a place, or the first of two.
 fn first_of(place: Place) -> u64
@@ -77,39 +77,34 @@ fn with_counters(device: Device, place: Place, used: CounterSet) -> CounterSet
     }
 }
 
-// The control words with one more. A counter past the array has none.
-fn with_word(words: [u64; CAPACITY], counter: u64, word: u64) -> [u64; CAPACITY]
-    ensures { λ r. ⌜ r ≡ set words counter word ⌝ }
+// Stores the control word of a counter. A counter past the array has none.
+fn put_word(words: &mut [u64; CAPACITY], counter: u64, word: u64)
+    requires { ⌜ length (now words) ≡ 8 ⌝ }
+    ensures { λ _. ⌜ now (words .exit) ≡ set (now (words .entry)) counter word ⌝ }
 {
     if CAPACITY as u64 <= counter {
-        return words;
+        return;
     }
-    let mut next = words;
-    next[counter as usize] = word;
-    next
+    words[counter as usize] = word;
 }
 
-// The control words with those of a request at its place.
-fn with_uses(
-    setup: Setup,
-    request: Request,
-    place: Place,
-    words: [u64; CAPACITY],
-) -> [u64; CAPACITY]
-    ensures { λ r. ⌜ r ≡ withUses (usesOf setup request place) words ⌝ }
+// Stores the control words of a request at its place.
+fn put_uses(setup: Setup, request: Request, place: Place, words: &mut [u64; CAPACITY])
+    requires { ⌜ length (now words) ≡ 8 ⌝ }
+    ensures { λ _. ⌜ now (words .exit) ≡ withUses (usesOf setup request place) (now (words .entry)) ⌝ }
 {
     let counter = first_of(place);
     match request {
-        Request::Event { code, mask, .. } => with_word(
+        Request::Event { code, mask, .. } => put_word(
             words,
             counter,
             event_word(setup, code, mask),
         ),
-        Request::Packet { .. } => with_word(words, counter, packet_word(setup)),
-        Request::Offcore { .. } => with_word(words, counter, rsp_word(setup, second_of(place))),
+        Request::Packet { .. } => put_word(words, counter, packet_word(setup)),
+        Request::Offcore { .. } => put_word(words, counter, rsp_word(setup, second_of(place))),
         Request::Latency { .. } => {
-            let paired = with_word(words, second_of(place), rsp_word(setup, 1));
-            with_word(paired, counter, rsp_word(setup, 0))
+            put_word(words, second_of(place), rsp_word(setup, 1));
+            put_word(words, counter, rsp_word(setup, 0));
         }
     }
 }
@@ -159,15 +154,15 @@ fn with_packets(request: Request, settings: Settings) -> Settings
     }
 }
 
-// The register values with one more request in front.
-pub fn settings_with(setup: Setup, request: Request, place: Place, settings: Settings) -> Settings
-    ensures { λ r. ⌜ r ≡ settingsWith setup request place settings ⌝ }
+// The used counters and the filter registers with one more request in front. The control words stay: they are stored in place, since a
+// struct by value is copied with all of them.
+fn others_with(setup: Setup, request: Request, place: Place, settings: Settings) -> Settings
+    ensures { λ r. ⌜ r ≡ othersWith setup request place settings ⌝ }
 {
     let device = setup.device;
     let before = settings.used;
-    let old = settings.words;
+    let words = settings.words;
     let used = with_counters(device, place, before);
-    let words = with_uses(setup, request, place, old);
     let filter = with_packets(request, settings);
     Settings {
         used: used,
@@ -178,6 +173,17 @@ pub fn settings_with(setup: Setup, request: Request, place: Place, settings: Set
         match_word: filter.match_word,
         mask_word: filter.mask_word,
     }
+}
+
+// The register values with one more request in front.
+fn settings_with(setup: Setup, request: Request, place: Place, settings: Settings) -> Settings
+    ensures { λ r. ⌜ r ≡ settingsWith setup request place settings ⌝ }
+{
+    let mut words = settings.words;
+    put_uses(setup, request, place, &mut words);
+    let mut next = others_with(setup, request, place, settings);
+    next.words = words;
+    next
 }
 
 // How many of the places of an array are in use.
@@ -228,12 +234,15 @@ pub fn settings_in(setup: Setup, code: u64, rows: &[u64; ROW_NUMBERS], count: us
     ensures { λ r. ⌜ r ≡ settingsOf setup (rowsFrom (now (rows .entry)) 0 (min count capacity)) (placesFrom code 0 (rowsFrom (now (rows .entry)) 0 (min count capacity))) ⌝ }
 {
     let mut settings = no_settings();
+    let mut words = settings.words;
     let mut left = bounded(count);
     while 0 < left {
         left -= 1;
         let request = request_at(rows, left);
         let place = place_at(code, left, request);
-        settings = settings_with(setup, request, place, settings);
+        put_uses(setup, request, place, &mut words);
+        settings = others_with(setup, request, place, settings);
     }
+    settings.words = words;
     settings
 }

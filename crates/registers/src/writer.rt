@@ -170,7 +170,7 @@ fn put_box(out: &mut [u64], at: usize, setup: Setup, settings: Settings) -> usiz
 }
 
 // The whole list, where it has room: between two writes of the U-Box where something is asked.
-fn put_list(out: &mut [u64], setup: Setup, settings: Settings) -> usize
+pub fn put_list(out: &mut [u64], setup: Setup, settings: Settings) -> usize
     requires { ⌜ 2 * length (writesFor setup settings) ≤ length (now out) ⌝ }
     ensures { λ r. ⌜ Appended (now (out .entry)) 0 (writesFor setup settings) (now (out .exit)) r ⌝ }
 {

@@ -1,25 +1,12 @@
--- The kind is told by three tests.
-use borrow.Author.Tests.{eq-eqb, ne-eqb}
-use Rattle.plans.specs.Rows.{requestOf, requestAt}
+-- The request of the row's numbers.
+use Rattle.plans.specs.Rows.{requestAt}
 use borrow.Author.Needs.{needs}
 use Rattle.plans.proofs.rows.request_at.Statement.{statement}
 use Rattle.plans.proofs.rows.request_at.Tie as tie
 
 returns : tie.Need-returns
-unfolding requestOf requestAt
-returns c = simp (eq-eqb _ _ (c .if1 .taken))
-
-returns-2 : tie.Need-returns-2
-unfolding requestOf requestAt
-returns-2 c = simp (ne-eqb _ _ (c .before .if1 .left), eq-eqb _ _ (c .if2 .taken))
-
-returns-3 : tie.Need-returns-3
-unfolding requestOf requestAt
-returns-3 c = simp (ne-eqb _ _ (c .before .before .if1 .left), ne-eqb _ _ (c .before .if2 .left), eq-eqb _ _ (c .if3 .taken))
-
-returns-4 : tie.Need-returns-4
-unfolding requestOf requestAt
-returns-4 c = simp (ne-eqb _ _ (c .before .before .if1 .left), ne-eqb _ _ (c .before .if2 .left), ne-eqb _ _ (c .if3 .left))
+unfolding requestAt
+returns c = c .request-of .ensures
 
 pub request-at-spec : {M : Type 1} → statement M
 request-at-spec =
@@ -40,10 +27,5 @@ request-at-spec =
     (λ c. search needs)
     (λ c. search needs)
     (λ c. search needs)
-    (λ c. search needs)
-    (λ c. search needs)
-    returns
-    returns-2
-    returns-3
-    (λ c. search needs)
-    returns-4)
+    (λ c κs. search needs)
+    returns)

@@ -1,25 +1,32 @@
--- `settings_in` goes from the last row to the first: the values are those of the rows from `left` on.
-use mathlib.Core.Path.{_≡_, _∙_}
-use Prim.Native.Nat.{_≤_, min}
+-- `settings_in` goes from the last row to the first: the control words and the other values are those of the rows from `left` on.
+use mathlib.Core.Path.{_≡_, ap, _∙_}
+use Prim.Native.Nat.{_-_, _≤_, min}
 use native.Mathlib.Nat.{sub-zero}
 use native.Mathlib.Omega.{arith}
-use borrow.Author.Needs.{needs}
+use lib.ListN.{length}
+use Rattle.layouts.specs.Settings.{settingsOf}
+use Rattle.layouts.proofs.Tabulated.{length-tabulate}
 use Rattle.requests.specs.Devices.{capacity}
-use Rattle.registers.proofs.PlanSteps.{settingsFrom, rows-past, rows-before}
+use Rattle.plans.specs.Rows.{requestAt}
+use Rattle.plans.specs.Packed.{placeAt}
+use Rattle.registers.specs.Adding.{withPackets, othersWith, withWords, settingsWith}
+use Rattle.registers.proofs.PlanSteps.{uses-length, settingsFrom, rows-past, rows-before}
+use borrow.Author.Needs.{needs}
 use Rattle.registers.proofs.plan_settings.settings_in.Statement.{statement}
 use Rattle.registers.proofs.plan_settings.settings_in.Tie as tie
 
 abbrev Inv-loop : tie.InvT-loop
-Inv-loop setup code rows count settings₀ left₀ settings left =
-    (left ≤ min count capacity) × (settings ≡ settingsFrom setup code rows (min count capacity) left)
+Inv-loop setup code rows count settings₀ words₀ left₀ settings words left =
+    (left ≤ min count capacity) × (length words ≡ 8) × (withWords words settings ≡ settingsFrom setup code rows (min count capacity) left)
 
 abbrev μ-loop : tie.MeasureT-loop
-μ-loop setup code rows count settings₀ left₀ settings left = left
+μ-loop setup code rows count settings₀ words₀ left₀ settings words left = left
 
 loop-holds : tie.Need-loop-holds Inv-loop μ-loop
+unfolding settingsOf capacity
 loop-holds c =
-    let a = c .before .before .args in
-    (omega arith, rw (c .bounded .ensures) (c .before .no-settings .ensures (a .setup) ∙ rows-past (a .setup) (a .code) (a .rows .now) (min (a .count) capacity)))
+    let a = c .before .before .before .args in
+    (omega arith, rw (c .before .before .no-settings .ensures (a .setup)) (length-tabulate 8 _), rw (c .bounded .ensures) (c .before .before .no-settings .ensures (a .setup) ∙ rows-past (a .setup) (a .code) (a .rows .now) (min (a .count) capacity)))
 
 sub-left : tie.Need-sub-left Inv-loop μ-loop
 sub-left c = omega arith
@@ -32,22 +39,27 @@ place-at-requires : tie.Need-place-at-requires Inv-loop μ-loop
 unfolding capacity
 place-at-requires c κs = omega arith
 
+put-uses-requires : tie.Need-put-uses-requires Inv-loop μ-loop
+put-uses-requires c κs = c .before .before .before .before .loop .inv .1
+
 loop-less : tie.Need-loop-less Inv-loop μ-loop
 loop-less c = omega arith
 
 loop-again : tie.Need-loop-again Inv-loop μ-loop
+unfolding settingsWith othersWith withPackets
 loop-again c =
-    let p = c .before in
-    let r = p .before in
-    let l = r .before .before in
-    let a = l .before .before .before .args in (
+    let l = c .before .before .before .before .before .before .loop in
+    let a = c .before .before .before .before .before .before .before .before .before .before .args in
+    let r = requestAt (a .rows .now) (l .left - 1) in (
       omega arith,
-      rw (c .settings-with .ensures, p .place-at .ensures, r .request-at .ensures, l .loop .inv .1)
-          (rows-before (a .setup) (a .code) (a .rows .now) (min (a .count) capacity) (l .loop .left) (r .before .loop-test .taken) (l .loop .inv .0)),
+      rw (c .before .put-uses .ensures) (uses-length _ (l .words) ∙ l .inv .1),
+      rw (c .others-with .ensures, c .before .put-uses .ensures, c .before .before .before .place-at .ensures, c .before .before .before .before .request-at .ensures)
+          (ap (settingsWith (a .setup) r (placeAt (a .code) (l .left - 1) r)) (l .inv .2)
+          ∙ rows-before (a .setup) (a .code) (a .rows .now) (min (a .count) capacity) (l .left) (c .before .before .before .before .before .loop-test .taken) (l .inv .0)),
     )
 
 returns : tie.Need-returns Inv-loop μ-loop
-returns c = let l = c .before .loop in let e : l .left ≡ 0 = omega arith in rw (e, sub-zero) at (l .inv .1)
+returns c = let l = c .before .loop in let e : l .left ≡ 0 = omega arith in rw (e, sub-zero) at (l .inv .2)
 
 pub settings-in-spec : {M : Type 1} → statement M
 settings-in-spec =
@@ -61,6 +73,7 @@ settings-in-spec =
     sub-left
     request-at-requires
     place-at-requires
+    put-uses-requires
     (λ c κs. search needs)
     loop-less
     loop-again
