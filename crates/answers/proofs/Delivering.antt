@@ -1,30 +1,25 @@
 -- Laws of replies that are given in a slice: a text at its start, and what `reply` answers of it.
 -- Assumes nothing.
-use mathlib.Core.Path.{_≡_, refl, ap, sym, _∙_}
+use mathlib.Core.Path.{_≡_, ap, sym, _∙_}
 use mathlib.Core.List.{List, _++_, flatMap}
-use mathlib.Core.Option.{Option, none, some}
 use Prim.Native.Nat.{ℕ, _+_, _*_, _-_, _<_, _≤_}
 use native.Mathlib.Nat.{zero-add}
 use native.Mathlib.Omega.{arith}
 use lib.ListN.{length, take, drop, replicate, length-replicate, replicate-append-replicate}
-use lib.Seq.{sets-eq, take-append-seam, drop-at}
+use lib.Seq.{sets-eq, drop-at}
 use borrow.Author.Tests.{lt-ltb, le-ltb}
 use Rattle.requests.specs.declared.Answer.{Answer}
-use Rattle.requests.specs.declared.Refusal.{Refusal}
 use Rattle.sessions.specs.declared.Session.{Session}
 use Rattle.sessions.specs.declared.Assigned.{Assigned}
 use Rattle.sessions.specs.declared.TurnAnswered.{TurnAnswered}
-use Rattle.sessions.specs.Calls.{Turn}
-use Rattle.sessions.specs.Sessions.{refusedBy, turnAnswer, turnOf, planOf}
+use Rattle.sessions.specs.Sessions.{planOf}
 use Rattle.records.specs.declared.Parsed.{Parsed}
 use Rattle.names.specs.Lists.{NameLists}
 use Rattle.parser.specs.ParseWith.{parseLineWith}
 use Rattle.answers.specs.Replies.{Reply, answerText, takeLines, setLines, turnReply, parsedReply, answerLine}
-use Rattle.answers.specs.Written.{replyRoom, inArray, atStart, repliedIn, repliedOut}
+use Rattle.answers.specs.Written.{replyRoom, inArray, atStart, Left, repliedIn, repliedOut}
 use Rattle.answers.specs.Texts.{Put, Delivered}
-use Rattle.answers.specs.declared.Replied.{Replied}
 use Rattle.answers.proofs.Putting.{then}
-use Rattle.answers.proofs.TurnLimits.{turn-at-most}
 use Rattle.answers.proofs.ReplyLength.{reply-length}
 
 -- a text put at the start delivers a reply
@@ -33,39 +28,25 @@ delivered x d e n p = record { answered = let q : n ≡ length (x .text) = omega
 
 -- ---- a turn
 
--- the requests of the plan are those taken, in an answer ..
-taken-in : (a : Answer) (s : Session) (plan : List Assigned) (n : ℕ) → length (planOf (turnAnswer a s plan n)) ≡ turnAnswer a s plan n .taken
-unfolding planOf turnAnswer
-taken-in a s plan n = rw take-append-seam
-
-module _ (s : Session) (room : ℕ) where
-  -- .. and in what a turn answers
-  plan-taken : (x : Option Refusal) → refusedBy s (Turn room) ≡ x → length (planOf (turnOf s room)) ≡ turnOf s room .taken
-  unfolding turnOf
-  plan-taken none e = rw (e, turnOf) (taken-in _ _ _ _)
-  plan-taken (some x) e = rw (e, turnOf) (taken-in _ _ _ _)
-
-  -- a turn takes at most 8 requests
-  pub few-taken : turnOf s room .taken ≤ 8
-  few-taken = omega (arith, turn-at-most s room .plan, plan-taken (refusedBy s (Turn room)) refl)
-
 -- the `take` lines, the `set` lines and the answer deliver the reply to a turn
-pub turn-delivered : (t : TurnAnswered) (list : List ℕ) {d e f g : List ℕ} {n m k : ℕ}
-    → Put d 0 (flatMap takeLines (take (t .taken) (t .plan))) e n → Put e n (setLines (take (2 * t .writes) list)) f m → Put f m (answerText (t .answer)) g k
-    → Delivered (turnReply t list) d g (record { session = t .session; written = k })
-unfolding turnReply planOf
-turn-delivered t list {d} {e} {f} {g} {n} {m} {k} u v w = delivered (turnReply t list) d g k (then (then u v) w)
+pub turn-delivered : (t : TurnAnswered) (list : List ℕ) (plan : List Assigned) (writes : ℕ) (a : Answer) (s : Session)
+    → plan ≡ planOf t → writes ≡ t .writes → a ≡ t .answer → s ≡ t .session → {d e f g : List ℕ} {n m k : ℕ}
+    → Put d 0 (flatMap takeLines plan) e n → Put e n (setLines (take (2 * writes) list)) f m → Put f m (answerText a) g k
+    → Delivered (turnReply t list) d g (record { session = s; written = k })
+unfolding turnReply
+turn-delivered t list plan writes a s plan-is writes-are answer-is session-is {d} {e} {f} {g} {n} {m} {k} u v w =
+    rw session-is (delivered (turnReply t list) d g k (then (then (rw plan-is at u) (rw writes-are at v)) (rw answer-is at w)))
 
 -- ---- the reply to what a line is
 
 module _ (s : Session) (p : Parsed) (out : List ℕ) where
   -- in a slice that is too short nothing is done
-  pub reply-short : length out < replyRoom → (record { session = s; written = 0 } ≡ repliedIn s p (length out)) × (out ≡ repliedOut s p out)
+  pub reply-short : length out < replyRoom → (_≡_ {A = Left} (record { session = s; written = 0 }) (repliedIn s p (length out))) × (out ≡ repliedOut s p out)
   unfolding repliedIn repliedOut
   reply-short h = (rw (lt-ltb _ _ h, repliedIn), rw (lt-ltb _ _ h, repliedOut))
 
   -- in any other the reply is delivered
-  pub reply-delivered : {after : List ℕ} {r : Replied} → replyRoom ≤ length out → Delivered (parsedReply s p) out after r → (r ≡ repliedIn s p (length out)) × (after ≡ repliedOut s p out)
+  pub reply-delivered : {after : List ℕ} {r : Left} → replyRoom ≤ length out → Delivered (parsedReply s p) out after r → (r ≡ repliedIn s p (length out)) × (after ≡ repliedOut s p out)
   unfolding repliedIn repliedOut atStart
   reply-delivered h x =
       let l = reply-length s p in
@@ -84,7 +65,7 @@ drop-zeros n m h =
     ap (λ (k : ℕ). drop n (zeros k)) e ∙ ap (drop n) (sym (replicate-append-replicate n (m - n) 0)) ∙ drop-at (zeros n) (zeros (m - n)) n (length-replicate n 0)
 
 -- delivered in an array of zeros, a reply stands in an array of its own
-pub array-reply : (n : NameLists) (s : Session) (line : List ℕ) (p : Parsed) (r : Replied) (text : List ℕ)
+pub array-reply : (n : NameLists) (s : Session) (line : List ℕ) (p : Parsed) (r : Left) (text : List ℕ)
     → p ≡ parseLineWith n (s .setup .device) line → r ≡ repliedIn s p (length (zeros replyRoom)) → text ≡ repliedOut s p (zeros replyRoom)
     → record { text = text; length = r .written; session = r .session } ≡ inArray (answerLine n s line)
 unfolding inArray answerLine repliedIn repliedOut atStart

@@ -4,14 +4,19 @@ use mathlib.Core.Path.{_≡_, refl}
 use mathlib.Core.List.{List, [], _∷_, _++_, flatMap, append-assoc, append-nil}
 use mathlib.Core.Option.{Option, none, some}
 use Prim.Native.Nat.{ℕ, zero, suc, _+_, _*_, _<_, _≤_}
-use native.Mathlib.Numerals.{add-one}
 use native.Mathlib.Nat.{not-suc-le-zero}
 use native.Mathlib.Omega.{arith}
 use lib.ListN.{length, getD, take, length-append, length-take}
-use lib.Seq.{take-suc}
+use lib.Seq.{length-take-le}
+use Rattle.requests.specs.declared.Entry.{Entry}
+use Rattle.requests.proofs.Windows.{take-next}
+use Rattle.plans.specs.Packed.{placeAt}
 use Rattle.plans.specs.declared.Place.the-variants.{Counter, WithRsp, Pair}
 use Rattle.plans.specs.Places.{countedOf}
 use Rattle.sessions.specs.declared.Assigned.{Assigned}
+use Rattle.sessions.specs.Sessions.{vacant}
+use Rattle.planner.specs.Selections.{planned}
+use Rattle.planner.proofs.Assigning.{planned-next, planned-length}
 use Rattle.records.specs.Text.{bytes, newline, hexText, decimalDigits, decimalText, lineOf}
 use Rattle.records.proofs.Hexes.{hex-length}
 use Rattle.answers.specs.Replies.{registerText, takeLines, setLines}
@@ -60,13 +65,17 @@ unfolding flatMap
 joined-last f [] a = append-nil (f a)
 joined-last f (b ∷ l) a = rw (joined-last f l a, append-assoc)
 
--- the lines of one request more
-pub joined-next : {A : Type 0} (f : A → List ℕ) (l : List A) (i : ℕ) (d : A) → i < length l → flatMap f (take (i + 1) l) ≡ flatMap f (take i l) ++ f (getD l i d)
-joined-next f l i d h = rw (add-one, take-suc l i d) (joined-last f (take i l) (getD l i d))
+module _ (code : ℕ) (es : List Entry) where
+  -- the lines of one entry more
+  pub takes-next : (i : ℕ) → i < length es → flatMap takeLines (planned code (take (i + 1) es))
+      ≡ flatMap takeLines (planned code (take i es)) ++ takeLines (record { id = getD es i vacant .id; place = placeAt code i (getD es i vacant .request) })
+  takes-next i h =
+      rw (take-next es i vacant h, planned-next code i (take i es) (getD es i vacant) (length-take-le i es (omega arith)))
+      (joined-last takeLines (planned code (take i es)) _)
 
--- the lines of the first n requests
-pub takes-length : (plan : List Assigned) (n : ℕ) → length (flatMap takeLines (take n plan)) ≤ 136 * n
-takes-length plan n = omega (arith, joined-length takeLines 136 take-lines-length (take n plan), length-take n plan)
+  -- the lines of the first n entries
+  pub takes-length : (n : ℕ) → length (flatMap takeLines (planned code (take n es))) ≤ 136 * n
+  takes-length n = omega (arith, joined-length takeLines 136 take-lines-length (planned code (take n es)), planned-length code (take n es), length-take n es)
 
 -- ---- `set` lines
 

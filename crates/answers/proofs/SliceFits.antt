@@ -51,12 +51,14 @@ not-answered s c h e =
     let row = answer-some (refusedBy s c) SliceTooShort (sym (answer-is s c) ∙ e) in
     h (refusal-table .refused queueLimit (plainOf s) c SliceTooShort row .0)
 
+-- the slice has room for the list of a turn
+pub turn-room : (t : Setup) (q : List Entry) → 2 * length (writesOf t (taken t q)) ≤ turnRoom
+unfolding turnRoom writesOf
+turn-room t q = omega (arith, write-count .at-most t _ _ (taken-first t q .legal), write-room (t .device) (asked t))
+
 -- so a turn of an open session is accepted
 pub turn-goes : (t : Setup) (q : List Entry) → refusal queueLimit (opened t q) (Turn turnRoom) ≡ none
-unfolding turnRoom writesOf
-turn-goes t q =
-    turn-accepted queueLimit t q turnRoom
-    (le-ltb turnRoom (2 * length (writesOf t (taken t q))) (omega (arith, write-count .at-most t _ _ (taken-first t q .legal), write-room (t .device) (asked t))))
+turn-goes t q = turn-accepted queueLimit t q turnRoom (le-ltb turnRoom (2 * length (writesOf t (taken t q))) (turn-room t q))
 
 module _ (s : Session) where
   pub open-fits : (o : Opening) → ¬ (openOf s o .answer ≡ Refused SliceTooShort)

@@ -6,7 +6,7 @@ use lib.ListN.{length}
 use lib.Seq.{sets}
 use Rattle.records.specs.Text.{bytes, tab, decimalText}
 use Rattle.answers.specs.Replies.{Reply}
-use Rattle.answers.specs.declared.Replied.{Replied}
+use Rattle.answers.specs.Written.{Left}
 
 -- a text stands in a slice from `at`, the rest of the slice is as before, and `next` is the place after the text
 pub record Put (before : List ℕ) (at : ℕ) (text after : List ℕ) (next : ℕ) : Type 0 where
@@ -18,6 +18,6 @@ unfoldable pub takeStart : ℕ → ℕ → List ℕ
 takeStart id counter = bytes "take" ++ tab ∷ (decimalText id ++ tab ∷ (decimalText counter ++ tab ∷ []))
 
 -- a reply is given: its text stands at the start of a slice, its session and the text's length are answered
-pub record Delivered (reply : Reply) (before after : List ℕ) (replied : Replied) : Type 0 where
-  pub answered : replied ≡ record { session = reply .session; written = length (reply .text) }
+pub record Delivered (reply : Reply) (before after : List ℕ) (left : Left) : Type 0 where
+  pub answered : left ≡ record { session = reply .session; written = length (reply .text) }
   pub contents : after ≡ sets before 0 (reply .text)

@@ -6,6 +6,7 @@ use lib.ListN.{length, drop, replicate}
 use lib.Dec.{ltb}
 use Rattle.sessions.specs.declared.Session.{Session}
 use Rattle.records.specs.declared.Parsed.{Parsed}
+use Rattle.queue_rows.specs.Heads.{sessionIn}
 use Rattle.answers.specs.Replies.{Reply, parsedReply}
 use Rattle.answers.specs.declared.LineReply.{LineReply}
 use Rattle.answers.specs.declared.Replied.{Replied}
@@ -22,8 +23,17 @@ inArray x = record { text = x .text ++ replicate (replyRoom - length (x .text)) 
 unfoldable pub atStart : List ℕ → List ℕ → List ℕ
 atStart text slice = text ++ drop (length text) slice
 
+-- what a reply in a lent slice leaves: the session, and the number of bytes written
+pub record Left : Type 0 where
+  pub session : Session
+  pub written : ℕ
+
+-- .. of what is answered, with the arrays that hold the queue
+unfoldable pub leftIn : Replied → List ℕ → List ℕ → Left
+leftIn r ids rows = record { session = sessionIn (r .head) ids rows; written = r .written }
+
 -- a reply in a lent slice, given the slice's length: where that is less than the room for any reply, nothing is done
-unfoldable pub repliedIn : Session → Parsed → ℕ → Replied
+unfoldable pub repliedIn : Session → Parsed → ℕ → Left
 repliedIn s p room =
     elim (ltb room replyRoom) [
       | true ↦ record { session = s; written = 0 }

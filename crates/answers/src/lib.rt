@@ -1,5 +1,6 @@
 // The reply to a line: its text, and the session afterwards.
 use crate::replies::REPLY_ROOM;
+use queue_rows::Head;
 use sessions::Session;
 
 mod answer_lines;
@@ -16,8 +17,8 @@ pub struct LineReply {
     pub session: Session,
 }
 
-// What a reply that went into a lent slice leaves: the session, and the number of bytes written.
+// What a reply that went into a lent slice leaves: the session beside its queue, and the number of bytes written.
 pub struct Replied {
-    pub session: Session,
+    pub head: Head,
     pub written: usize,
 }

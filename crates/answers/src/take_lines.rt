@@ -2,12 +2,18 @@
 use crate::texts::put_byte;
 use crate::texts::put_bytes;
 use crate::texts::put_decimal;
+use planner::turn::assigned_to;
 use plans::Place;
-use requests::CAPACITY;
+use queue_rows::QUEUE_NUMBERS;
+use queue_rows::rows::request_in;
+use requests::Entry;
 use sessions::Assigned;
+use sessions::QUEUE_LIMIT;
 ghost use mathlib.Core.List.{flatMap};
 ghost use Prim.Native.Nat.{_+_, _*_, _≤_};
-ghost use lib.ListN.{length, take};
+ghost use lib.ListN.{length, take, drop};
+ghost use Rattle.planner.specs.Selections.{planned};
+ghost use Rattle.queue_rows.specs.Rows.{queueIn};
 ghost use Rattle.answers.specs.Replies.{takeLines};
 ghost use Rattle.answers.specs.Texts.{Put, takeStart};
 
@@ -49,15 +55,28 @@ fn put_assigned(out: &mut [u8], at: usize, assigned: Assigned) -> usize
     }
 }
 
-// Puts the lines of the requests taken, in the order taken.
-pub fn put_takes(out: &mut [u8], at: usize, plan: [Assigned; CAPACITY], taken: usize) -> usize
-    requires { ⌜ (taken ≤ 8) × (at + 136 * taken ≤ length (now out)) ⌝ }
-    ensures { λ r. ⌜ Put (now (out .entry)) at (flatMap takeLines (take taken plan)) (now (out .exit)) r ⌝ }
+// Puts the lines of the requests taken, in the order taken: they stand in the queue from `front` on.
+pub fn put_takes(
+    out: &mut [u8],
+    at: usize,
+    code: u64,
+    ids: &[u64; QUEUE_LIMIT],
+    rows: &[u64; QUEUE_NUMBERS],
+    front: usize,
+    taken: usize,
+) -> usize
+    requires { ⌜ (taken ≤ 8) × (front + taken ≤ 16) × (at + 136 * taken ≤ length (now out)) ⌝ }
+    ensures { λ r. ⌜ Put (now (out .entry)) at (flatMap takeLines (planned code (take taken (drop front (queueIn (now (ids .entry)) (now (rows .entry))))))) (now (out .exit)) r ⌝ }
 {
     let mut next = at;
     let mut i = 0;
     while i < taken {
-        let assigned = plan[i];
+        let request = request_in(rows, front + i);
+        let entry = Entry {
+            id: ids[front + i],
+            request,
+        };
+        let assigned = assigned_to(code, i, entry);
         next = put_assigned(out, next, assigned);
         i += 1;
     }

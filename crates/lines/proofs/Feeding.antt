@@ -11,8 +11,7 @@ use Rattle.records.specs.Text.{newline}
 use Rattle.sessions.specs.declared.Session.{Session}
 use Rattle.records.specs.declared.Parsed.{Parsed}
 use Rattle.answers.specs.Replies.{parsedReply}
-use Rattle.answers.specs.Written.{replyRoom, atStart, repliedIn, repliedOut}
-use Rattle.answers.specs.declared.Replied.{Replied}
+use Rattle.answers.specs.Written.{replyRoom, atStart, Left, repliedIn, repliedOut}
 use Rattle.names.specs.Lists.{NameLists}
 use Rattle.lines.specs.Blocks.{takenOf, takenFrom, fedOf, fedOut}
 use Rattle.lines.specs.Pieces.{NewlineFree, FirstNewline, keptLine}
@@ -137,7 +136,7 @@ module _ {n : NameLists} {f : Feed} {block out : List ℕ} {next : Feed} {taken 
         }
 
     -- the same of what the reply to the line leaves in the lent part of the output
-    module _ {parsed : Parsed} {r : Replied} {part : List ℕ}
+    module _ {parsed : Parsed} {r : Left} {part : List ℕ}
         (is : parsed ≡ keptLine n ended)
         (answer : r ≡ repliedIn (next .session) parsed (length (take (length output - written) (drop written output))))
         (text : part ≡ repliedOut (next .session) parsed (take (length output - written) (drop written output)))

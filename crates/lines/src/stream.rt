@@ -10,10 +10,16 @@ use answers::LineReply;
 use answers::replies::REPLY_ROOM;
 use answers::replies::reply;
 use planner::open::new_session;
+use queue_rows::Head;
+use queue_rows::QUEUE_NUMBERS;
+use queue_rows::packing::pack;
+use queue_rows::packing::unpack;
+use sessions::QUEUE_LIMIT;
 use sessions::Session;
 ghost use mathlib.Core.Path.{_≡_};
 ghost use lib.ListN.{length};
 ghost use Rattle.names.specs.Lists.{NameLists};
+ghost use Rattle.queue_rows.specs.Heads.{sessionIn};
 ghost use Rattle.answers.specs.Written.{inArray};
 ghost use Rattle.lines.specs.Stream.{lineStart, feedStart, endReply};
 ghost use Rattle.lines.specs.Pieces.{stateOf};
@@ -40,15 +46,18 @@ pub fn start() -> Feed
 
 // What a block leaves, of its parts.
 fn fed(
-    session: Session,
+    head: Head,
+    ids: &[u64; QUEUE_LIMIT],
+    rows: &[u64; QUEUE_NUMBERS],
     kept: [u8; LONGEST],
     used: usize,
     long: bool,
     taken: usize,
     written: usize,
 ) -> Fed
-    ensures { λ r. ⌜ r ≡ record { feed = stateOf session kept used long; taken = taken; written = written } ⌝ }
+    ensures { λ r. ⌜ r ≡ record { feed = stateOf (sessionIn head (now (ids .entry)) (now (rows .entry))) kept used long; taken = taken; written = written } ⌝ }
 {
+    let session = unpack(head, ids, rows);
     Fed {
         feed: Feed {
             session,
@@ -63,12 +72,16 @@ fn fed(
 
 // Takes bytes of a block while the output has room for any reply, and writes the replies. Names are looked up in the site's
 // list and the house's.
-// The parts of the state are locals, since a struct is copied whole wherever it is handed on.
+// The parts of the state are locals, since a struct is copied whole wherever it is handed on, and the queue lies in arrays that the replies
+// change in place: it is packed once for a block.
 pub fn feed<'a>(feed: Feed, block: &[u8], site: &'a [u8], house: &'a [u8], out: &mut [u8]) -> Fed
     ensures answer { λ r. ⌜ r ≡ fedOf (record { site = now (site .entry); house = now (house .entry) }) feed (now (block .entry)) (length (now (out .entry))) ⌝ }
     ensures output { λ _. ⌜ now (out .exit) ≡ fedOut (record { site = now (site .entry); house = now (house .entry) }) feed (now (block .entry)) (now (out .entry)) ⌝ }
 {
-    let mut session = feed.session;
+    let mut ids: [u64; QUEUE_LIMIT] = [0; QUEUE_LIMIT];
+    let mut rows: [u64; QUEUE_NUMBERS] = [0; QUEUE_NUMBERS];
+    let session = feed.session;
+    let mut head = pack(session, &mut ids, &mut rows);
     let mut kept = feed.kept;
     let mut used = feed.used;
     let mut long = feed.long;
@@ -76,14 +89,14 @@ pub fn feed<'a>(feed: Feed, block: &[u8], site: &'a [u8], house: &'a [u8], out: 
     let mut written = 0;
     while taken < block.len() {
         if out.len() - written < REPLY_ROOM {
-            return fed(session, kept, used, long, taken, written);
+            return fed(head, &ids, &rows, kept, used, long, taken, written);
         }
         let end = taken + newline_in(&block[taken..]);
         if end == block.len() {
             let rest = keep(&mut kept, used, long, &block[taken..]);
-            return fed(session, kept, rest.used, rest.long, end, written);
+            return fed(head, &ids, &rows, kept, rest.used, rest.long, end, written);
         }
-        let setup = session.setup;
+        let setup = head.setup;
         let device = setup.device;
         let parsed = parse_ended(
             &mut kept,
@@ -94,15 +107,15 @@ pub fn feed<'a>(feed: Feed, block: &[u8], site: &'a [u8], house: &'a [u8], out: 
             site,
             house,
         );
-        let replied = reply(session, parsed, &mut out[written..]);
-        session = replied.session;
+        let replied = reply(head, &mut ids, &mut rows, parsed, &mut out[written..]);
+        head = replied.head;
         kept = [0u8; LONGEST];
         used = 0;
         long = false;
         written += replied.written;
         taken = end + 1;
     }
-    fed(session, kept, used, long, taken, written)
+    fed(head, &ids, &rows, kept, used, long, taken, written)
 }
 
 // The reply to the end of the input: a line without its newline is answered as one that is too long.

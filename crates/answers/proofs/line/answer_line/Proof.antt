@@ -1,28 +1,27 @@
--- `answers::line::answer_line` is the reply to what the line is, in an array of its own (`array-reply`).
-use borrow.Author.Needs.{needs}
+-- `answers::line::answer_line` is the reply to what the line is, in an array of its own (`array-reply`), with the queue packed and unpacked.
 use denote.Ref.{now}
-use Rattle.answers.specs.Written.{replyRoom}
+use Rattle.answers.specs.Written.{replyRoom, leftIn}
 use Rattle.answers.proofs.Delivering.{array-reply}
+use borrow.Author.Needs.{needs}
 use Rattle.answers.proofs.line.answer_line.Statement.{statement}
 use Rattle.answers.proofs.line.answer_line.Tie as tie
 
-parse-line-requires : tie.Need-parse-line-requires
-parse-line-requires c κs = search needs
-
-slice-aggregate-reply : tie.Need-slice-aggregate-reply
-slice-aggregate-reply c = search needs
-
-reply-requires : tie.Need-reply-requires
-reply-requires c κs = search needs
-
 returns : tie.Need-returns
-unfolding replyRoom
+unfolding replyRoom leftIn
 returns c =
-    let answered = c .before .before .reply in
-    let parsed = c .before .before .before .before in
-    let a = parsed .before .before .before .before .before .args in
-    array-reply _ (a .session) (now (a .line)) (parsed .parse-line .result) (answered .result) _ (parsed .parse-line .ensures) (answered .ensures .0) (answered .ensures .1)
+    let answered = c .before .before .before .before .before .reply in
+    let a = c .before .before .before .before .before .before .before .before .before .before .before .before .before .before .before .before .before .args in
+    let same = c .before .before .before .before .before .before .before .before .before .before .before .pack .ensures .0 in
+    rw (c .unpack .ensures)
+    (array-reply _ (a .session) (now (a .line)) (c .before .before .before .before .before .before .before .before .before .parse-line .result) (leftIn (answered .result) _ _) _ (c .before .before .before .before .before .before .before .before .before .parse-line .ensures) (rw same at (answered .ensures .0)) (rw same at (answered .ensures .1 .0)))
 
 pub answer-line-spec : {M : Type 1} → statement M
 answer-line-spec =
-    tie.close (tie.spec parse-line-requires slice-aggregate-reply reply-requires returns)
+    tie.close
+    (tie.spec
+    (λ c κs. search needs)
+    (λ c κs. search needs)
+    (λ c. search needs)
+    (λ c κs. search needs)
+    (λ c κs. search needs)
+    returns)

@@ -1,9 +1,10 @@
 -- `answers::replies::call_reply` delivers `replyOf`: its text is the answer's line.
-use borrow.Author.Needs.{needs}
 use native.Mathlib.Omega.{arith}
+use Rattle.queue_rows.specs.Heads.{answeredIn}
 use Rattle.answers.specs.Replies.{replyOf}
-use Rattle.answers.specs.Written.{replyRoom}
+use Rattle.answers.specs.Written.{replyRoom, leftIn}
 use Rattle.answers.proofs.Delivering.{delivered}
+use borrow.Author.Needs.{needs}
 use Rattle.answers.proofs.replies.call_reply.Statement.{statement}
 use Rattle.answers.proofs.replies.call_reply.Tie as tie
 
@@ -11,12 +12,14 @@ put-answer-requires : tie.Need-put-answer-requires
 unfolding replyRoom
 put-answer-requires c κs = omega arith
 
-same-length : tie.Need-same-length
-same-length c = search needs
-
 returns : tie.Need-returns
-unfolding replyOf
-returns c = delivered _ _ _ _ (c .before .before .before .put-answer .ensures)
+unfolding replyOf answeredIn leftIn
+returns c ids rows = delivered (replyOf (answeredIn (c .before .before .before .before .before .before .args .answered) ids rows)) _ _ _ (c .before .before .before .put-answer .ensures)
 
 pub call-reply-spec : {M : Type 1} → statement M
-call-reply-spec = tie.close (tie.spec put-answer-requires same-length returns)
+call-reply-spec =
+    tie.close
+    (tie.spec
+    put-answer-requires
+    (λ c. search needs)
+    returns)

@@ -1,70 +1,76 @@
 -- `answers::replies::turn_reply` delivers `turnReply`: the texts one after another (`turn-delivered`), which have room by what a turn answers at most.
-use borrow.Author.Needs.{needs}
-use Prim.Native.Nat.{_*_, _≤_}
+use Prim.Native.Nat.{_+_, _*_, _≤_}
 use native.Mathlib.Omega.{arith}
+use denote.Ref.{now}
+use lib.ListN.{drop}
+use Rattle.sessions.specs.Sessions.{turnOf}
+use Rattle.queue_rows.specs.Rows.{queueIn}
+use Rattle.queue_rows.specs.Heads.{sessionIn}
 use Rattle.answers.specs.Replies.{turnRoom}
-use Rattle.answers.specs.Written.{replyRoom}
+use Rattle.answers.specs.Written.{replyRoom, leftIn}
 use Rattle.answers.proofs.TurnLimits.{turn-at-most}
+use Rattle.answers.proofs.SliceFits.{turn-room}
 use Rattle.answers.proofs.LineTexts.{takes-length, sets-length}
-use Rattle.answers.proofs.Delivering.{few-taken, turn-delivered}
+use Rattle.answers.proofs.Delivering.{turn-delivered}
+use borrow.Author.Needs.{needs}
 use Rattle.answers.proofs.replies.turn_reply.Statement.{statement}
 use Rattle.answers.proofs.replies.turn_reply.Tie as tie
 
-slice-aggregate-turn : tie.Need-slice-aggregate-turn
-slice-aggregate-turn c = search needs
-
 turn-requires : tie.Need-turn-requires
-turn-requires c κs = search needs
+unfolding turnRoom
+turn-requires c κs = (c .before .before .before .before .pre .0, turn-room (c .before .before .before .before .args .head .setup) _)
 
 -- what the turn answers at most
-limits : (c : tie.After-turn) → (c .turn .result .taken ≤ 8) × (2 * c .turn .result .writes ≤ turnRoom)
+limits : (c : tie.After-turn) → let t = c .turn .result in (t .taken ≤ 8) × (t .front + t .taken ≤ 16) × (2 * t .writes ≤ turnRoom)
 unfolding turnRoom
-limits c = let s = c .before .before .before .args .session in rw (c .turn .ensures .0) (few-taken s turnRoom, turn-at-most s turnRoom .writes)
+limits c =
+    let a = c .before .before .before .before .before .args in
+    let t = c .turn .ensures .0 in
+    (t .few, t .inside, rw (t .writes) (turn-at-most (sessionIn (a .head) (now (a .ids)) (now (a .rows))) turnRoom .writes))
 
 put-takes-requires : tie.Need-put-takes-requires
 unfolding replyRoom
-put-takes-requires c κs = let l = limits (c .before .before .before) in (l .0, omega arith)
-
-slice-aggregate-put-sets : tie.Need-slice-aggregate-put-sets
-slice-aggregate-put-sets c = search needs
+put-takes-requires c κs = let l = limits (c .before .before .before .before) in (l .0, l .1, omega arith)
 
 put-sets-requires : tie.Need-put-sets-requires
 unfolding turnRoom replyRoom
 put-sets-requires c κs =
-    let turn = c .before .before .before .before .before .before .before .before in
+    let turn = c .before .before .before .before .before .before .before .before .before in
     let t = turn .turn .result in
     let l = limits turn in
-    (omega arith, omega (arith, takes-length (t .plan) (t .taken)))
+    let place = c .before .before .before .before .put-takes .ensures .place in
+    (omega arith, omega (arith, takes-length (t .code) (drop (t .front) (queueIn (turn .turn .last .1 .0) (turn .turn .last .1 .1 .0))) (t .taken)))
 
 put-answer-requires : tie.Need-put-answer-requires
 unfolding turnRoom replyRoom
 put-answer-requires c κs =
-    let turn = c .before .before .before .before .before .before .before .before .before .before .before .before in
+    let turn = c .before .before .before .before .before .before .before .before .before .before .before .before .before in
     let t = turn .turn .result in
     let l = limits turn in
-    omega (arith, takes-length (t .plan) (t .taken), sets-length (turn .turn .last .1 .0) (t .writes))
-
-same-length : tie.Need-same-length
-same-length c = search needs
+    let place = c .before .before .before .before .before .before .before .before .put-takes .ensures .place in
+    let end = c .before .before .before .put-sets .ensures .place in
+    omega (arith, takes-length (t .code) (drop (t .front) (queueIn (turn .turn .last .1 .0) (turn .turn .last .1 .1 .0))) (t .taken), sets-length (turn .turn .last .1 .1 .1 .0) (t .writes))
 
 returns : tie.Need-returns
-unfolding turnRoom
+unfolding turnRoom leftIn
 returns c =
-    let answer = c .before .before .before in
-    let sets = answer .before .before .before .before in
-    let takes = sets .before .before .before .before .before in
-    let turn = takes .before .before .before .before in
-    rw (← turn .turn .ensures .0, ← turn .turn .ensures .1) (turn-delivered (turn .turn .result) _ (takes .put-takes .ensures) (sets .put-sets .ensures) (answer .put-answer .ensures))
+    let a = c .before .before .before .before .before .before .before .before .before .before .before .before .before .before .before .before .before .before .before .before .before .before .args in
+    let turn = c .before .before .before .before .before .before .before .before .before .before .before .before .before .before .before .before .before .turn in
+    let t = turn .ensures .0 in (
+      rw (← turn .ensures .1) (turn-delivered (turnOf (sessionIn (a .head) (now (a .ids)) (now (a .rows))) turnRoom) _ _ _ _ _ (t .plan) (t .writes) (t .answer) (t .session)
+          (c .before .before .before .before .before .before .before .before .before .before .before .before .put-takes .ensures) (c .before .before .before .before .before .before .before .put-sets .ensures) (c .before .before .before .put-answer .ensures)),
+      t .size,
+    )
 
 pub turn-reply-spec : {M : Type 1} → statement M
 turn-reply-spec =
     tie.close
     (tie.spec
-    slice-aggregate-turn
+    (λ c. search needs)
     turn-requires
     put-takes-requires
-    slice-aggregate-put-sets
+    (λ c. search needs)
     put-sets-requires
     put-answer-requires
-    same-length
+    (λ c. search needs)
     returns)

@@ -1,63 +1,70 @@
--- `answers::take_lines::put_takes` puts the `take` lines. The loop's invariant: those of the first i requests stand in the slice
--- (`joined-next`).
-use mathlib.Core.Path.{_≡_}
+-- `answers::take_lines::put_takes` puts the `take` lines. The loop's invariant: those of the first i entries stand in the slice
+-- (`takes-next`).
+use mathlib.Core.Path.{_≡_, _∙_}
 use mathlib.Core.List.{flatMap}
-use Prim.Native.Nat.{_-_, _≤_}
-use borrow.Author.Needs.{needs}
+use Prim.Native.Nat.{_+_, _-_, _≤_}
 use native.Mathlib.Omega.{arith}
-use lib.ListN.{length, take}
-use Rattle.sessions.specs.Sessions.{unassigned}
-use Rattle.requests.proofs.Windows.{length-mapped}
+use denote.Ref.{now}
+use lib.ListN.{take, drop, length-drop}
+use lib.Seq.{getD-drop}
+use Rattle.plans.specs.Packed.{placesFrom}
+use Rattle.sessions.specs.Turns.{requestsOf, assign}
+use Rattle.sessions.specs.Sessions.{vacant}
+use Rattle.planner.specs.Selections.{planned}
+use Rattle.queue_rows.specs.Rows.{entryAt, queueIn}
+use Rattle.queue_rows.proofs.Places.{queue-length, place-is}
 use Rattle.answers.specs.Replies.{takeLines}
 use Rattle.answers.specs.Texts.{Put}
 use Rattle.answers.proofs.Putting.{put-nothing, put-length, then}
-use Rattle.answers.proofs.LineTexts.{joined-next, takes-length}
+use Rattle.answers.proofs.LineTexts.{takes-next, takes-length}
+use borrow.Author.Needs.{needs}
 use Rattle.answers.proofs.take_lines.put_takes.Statement.{statement}
 use Rattle.answers.proofs.take_lines.put_takes.Tie as tie
 
 abbrev Inv-loop : tie.InvT-loop
-Inv-loop out₀ at taken plan next₀ i₀ out next i =
-    (length plan ≡ 8) × (i ≤ taken) × Put out₀ at (flatMap takeLines (take i plan)) out next
+Inv-loop out₀ at code ids rows front taken next₀ i₀ out next i =
+    (i ≤ taken) × Put out₀ at (flatMap takeLines (planned code (take i (drop front (queueIn ids rows))))) out next
 
 abbrev μ-loop : tie.MeasureT-loop
-μ-loop out₀ at taken plan next₀ i₀ out next i = taken - i
+μ-loop out₀ at code ids rows front taken next₀ i₀ out next i = taken - i
 
 loop-holds : tie.Need-loop-holds Inv-loop μ-loop
-unfolding flatMap
-loop-holds c = (search (length-mapped, needs), omega arith, put-nothing _ _)
+unfolding flatMap planned assign requestsOf placesFrom
+loop-holds c = (omega arith, put-nothing _ _)
 
-mul-assigned : tie.Need-mul-assigned Inv-loop μ-loop
-mul-assigned c = omega arith
+request-in-requires : tie.Need-request-in-requires Inv-loop μ-loop
+request-in-requires c κs = let room = c .before .before .before .pre .1 in omega arith
 
-array-copy-out-assigned : tie.Need-array-copy-out-assigned Inv-loop μ-loop
-array-copy-out-assigned c = omega arith
+assigned-to-requires : tie.Need-assigned-to-requires Inv-loop μ-loop
+assigned-to-requires c κs = let few = c .before .before .before .before .before .pre .0 in omega arith
 
 put-assigned-requires : tie.Need-put-assigned-requires Inv-loop μ-loop
 put-assigned-requires c κs =
-    let l = c .before .before .before .loop in
-    omega (arith, put-length (l .inv .2), takes-length (c .before .before .before .before .before .args .t3) (l .i))
-
-add-i : tie.Need-add-i Inv-loop μ-loop
-add-i c = omega arith
-
-loop-less : tie.Need-loop-less Inv-loop μ-loop
-loop-less c = omega arith
+    let l = c .before .before .before .before .before .loop in
+    let a = c .before .before .before .before .before .before .before .args in
+    let room = c .before .before .before .before .before .before .before .pre .2 in
+    let place = l .inv .1 .place in
+    omega (arith, put-length (l .inv .1), takes-length (a .code) (drop (a .front) (queueIn (now (a .ids)) (now (a .rows)))) (l .i))
 
 loop-again : tie.Need-loop-again Inv-loop μ-loop
-unfolding unassigned
+unfolding entryAt
 loop-again c =
-    let l = c .before .before .before .before .before .before .loop in
-    let a = c .before .before .before .before .before .before .before .before .args in
-    (l .inv .0, omega arith, rw (joined-next takeLines (a .t3) (l .i) unassigned (omega arith)) (then (l .inv .2) (c .before .before .put-assigned .ensures)))
+    let l = c .before .before .before .before .before .before .before .before .loop in
+    let a = c .before .before .before .before .before .before .before .before .before .before .args in
+    let room = c .before .before .before .before .before .before .before .before .before .before .pre .1 in
+    let q = queueIn (now (a .ids)) (now (a .rows)) in
+    let size = queue-length (now (a .ids)) (now (a .rows)) in
+    let is = getD-drop (a .front) q (l .i) vacant ∙ place-is (now (a .ids)) (now (a .rows)) 16 (a .front + l .i) (omega arith) in
+    (omega arith, rw (takes-next (a .code) (drop (a .front) q) (l .i) (rw length-drop (omega arith)), is, ← c .before .before .before .before .before .before .request-in .ensures, ← c .before .before .before .before .assigned-to .ensures) (then (l .inv .1) (c .before .before .put-assigned .ensures)))
 
 same-length : tie.Need-same-length Inv-loop μ-loop
-same-length c = put-length (c .before .loop .inv .2)
+same-length c = put-length (c .before .loop .inv .1)
 
 returns : tie.Need-returns Inv-loop μ-loop
 returns c =
     let l = c .before .loop in
     let e : l .i ≡ c .before .before .before .args .taken = omega arith in
-    rw e at (l .inv .2)
+    rw e at (l .inv .1)
 
 pub put-takes-spec : {M : Type 1} → statement M
 put-takes-spec =
@@ -66,11 +73,15 @@ put-takes-spec =
     Inv-loop
     μ-loop
     loop-holds
-    mul-assigned
-    array-copy-out-assigned
+    (λ c. search needs)
+    request-in-requires
+    (λ c. search needs)
+    (λ c. search needs)
+    (λ c. search needs)
+    assigned-to-requires
     put-assigned-requires
-    add-i
-    loop-less
+    (λ c. search needs)
+    (λ c. search needs)
     loop-again
     same-length
     returns)

@@ -1,0 +1,5 @@
+pub mod Places
+pub mod HeadSessions
+pub mod Calls
+pub mod Parting
+pub mod Turning
