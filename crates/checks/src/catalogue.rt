@@ -6,6 +6,8 @@ use crate::rows::row_count;
 use requests::Device;
 use requests::Listing;
 ghost use mathlib.Core.Path.{_≡_};
+ghost use lib.Dec.{eqb};
+ghost use Rattle.requests.specs.Choice.{either};
 ghost use Rattle.requests.specs.Lookup.{rowsOf, listingOf};
 ghost use Rattle.requests.specs.Halving.{halvingSearch, listedBy};
 
@@ -35,6 +37,53 @@ fn row_by_row(device: Device, code: u8, mask: u8) -> Listing
     }
 }
 
+// Whether the mask is one of two.
+fn is_either(mask: u8, first: u8, second: u8) -> bool
+    ensures { λ r. ⌜ r ≡ either (eqb mask first) (eqb mask second) ⌝ }
+{
+    if mask == first {
+        return true;
+    }
+    mask == second
+}
+
+// The look-up on G, by the code: a host that lends its records has it made for each of them at each call.
+fn on_core(code: u8, mask: u8) -> Listing
+    ensures { λ r. ⌜ r ≡ listingOf Device.G code mask ⌝ }
+{
+    match code {
+        // UnHalted Core Cycles, UnHalted Reference Cycles
+        0x3C => Listing {
+            code: true,
+            pair: is_either(mask, 0x00, 0x01),
+        },
+        // LLC Reference, LLC Misses
+        0x2E => Listing {
+            code: true,
+            pair: is_either(mask, 0x4F, 0x41),
+        },
+        // Instruction Retired
+        0xC0 => Listing {
+            code: true,
+            pair: mask == 0x00,
+        },
+        // Branch Instruction Retired
+        0xC4 => Listing {
+            code: true,
+            pair: mask == 0x00,
+        },
+        // Branch Misses Retired
+        0xC5 => Listing {
+            code: true,
+            pair: mask == 0x00,
+        },
+        _ => Listing {
+            code: false,
+            pair: false,
+        },
+    }
+}
+
 // The look-up by halving, where codes rise from row to row: the row found says what is listed.
 fn by_halving(device: Device, code: u8, mask: u8) -> Listing
     ensures { λ r. ⌜ r ≡ listedBy (halvingSearch (rowsOf device) code .row) mask ⌝ }
@@ -58,9 +107,9 @@ fn by_halving(device: Device, code: u8, mask: u8) -> Listing
 pub fn look_up(device: Device, code: u8, mask: u8) -> Listing
     ensures { λ r. ⌜ r ≡ listingOf device code mask ⌝ }
 {
-    // G and S are named in their calls, so that the compiler knows the rows.
+    // S is named in its call, so that the compiler knows the rows.
     match device {
-        Device::G => row_by_row(Device::G, code, mask),
+        Device::G => on_core(code, mask),
         Device::S => row_by_row(Device::S, code, mask),
         Device::C(_) => by_halving(device, code, mask),
     }

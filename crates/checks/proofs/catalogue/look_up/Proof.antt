@@ -1,4 +1,4 @@
--- `catalogue::look_up` meets its contract: row by row on G and S, and on C by the row that halving finds.
+-- `catalogue::look_up` meets its contract: by the code on G, row by row on S, and on C by the row that halving finds.
 -- Assumes nothing.
 use mathlib.Core.Path.{sym}
 use native.Mathlib.Omega.{arith}
@@ -8,10 +8,10 @@ use Rattle.checks.proofs.catalogue.look_up.Statement.{statement}
 use Rattle.checks.proofs.catalogue.look_up.Tie as tie
 
 returns : tie.Need-returns
-returns c = rw (c .before .enum-told .given .1) (c .row-by-row .ensures)
+returns c = rw (c .before .enum-told .given .1) (c .on-core .ensures)
 
 returns-2 : tie.Need-returns-2
-returns-2 c = rw (c .before .enum-told2 .given .1) (c .row-by-row2 .ensures)
+returns-2 c = rw (c .before .enum-told2 .given .1) (c .row-by-row .ensures)
 
 returns-3 : tie.Need-returns-3
 returns-3 c = rw (c .by-halving .ensures, c .before .enum-told3 .given .1) (sym (halved-listing _ _ _))
