@@ -69,7 +69,7 @@ module _ (c : Change) where
       apart (inl l) e = omega (arith, l, e)
       apart (inr l) e = omega (arith, l, e)
 
-  from-next : (k i : ℕ) (ys : List Entry) → rearrangedFrom (suc k) i c ys ≡ rearrangedFrom k (i + 1) c (set ys i (placed c i (getD ys (source c i) vacant)))
+  pub from-next : (k i : ℕ) (ys : List Entry) → rearrangedFrom (suc k) i c ys ≡ rearrangedFrom k (i + 1) c (set ys i (placed c i (getD ys (source c i) vacant)))
   unfolding rearrangedFrom
   from-next k i ys = refl
 

@@ -1,7 +1,9 @@
 -- What a turn takes, record by record. Assumes nothing.
 --     chosen-takes, chosen-passes, chosen-none    one record more, and none
 --     chosen-full                                 nothing more is taken once as many are taken as counters are usable
+--     passed-over                                 a record that leaves no set of counters is passed over
 use mathlib.Core.Path.{_≡_, refl, ap, sym, subst, _∙_}
+use mathlib.Core.Logic.{inl}
 use mathlib.Core.List.{List, [], _∷_, _++_, append-nil, append-assoc}
 use Prim.Native.Nat.{ℕ, _+_, _-_, _^_, _≤_, _<_}
 use native.Mathlib.Omega.{arith}
@@ -11,7 +13,7 @@ use Rattle.requests.specs.declared.Setup.{Setup}
 use Rattle.requests.specs.declared.Entry.{Entry}
 use Rattle.plans.specs.Search.{firstPlan, planIn}
 use Rattle.plans.specs.Packed.{codeOf, packed, placesFrom}
-use Rattle.plans.specs.Reach.{leftBy}
+use Rattle.plans.specs.Reach.{leftBy, leftOf}
 use Rattle.plans.proofs.ReachHolds.{reach}
 use Rattle.requests.specs.Devices.{capacity, counterCount}
 use Rattle.plans.specs.Legal.{HasPlan}
@@ -30,7 +32,7 @@ use Rattle.planner.proofs.Searching.{found-none, found-plan}
 use Rattle.planner.proofs.Arrays.{array-push}
 use Rattle.planner.proofs.Assigning.{requests-next}
 use Rattle.lent_planner.specs.Changes.{nowhere}
-use Rattle.lent_planner.specs.Choices.{marksAfter, marks, HasChosen, Ready, stopped}
+use Rattle.lent_planner.specs.Choices.{marksAfter, marks, HasChosen, Ready, LeavesNone, Chose, stopped}
 use Rattle.lent_planner.specs.declared.Choice.{Choice}
 use Rattle.lent_planner.proofs.Marks.{marks-takes, marks-passes, marks-count}
 
@@ -223,6 +225,19 @@ module _ (t : Choice) (e : Entry) (next : List ℕ) (found : ℕ) (search : Sear
   step-takes exists end i less w s q c len =
       subst (λ (k : ℕ). HasChosen s (q ++ (e ∷ [])) (taking-one t end k e next found less)) len
       (chosen-takes c e (at-setup (c .setup)) exists end less (w ∙ ap (λ (x : Setup). leftBy (counterCount (x .device)) (e .request) (t .left)) (c .setup)))
+
+-- a record that leaves no set of counters has no plan behind those taken
+none-behind : {s : Setup} {q : List Entry} {t : Choice} → HasChosen s q t → (e : Entry) → LeavesNone t e → ¬ HasPlan s (requestsOf (taken s q ++ (e ∷ [])))
+none-behind {s} {q} {t} c e n = reach .unplanned s _ small gone
+  where
+    small : s .usable .0 < 64
+    small = rw (← c .setup) (n .usable)
+
+    gone : leftOf s (requestsOf (taken s q ++ (e ∷ []))) ≡ 0
+    gone = rw (requests-next, reach .grows s (requestsOf (taken s q)) (e .request), ← c .left-sets small, ← c .counters) (n .none)
+
+pub passed-over : (t : Choice) (i : ℕ) (e : Entry) → LeavesNone t e → Chose t i e t
+passed-over t i e n = record { stops = λ z. absurd (n .waits z); goes = λ m s q c len. chosen-same c e (none-behind c e n); end = λ m. inl refl }
 
 -- ---- the plan of those taken
 

@@ -1,5 +1,6 @@
--- What a walk that calls `begun`, `choose` or `select` has of the callee's theorem, in the form that the steps of `walks` take.
+-- What a walk that calls `begun`, `leaves_none`, `choose` or `select` has of the callee's theorem, in the form that the steps of `walks` take.
 use mathlib.Core.Path.{_≡_, refl}
+use mathlib.Core.Bool.{Bool, true}
 use Prim.Native.Nat.{ℕ, _<_, _^_}
 use mathlib.Core.List.{List, [], _∷_}
 use lib.ListN.{length}
@@ -18,7 +19,7 @@ use types.Kit.{Given, ‵, raw, _⊛_, some, later, _$_, _∵_, !, qed, move, ke
 use sound.WpLaws.{FmC}
 use denote.Laws.{Is, shows}
 use denote.Plain.{uint-makes}
-use denote.Builtin.{usize}
+use denote.Builtin.{bool, usize}
 use denote.Slice.{sliceVal}
 use denote.Ref.{RefT}
 use denote.Steps.{owned, peeks, heard, nothing}
@@ -32,12 +33,14 @@ use Rattle.lent_planner.proofs.Elem.{R}
 use Rattle.requests.specs.declared.Setup.{Setup}
 use Rattle.lent_planner.specs.declared.Choice.{Choice}
 use Rattle.lent_sessions.specs.Records.{standing}
-use Rattle.lent_planner.specs.Choices.{HasChosen, Ready, Chose}
+use Rattle.lent_planner.specs.Choices.{HasChosen, Ready, LeavesNone, Chose}
 use Rattle.lent_planner.proofs.ChoiceLocal as Cc
 use Rattle.lent_planner.proofs.SetupLocal as Se
 use Rattle.walks.proofs.CallSteps.{called-so, Shared}
 use Rattle.lent_planner.proofs.choose.begun as begun-one
 use Rattle.lent_planner.proofs.choose.begun.Symbol.{name as #begun-one}
+use Rattle.lent_planner.proofs.choose.leaves_none as leaves-none
+use Rattle.lent_planner.proofs.choose.leaves_none.Symbol.{name as #leaves-none}
 use Rattle.lent_planner.proofs.choose.choose as choose-one
 use Rattle.lent_planner.proofs.choose.choose.Symbol.{name as #choose-one}
 use Rattle.lent_planner.proofs.choose.select as select
@@ -46,6 +49,9 @@ use Rattle.lent_planner.proofs.choose.select.Symbol.{name as #select}
 module _ {M : Type 1} (𝓤 : URA M) (H : Heap 𝓤) (A : Atoms 𝓤) (mem : Memory → SProp 𝓤) (run : Routine → Fun 𝓤) where
   abbrev pub Begins : Contract 𝓤
   Begins = tripleOf 𝓤 H A begun-one.signature (begun-one.spec 𝓤 H A mem run)
+
+  abbrev pub Tests : Contract 𝓤
+  Tests = tripleOf 𝓤 H A leaves-none.signature (leaves-none.spec 𝓤 H A mem run)
 
   abbrev pub Chooses : Contract 𝓤
   Chooses = tripleOf 𝓤 H A choose-one.signature (choose-one.spec 𝓤 H A mem run)
@@ -67,6 +73,19 @@ module _ {M : Type 1} (𝓤 : URA M) (H : Heap 𝓤) (A : Atoms 𝓤) (mem : Mem
         await ! tt $ pick ! (λ r.
         split ! $ move ! (1 ∷ []) $ pick ! (λ ws. split ! $ move ! (1 ∷ []) $ heard ! ((HasChosen st [] r × (r .end ≡ n))) (λ e. move ! (1 ∷ []) $ split ! $ drop ! $
         peeks ! Cc.S (Is Cc.S) (shows 𝓤 H A Cc.S) r (w ∷ []) (λ is. at-once ! $ check ! (r, is, e) $ keep ! [] $ done !)))))
+
+    pub leaves-none-runs : Triple 𝓤 (C #leaves-none) Tests → (t : Choice) → (e : Entry) → Is Cc.S t (Cc.vals t) → Is R e (El.vals e) → Ready t
+        → ent 𝓤 (emp 𝓤) (C #leaves-none (Cc.val t ∷ El.val e ∷ []) (λ w. H .⇛ (guard 𝓤 ((d : Bool) × Is bool d (w ∷ []) × (d ≡ true → LeavesNone t e)) (emp 𝓤))))
+    leaves-none-runs known t e g0 g1 need = called-so 𝓤 H A W C fm #leaves-none Tests known ((tt, tt, tt, (t, (e, tt)), ((Cc.vals t), ((El.vals e), tt))), tt) (emp 𝓤)
+        (λ w. H .⇛ (guard 𝓤 ((d : Bool) × Is bool d (w ∷ []) × (d ≡ true → LeavesNone t e)) (emp 𝓤)))
+        (qed W [] ∵ says ! need $ nothing ! $ owned ! R (Is R) (El.made 𝓤 H A) e _ g1 $ fjoin ! $ owned ! Cc.S (Is Cc.S) (Cc.made 𝓤 H A) t _ g0 $
+        fjoin ! $ nothing ! $ join ! $ done !)
+        (λ w. qed W (raw (Tests .post ((tt, tt, tt, (t, (e, tt)), ((Cc.vals t), ((El.vals e), tt))), tt) w) ∷ []) ∵ updating ! $
+        use1 W (later (some (λ (r : Bool). (‵ ftrue ⊛ ‵ (bool .own r (w ∷ []))) ⊛ some
+        (λ (ws : Lasts leaves-none.ended tt (t, (e, tt))). ‵ (lasts leaves-none.ended tt (t, (e, tt)) ws) ⊛ raw (fact 𝓤 (r ≡ true → LeavesNone t e)))))) (id⊢ 𝓤 _) $
+        await ! tt $ pick ! (λ r.
+        split ! $ move ! (1 ∷ []) $ pick ! (λ ws. split ! $ move ! (1 ∷ []) $ heard ! (r ≡ true → LeavesNone t e) (λ h. move ! (1 ∷ []) $ split ! $ drop ! $
+        peeks ! bool (Is bool) (shows 𝓤 H A bool) r (w ∷ []) (λ is. at-once ! $ check ! (r, is, h) $ keep ! [] $ done !)))))
 
     pub choose-one-runs : Triple 𝓤 (C #choose-one) Chooses → (t : Choice) → (i : ℕ) → (e : Entry) → Is Cc.S t (Cc.vals t) → i < 2 ^ 64 → Is R e (El.vals e) → Ready t
         → ent 𝓤 (emp 𝓤) (C #choose-one (Cc.val t ∷ vint w64 i ∷ El.val e ∷ []) (λ w. H .⇛ (guard 𝓤 ((d : Choice) × Is Cc.S d (w ∷ []) × Chose t i e d) (emp 𝓤))))

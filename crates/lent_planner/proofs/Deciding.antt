@@ -54,7 +54,7 @@ decides-refused s rows c x h =
     record {
       answered = rw (h, t .0);
       rows-after = none-changed rows ∙ sym (t .1);
-      fits = record { end = omega arith; skip = omega arith };
+      fits = record { from = omega arith; end = omega arith; skip = omega arith };
     }
 
 -- ---- which row refuses an add, a drop or a turn
@@ -140,7 +140,7 @@ decides-open s rows o t h n e =
           all-vacated rows (count .1)
           ∙ sym (rows-accepted s rows (Open o) accepted ∙ ap (λ (p : Plain). recordsOf (length rows) (waiting (change p (Open o)))) plain ∙ ap
           (λ (p : Plain). recordsOf (length rows) (waiting p)) made);
-      fits = record { end = omega arith; skip = omega arith };
+      fits = record { from = omega arith; end = omega arith; skip = omega arith };
     }
 
 -- the records of the next queue
@@ -166,7 +166,7 @@ decides-add s rows id r t h k none-row room =
           ap (λ (n : ℕ). rearranged (shifted n (n + 1) 1 e) rows) len
           ∙ one-added rows q (k .rows-sound .free) e (placed-rows (s .setup) rows (k .rows-sound)) (few-records (s .setup) rows (k .rows-sound)) (omega (arith, len, room))
           ∙ sym (next-rows s rows (Add id r) (q ++ e ∷ []) h accepted refl);
-      fits = record { end = omega (arith, room); skip = omega (arith, room) };
+      fits = record { from = omega (arith, room); end = omega (arith, room); skip = omega (arith, room) };
     }
 
 pub decides-drop : (s : LentSession) (rows : List Entry) (id : ℕ) (t : Survey) → s .opened ≡ true → Kept s rows id t → refusal (length rows)
@@ -192,7 +192,12 @@ decides-drop s rows id t h k none-row found =
           (few-records (s .setup) rows (k .rows-sound))
           ∙ ap (recordsOf (length rows)) (sym left)
           ∙ sym (next-rows s rows (Drop id) (removed id (standing rows)) h accepted refl);
-      fits = record { end = omega (arith, k .finds .len, size); skip = k .rows-sound .number .0 };
+      fits =
+          record {
+            from = omega (arith, place .5, size, ap length is, length-append a (e ∷ b));
+            end = omega (arith, k .finds .len, size);
+            skip = k .rows-sound .number .0;
+          };
     }
 
 -- ---- with any records in which the pass has found t

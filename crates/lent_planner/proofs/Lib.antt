@@ -7,6 +7,7 @@ pub mod Drops
 pub mod ChoiceLocal
 pub mod ChangeLocal
 pub mod ChangeSteps
+pub mod ListedEvents
 pub mod ChangeRuns
 pub mod PassedRules
 pub mod SurveyLaw
@@ -21,6 +22,7 @@ pub mod DecisionLocal
 pub mod RequestLocal
 pub mod DecisionRuns
 pub mod Marks
+pub mod MovingSteps
 pub mod ChoiceLaws
 pub mod SelectSteps
 pub mod ChoiceRuns

@@ -54,7 +54,7 @@ turn-refuses s rows before after x same h =
       turned = sym (refused-is s rows (length before) x h);
       slice = same ∙ sym (refused-slice-is s rows before x h);
       rows-after = none-changed rows ∙ sym (t .1);
-      fits = record { end = omega arith; skip = omega arith };
+      fits = record { from = omega arith; end = omega arith; skip = omega arith };
     }
 
 module _ (s : LentSession) (n : ℕ) (x : Survey) (t : Choice) (before : List ℕ) where
@@ -120,5 +120,5 @@ module _ (s : LentSession) (n : ℕ) (x : Survey) (t : Choice) (before after : L
             (ap₂ (λ (l : List ℕ) (r : List Entry). (l, r)) (ch .at-array) (ch .taken-array))
             ∙ one-turn (s .setup) q rows (k .rows-sound .free) (placed-rows (s .setup) rows (k .rows-sound)) (few-records (s .setup) rows (k .rows-sound)) (taken-few (s .setup) q)
             ∙ sym (next-rows s rows (Turn (length before)) (passed (s .setup) q ++ taken (s .setup) q) h accepted refl);
-        fits = record { end = omega (arith, k .finds .len, room); skip = omega arith };
+        fits = record { from = omega arith; end = omega (arith, k .finds .len, room); skip = omega arith };
       }

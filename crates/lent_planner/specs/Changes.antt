@@ -21,6 +21,34 @@ pastAll (a ∷ rest) k = pastAll rest (past a k)
 unfoldable pub ahead : Change → ℕ → ℕ
 ahead c i = pastAll (c .at) (i + c .skip)
 
+-- of the places from k on, at most `room`, those that stand before the record that goes; all of them, where it is behind
+unfoldable pub clear : ℕ → ℕ → ℕ → ℕ
+clear at k room = pick (leb at k) room (pick (leb (at - k) room) (at - k) room)
+
+unfoldable pub clearAll : List ℕ → ℕ → ℕ → ℕ
+clearAll [] k room = room
+clearAll (a ∷ rest) k room = clearAll rest (past a k) (clear a k room)
+
+-- a number past all places
+unfoldable pub nowhere : ℕ
+nowhere = 65536
+
+-- how many places from i on are read equally far ahead
+unfoldable pub stretch : Change → ℕ → ℕ
+stretch c i = clearAll (c .at) (i + c .skip) nowhere
+
+-- where the record of place i is read: at k, where i is before the end of a stretch that is read so
+unfoldable pub readAt : Change → ℕ → ℕ → ℕ → ℕ
+readAt c i k stop = pick (ltb i stop) k (ahead c i)
+
+-- the end of the stretch that place i is in, where the last one ends at `stop`
+unfoldable pub stretchEnd : Change → ℕ → ℕ → ℕ
+stretchEnd c i stop = pick (ltb i stop) stop (i + stretch c i)
+
+-- the record of place i, where what is read is past the end
+unfoldable pub freshAt : Change → ℕ → Entry
+freshAt c i = getD (c .fresh) (ahead c i - c .end) vacant
+
 -- where it is read
 unfoldable pub source : Change → ℕ → ℕ
 source c i = pick (ltb (ahead c i) (c .end)) (ahead c i) i
@@ -31,6 +59,7 @@ placed c i e = pick (ltb (ahead c i) (c .end)) e (getD (c .fresh) (ahead c i - c
 
 -- a change that fits n records
 pub record Fitting (c : Change) (n : ℕ) : Type 0 where
+  pub from : c .from ≤ n
   pub end : c .end ≤ n
   pub skip : c .skip ≤ n
 
@@ -41,10 +70,6 @@ rearrangedFrom (suc k) i c ys = rearrangedFrom k (i + 1) c (set ys i (placed c i
 
 unfoldable pub rearranged : Change → List Entry → List Entry
 rearranged c ys = rearrangedFrom (c .end - c .from) (c .from) c ys
-
--- a number past all places
-unfoldable pub nowhere : ℕ
-nowhere = 65536
 
 -- each record from `from` to `end` becomes the one `skip` places ahead, and e past the end
 unfoldable pub shifted : ℕ → ℕ → ℕ → Entry → Change

@@ -12,7 +12,7 @@ use Rattle.plans.specs.Search.{firstPlan}
 use Rattle.plans.specs.Parts.{usableCount}
 use Rattle.plans.specs.Rows.{rowsFrom}
 use Rattle.plans.specs.Packed.{packed}
-use Rattle.plans.specs.Reach.{leftOf}
+use Rattle.plans.specs.Reach.{leftBy, leftOf}
 use Rattle.sessions.specs.Turns.{requestsOf, fits, taken}
 use Rattle.sessions.specs.Sessions.{vacant}
 use Rattle.planner.specs.Selections.{inArray}
@@ -53,6 +53,12 @@ pub record Ready (t : Choice) : Type 0 where
   pub plan-found : t .plan ≡ packed (firstPlan (t .setup) (rowsFrom (t .rows) 0 (t .count)))
   pub plan-some : t .plan ≡ 0 → ⊥
   pub left-sets : t .setup .usable .0 < 64 → t .left ≡ leftOf (t .setup) (rowsFrom (t .rows) 0 (t .count))
+
+-- the record waits, and leaves no set of counters beside those taken, of at most six usable ones
+pub record LeavesNone (t : Choice) (e : Entry) : Type 0 where
+  pub waits : e .id ≡ 0 → ⊥
+  pub usable : t .setup .usable .0 < 64
+  pub none : leftBy (t .counters) (e .request) (t .left) ≡ 0
 
 -- nothing more is looked at
 unfoldable pub stopped : Choice → Choice

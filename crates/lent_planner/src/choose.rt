@@ -7,15 +7,17 @@ use planner::select::EMPTY_PLAN;
 use planner::select::plan_with;
 use planner::select::usable_count;
 use plans::reach::left_at_first;
+use plans::reach::left_by;
 use plans::rows::ROW_NUMBERS;
 use requests::CAPACITY;
 use requests::Entry;
 use requests::Setup;
 ghost use mathlib.Core.Path.{_≡_};
+ghost use mathlib.Core.Bool.{true};
 ghost use mathlib.Core.List.{[]};
 ghost use lib.ListN.{length};
 ghost use Rattle.lent_sessions.specs.Records.{standing};
-ghost use Rattle.lent_planner.specs.Choices.{HasChosen, Ready, Chose, stopped};
+ghost use Rattle.lent_planner.specs.Choices.{HasChosen, Ready, LeavesNone, Chose, stopped};
 
 // A choice of n records that has not begun.
 pub fn begun(setup: Setup, n: usize) -> Choice
@@ -60,6 +62,23 @@ fn stopped(t: Choice) -> Choice
         at: at,
         count: t.count,
     }
+}
+
+// Whether the record waits, and leaves no set of counters beside those taken, of at most six usable ones.
+pub fn leaves_none(t: Choice, e: Entry) -> bool
+    requires { ⌜ Ready t ⌝ }
+    ensures { λ r. ⌜ (r ≡ true → LeavesNone t e) ⌝ }
+{
+    if e.id == 0 {
+        return false;
+    }
+    let setup = t.setup;
+    let usable = setup.usable;
+    if usable.0 < 64 {
+        let request = e.request;
+        return left_by(t.counters, request, t.left) == 0;
+    }
+    false
 }
 
 // The choice after record i: it is taken where it and those taken have a plan. Nothing more is looked at from the first vacant record on, and once
@@ -109,7 +128,8 @@ pub fn choose(t: Choice, i: usize, e: Entry) -> Choice
     }
 }
 
-// What a turn takes of the records, from the front.
+// What a turn takes of the records, from the front. A record that leaves no set of counters is passed over here, since the choice is copied
+// where it goes by value.
 pub fn select(rows: &[Entry], s: Choice) -> Choice
     requires { ⌜ HasChosen (s .setup) [] s × (s .end ≡ length (now rows)) ⌝ }
     ensures { λ r. ⌜ HasChosen (s .setup) (standing (now (rows .entry))) r ⌝ }
@@ -117,8 +137,13 @@ pub fn select(rows: &[Entry], s: Choice) -> Choice
     let mut t = s;
     let mut i = 0;
     while i < t.end {
-        t = choose(t, i, rows[i]);
-        i = i + 1;
+        let e = rows[i];
+        if leaves_none(t, e) {
+            i = i + 1;
+        } else {
+            t = choose(t, i, e);
+            i = i + 1;
+        }
     }
     t
 }

@@ -6,7 +6,7 @@ use requests::Entry;
 ghost use mathlib.Core.Path.{_≡_};
 ghost use Prim.Native.Nat.{_+_, _<_, _≤_, _^_};
 ghost use lib.ListN.{length};
-ghost use Rattle.lent_planner.specs.Changes.{past, ahead, source, placed, Fitting, rearranged, shifted, unchanged};
+ghost use Rattle.lent_planner.specs.Changes.{past, ahead, clear, stretch, readAt, stretchEnd, freshAt, Fitting, rearranged, shifted, unchanged};
 
 // A number past all places.
 pub const NOWHERE: usize = 65536;
@@ -41,7 +41,7 @@ fn past(at: usize, k: usize) -> usize
 }
 
 // Where the record of place i is read, as if there were records past the end.
-fn ahead(c: Change, i: usize) -> usize
+pub fn ahead(c: Change, i: usize) -> usize
     requires { ⌜ i + c .skip + 8 < 2 ^ 64 ⌝ }
     ensures { λ r. ⌜ r ≡ ahead c i ⌝ }
 {
@@ -57,43 +57,82 @@ fn ahead(c: Change, i: usize) -> usize
     past(at[7], k7)
 }
 
-// Where the record of place i is read: in its own place, where what is read is past the end.
-pub fn source(c: Change, i: usize) -> usize
-    requires { ⌜ i + c .skip + 8 < 2 ^ 64 ⌝ }
-    ensures { λ r. ⌜ r ≡ source c i ⌝ }
+// Of the places from k on, at most `room`, those that stand before the record that goes; all of them, where it is behind.
+fn clear(at: usize, k: usize, room: usize) -> usize
+    ensures { λ r. ⌜ r ≡ clear at k room ⌝ }
+    ensures { λ r. ⌜ r ≤ room ⌝ }
 {
-    let k = ahead(c, i);
-    if k < c.end { k } else { i }
+    if at <= k {
+        return room;
+    }
+    let far = at - k;
+    if far <= room { far } else { room }
 }
 
-// The record of place i, where e is read: past the end it is a fresh one.
-pub fn placed(c: Change, i: usize, e: Entry) -> Entry
+// How many places from i on are read equally far ahead.
+fn stretch(c: Change, i: usize) -> usize
     requires { ⌜ i + c .skip + 8 < 2 ^ 64 ⌝ }
-    ensures { λ r. ⌜ r ≡ placed c i e ⌝ }
+    ensures { λ r. ⌜ r ≡ stretch c i ⌝ }
+    ensures { λ r. ⌜ r ≤ 65536 ⌝ }
 {
-    let k = ahead(c, i);
-    if k < c.end {
-        return e;
+    let at = c.at;
+    let mut k = i + c.skip;
+    let mut room = NOWHERE;
+    for j in 0..CAPACITY {
+        let goes = at[j];
+        room = clear(goes, k, room);
+        k = past(goes, k);
     }
-    let j = k - c.end;
+    room
+}
+
+// Where the record of place i is read: at k, where i is before the end of a stretch that is read so.
+pub fn read_at(c: Change, i: usize, k: usize, stop: usize) -> usize
+    requires { ⌜ i + c .skip + 8 < 2 ^ 64 ⌝ }
+    ensures { λ r. ⌜ r ≡ readAt c i k stop ⌝ }
+{
+    if i < stop { k } else { ahead(c, i) }
+}
+
+// The end of the stretch that place i is in, where the last one ends at `stop`.
+pub fn stretch_end(c: Change, i: usize, stop: usize) -> usize
+    requires { ⌜ i + c .skip + 65536 < 2 ^ 64 ⌝ }
+    ensures { λ r. ⌜ r ≡ stretchEnd c i stop ⌝ }
+{
+    if i < stop { stop } else { i + stretch(c, i) }
+}
+
+// The record of place i, where what is read is past the end.
+pub fn fresh_at(c: Change, i: usize) -> Entry
+    requires { ⌜ (i + c .skip + 8 < 2 ^ 64) × (c .end ≤ ahead c i) ⌝ }
+    ensures { λ r. ⌜ r ≡ freshAt c i ⌝ }
+{
+    let j = ahead(c, i) - c.end;
     if j < CAPACITY {
         return c.fresh[j];
     }
     vacant()
 }
 
-// Each record from `from` to `end` becomes the one that is read for it.
+// Each record from `from` to `end` becomes the one that is read for it: first those that stand ahead, and then the fresh ones. The two places
+// move on together along a stretch, so that the records that go are looked through once for each stretch.
 pub fn rearrange(rows: &mut [Entry], c: Change)
     requires { ⌜ Fitting c (length (now rows)) ⌝ }
     ensures { λ _. ⌜ now (rows .exit) ≡ rearranged c (now (rows .entry)) ⌝ }
 {
     let mut i = c.from;
     let end = c.end;
+    let mut k = ahead(c, i);
+    let mut stop = i;
+    while k < end {
+        rows[i] = rows[k];
+        i = i + 1;
+        let next = read_at(c, i, k + 1, stop);
+        stop = stretch_end(c, i, stop);
+        k = next;
+    }
     while i < end {
-        let k = source(c, i);
-        let e = rows[k];
-        let f = placed(c, i, e);
-        rows[i] = f;
+        rows[i] = fresh_at(c, i);
         i = i + 1;
     }
 }

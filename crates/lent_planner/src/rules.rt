@@ -1,9 +1,12 @@
 // The rules of the lent records, tested in one pass.
 use crate::Survey;
+use checks::catalogue::look_up;
 use checks::check::request_refusal;
+use checks::devices::all_counters;
 use checks::set::has;
 use planner::add::plans_alone;
 use planner::ids::outside_ids;
+use plans::extend::any_usable;
 use requests::Answer;
 use requests::CounterSet;
 use requests::Entry;
@@ -11,8 +14,11 @@ use requests::Request;
 use requests::Setup;
 ghost use mathlib.Core.Path.{_≡_};
 ghost use mathlib.Core.Bool.{true, false};
+ghost use mathlib.Core.List.{_∷_, []};
 ghost use Prim.Native.Nat.{_+_, _<_, _^_};
 ghost use lib.ListN.{length};
+ghost use Rattle.requests.specs.Checks.{formed};
+ghost use Rattle.plans.specs.Search.{hasPlan};
 ghost use Rattle.lent_sessions.specs.Records.{allZero, mayWait};
 ghost use Rattle.lent_planner.specs.Surveys.{allLeft, isLeft, takenId, fresh, mayCount, counted, ended, spoiled, surveyStep, surveyed};
 
@@ -43,6 +49,34 @@ pub fn all_zero(request: Request) -> bool
     }
 }
 
+// Whether the request is a listed event that asks for no counter but the device's, one of them usable. Most requests are, and nothing else has to
+// be asked of them.
+fn fits_at_once(setup: Setup, request: Request) -> bool
+    ensures { λ r. ⌜ (r ≡ true → (formed setup request ≡ true) × (hasPlan setup (request ∷ []) ≡ true)) ⌝ }
+{
+    match request {
+        Request::Event {
+            code,
+            mask,
+            allowed,
+        } => {
+            let device = setup.device;
+            let all = all_counters(device);
+            if all.0 < allowed.0 {
+                return false;
+            }
+            if !any_usable(setup, allowed) {
+                return false;
+            }
+            let listing = look_up(device, code, mask);
+            listing.pair
+        }
+        Request::Packet { .. } => false,
+        Request::Offcore { .. } => false,
+        Request::Latency { .. } => false,
+    }
+}
+
 // Whether the record may wait: an id, and a well-formed request with a plan by itself.
 pub fn may_wait(setup: Setup, e: Entry) -> bool
     ensures { λ r. ⌜ r ≡ mayWait setup e ⌝ }
@@ -51,6 +85,9 @@ pub fn may_wait(setup: Setup, e: Entry) -> bool
         return false;
     }
     let request = e.request;
+    if fits_at_once(setup, request) {
+        return true;
+    }
     match request_refusal(setup, request) {
         Answer::Refused(_) => false,
         Answer::Accepted => plans_alone(setup, request),

@@ -17,22 +17,31 @@ returns c =
     rw i
 
 returns-2 : tie.Need-returns-2
-unfolding mayWait both formed
+unfolding mayWait both
 returns-2 c =
-    let p = c .before .before in
-    let b = p .before .before in
-    let a = b .before .args in
-    let i : outsideIds (a .e .id) ≡ false = sym (b .outside-ids .ensures) ∙ p .before .if1 .left in
-    let r = answer-some (requestRefusal (a .setup) (a .e .request)) _ (sym (p .request-refusal .ensures) ∙ c .enum-told .given .1) in
-    rw (i, r)
+    let f = c .before in
+    let b = f .before .before in
+    let i : outsideIds (b .before .args .e .id) ≡ false = sym (b .outside-ids .ensures) ∙ f .before .if1 .left in
+    let both-hold = f .fits-at-once .ensures (c .if2 .taken) in
+    rw (i, both-hold .0, both-hold .1)
 
 returns-3 : tie.Need-returns-3
 unfolding mayWait both formed
 returns-3 c =
-    let p = c .before .before .before in
-    let b = p .before .before in
+    let p = c .before .before in
+    let b = p .before .before .before .before in
     let a = b .before .args in
-    let i : outsideIds (a .e .id) ≡ false = sym (b .outside-ids .ensures) ∙ p .before .if1 .left in
+    let i : outsideIds (a .e .id) ≡ false = sym (b .outside-ids .ensures) ∙ p .before .before .before .if1 .left in
+    let r = answer-some (requestRefusal (a .setup) (a .e .request)) _ (sym (p .request-refusal .ensures) ∙ c .enum-told .given .1) in
+    rw (i, r)
+
+returns-4 : tie.Need-returns-4
+unfolding mayWait both formed
+returns-4 c =
+    let p = c .before .before .before in
+    let b = p .before .before .before .before in
+    let a = b .before .args in
+    let i : outsideIds (a .e .id) ≡ false = sym (b .outside-ids .ensures) ∙ p .before .before .before .if1 .left in
     let r = answer-none (requestRefusal (a .setup) (a .e .request)) (sym (p .request-refusal .ensures) ∙ c .before .enum-told2 .given .1) in
     rw (i, r) (c .plans-alone .ensures)
 
@@ -43,8 +52,10 @@ may-wait-spec =
     (λ c κs. search needs)
     returns
     (λ c κs. search needs)
+    returns-2
+    (λ c κs. search needs)
     (λ c. search needs)
     (λ c. search needs)
     (λ c κs. search needs)
-    returns-2
-    returns-3)
+    returns-3
+    returns-4)
