@@ -27,6 +27,43 @@ fn total_in(file: &Path) -> Option<u64> {
     Some(total.parse().expect("a number"))
 }
 
+/// The number by which a file of callgrind knows the program itself.
+fn number_of<'a>(text: &'a str, program: &str) -> &'a str {
+    let named = text.lines().filter_map(|line| line.strip_prefix("ob=").or(line.strip_prefix("cob=")));
+    named.filter_map(|name| name.split_once(' ')).find(|(_, path)| path.ends_with(program)).expect("the program").0
+}
+
+/// The instructions of the program's own code in the text of such a file. The line behind one of calls has the callee's.
+fn own_in(text: &str, program: &str) -> u64 {
+    let number = number_of(text, program);
+    let (mut own, mut called, mut sum) = (false, false, 0);
+    for line in text.lines() {
+        if let Some(name) = line.strip_prefix("ob=") {
+            own = name.split(' ').next() == Some(number);
+        } else if line.starts_with("calls=") {
+            called = true;
+        } else if line.starts_with(|first: char| first.is_ascii_digit() || "+-*".contains(first)) {
+            if own && !called {
+                sum += line.split(' ').nth(1).expect("a count").parse::<u64>().expect("a number");
+            }
+            called = false;
+        }
+    }
+    sum
+}
+
+/// The instructions of a program's own code, without those of the libraries that it finds when it runs.
+pub fn own_count(program: &str, input: Stdio, folder: &str) -> u64 {
+    let file = format!("{folder}/callgrind.out.{}", std::process::id());
+    let mut command = Command::new("valgrind");
+    command.args(["--tool=callgrind", &format!("--callgrind-out-file={file}"), program]);
+    let status = command.stdin(input).stdout(Stdio::null()).stderr(Stdio::null()).status().expect("valgrind");
+    assert!(status.success(), "{program} under valgrind: {status}");
+    let text = fs::read_to_string(&file).expect("a file of ours");
+    fs::remove_file(&file).expect("a file of ours");
+    own_in(&text, program.trim_start_matches("./"))
+}
+
 /// The instructions of a program between its marks: before the first, between the first and the second, and so on, and last
 /// those after the last mark.
 pub fn counts(program: &str, words: &[&str], input: Stdio, folder: &str) -> Vec<u64> {
