@@ -26,8 +26,10 @@ use Rattle.plans.proofs.Unpacking.{some-packed, none-packed, plan-packed, plan-
 use Rattle.plans.proofs.Giving.{places-length}
 use Rattle.plans.proofs.ExtendsHold.{extends}
 use Rattle.plans.specs.Reach.{leftOf}
+use Rattle.plans.specs.FilterWords.{crowded}
 use Rattle.plans.proofs.PlanTestHolds.{plan-test}
 use Rattle.plans.proofs.ReachHolds.{reach}
+use Rattle.plans.proofs.FilterWordsHold.{filter-words}
 use Rattle.plans.proofs.PlanLengthHolds.{plan-length}
 use Rattle.planner.specs.Selections.{Searched}
 use borrow.Author.Tests.{eqb-true}
@@ -42,12 +44,14 @@ module _ (s : Setup) (rs : List Request) where
   pub found-none : packed (firstPlan s rs) ≡ 0 → ¬ HasPlan s rs
   found-none h = first-plan .complete s rs (none-packed (firstPlan s rs) h)
 
+  no-plan : ¬ HasPlan s rs → 0 ≡ packed (firstPlan s rs)
+  no-plan h = sym (eqb-true (packed (firstPlan s rs)) 0 (plan-packed s rs ∙ ap not (plan-test .unplanned s rs h)))
+
 -- the answer is 0 where there is no plan
-searched-no : (s : Setup) (rows : List ℕ) (count : ℕ) (r : Request) → hasPlan s (rowsFrom rows 0 count ++ (r ∷ [])) ≡ false → length rows ≡ 32 → Searched s rows count r rows 0
+searched-no : (s : Setup) (rows : List ℕ) (count : ℕ) (r : Request) → ¬ HasPlan s (rowsFrom rows 0 count ++ (r ∷ [])) → length rows ≡ 32 → Searched s rows count r rows 0
 searched-no s rows count r unplanned size =
-    let rs = rowsFrom rows 0 count ++ (r ∷ []) in
     record {
-      answer = sym (eqb-true (packed (firstPlan s rs)) 0 (plan-packed s rs ∙ ap not unplanned));
+      answer = no-plan s (rowsFrom rows 0 count ++ (r ∷ [])) unplanned;
       kept = refl;
       behind = λ exists. absurd (exists refl);
       size = size;
@@ -56,13 +60,12 @@ searched-no s rows count r unplanned size =
 -- so where as many requests are taken as counters are usable
 pub searched-none : (s : Setup) (rows : List ℕ) (count : ℕ) (r : Request) → usableCount s ≤ count → length rows ≡ 32 → Searched s rows count r rows 0
 searched-none s rows count r full size =
-    searched-no s rows count r (plan-length .full-tested s (rowsFrom rows 0 count) r (rw rows-length full)) size
+    searched-no s rows count r (plan-length .full s (rowsFrom rows 0 count) r (rw rows-length full)) size
 
 -- and where the requests leave no set of counters
 pub searched-unreached : (s : Setup) (rows : List ℕ) (count : ℕ) (r : Request) → s .usable .0 < 64 → leftOf s (rowsFrom rows 0 count ++ (r ∷ [])) ≡ 0 → length rows ≡ 32 → Searched s rows count r rows 0
 searched-unreached s rows count r fits gone size =
-    let rs = rowsFrom rows 0 count ++ (r ∷ []) in
-    searched-no s rows count r (plan-test .unplanned s rs (reach .unplanned s rs fits gone)) size
+    searched-no s rows count r (reach .unplanned s (rowsFrom rows 0 count ++ (r ∷ [])) fits gone) size
 
 -- the rows in front stay
 rows-front : (old new : List ℕ) (i : ℕ) (r : Request) → new ≡ setRequest old i r → requestAt new i ≡ r → rowsFrom new 0 i ≡ rowsFrom old 0 i
@@ -82,6 +85,13 @@ searched-rows s rows count r next put back size found e =
       behind = λ exists. behind;
       size = rw (put, put-length) size;
     }
+
+-- so that it is 0 where the requests ask for more filter words than the registers hold
+pub searched-crowded : (s : Setup) (rows : List ℕ) (count : ℕ) (r : Request) (next : List ℕ) → next ≡ setRequest rows count r → requestAt next count ≡ r → length rows ≡ 32
+    → crowded (rowsFrom next 0 (count + 1)) ≡ true → Searched s rows count r next 0
+searched-crowded s rows count r next put back size more =
+    let rs = rowsFrom next 0 (count + 1) in
+    searched-rows s rows count r next put back size 0 (no-plan s rs (filter-words .unplanned s rs more))
 
 -- ---- an event beside the plan
 

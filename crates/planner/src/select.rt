@@ -6,6 +6,7 @@ use checks::devices::counter_count;
 use checks::set::size_of;
 use plans::extend::counter_beside;
 use plans::extend::with_counter;
+use plans::filter_words::crowded_by_last;
 use plans::reach::left_at_first;
 use plans::reach::left_by;
 use plans::rows::ROW_NUMBERS;
@@ -53,8 +54,8 @@ fn none_left(usable: CounterSet, left: u64) -> bool
 }
 
 // The plan of the requests taken with one more behind them. No plan has more requests than counters are usable, so that nothing is looked
-// for once as many are taken, nor where the requests leave no set of counters. An event that has a counter beside the plan of those taken
-// extends it; only for the others is a plan searched.
+// for once as many are taken, nor where the requests leave no set of counters or ask for more filter words than the registers hold. An event
+// that has a counter beside the plan of those taken extends it; only for the others is a plan searched.
 pub fn plan_with(
     setup: Setup,
     usable: usize,
@@ -86,6 +87,9 @@ pub fn plan_with(
             code: with_counter(code, count, counter),
             left: left_then,
         };
+    }
+    if crowded_by_last(rows, count + 1) {
+        return Extended { code: 0, left };
     }
     Extended {
         code: plan_rows(setup, rows, count + 1),

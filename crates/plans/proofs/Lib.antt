@@ -24,5 +24,6 @@ pub mod PlanLengthHolds
 pub mod PartsHold
 pub mod AcceptanceTests
 pub mod ReachHolds
+pub mod FilterWordsHold
 pub mod ExtendsHold
 pub mod FreeBeside

@@ -20,7 +20,6 @@ use Rattle.plans.specs.Parts.{usableCount}
 use Rattle.plans.specs.PlanLength.{PlanLength}
 use Rattle.plans.proofs.Members.{size-at-most, differ-at-most}
 use Rattle.plans.proofs.FirstFound.{first-plan}
-use Rattle.plans.proofs.PlanTestHolds.{plan-test}
 
 each-length : {A B : Type 0} {R : A → B → Type 0} {l : List A} {m : List B} → Each R l m → length m ≡ length l
 each-length none = refl
@@ -69,7 +68,6 @@ plan-length = record {
   usable-at-most = usable-at-most;
   device-at-most = device-at-most;
   full = full;
-  full-tested = λ s rs r b. plan-test .unplanned s (rs ++ r ∷ []) (full s rs r b);
   found-places = λ s rs ps e. each-length (found-legal s rs ps e .allowed);
   found-at-most = found-at-most;
 }

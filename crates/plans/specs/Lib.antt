@@ -10,6 +10,7 @@ pub mod PlanTest
 pub mod PlanLength
 pub mod Parts
 pub mod Reach
+pub mod FilterWords
 pub mod Extends
 pub mod PlanTries
 -- The code's own: how it holds its values. No claim.

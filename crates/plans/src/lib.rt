@@ -4,6 +4,7 @@ use requests::CounterSet;
 
 mod counters;
 pub mod extend;
+pub mod filter_words;
 mod filters;
 pub mod first_plan;
 mod latency;
@@ -46,6 +47,14 @@ pub struct Room {
 pub enum Admission {
     Admitted(Room),
     NoRoom,
+}
+
+// The filter words that requests ask for, as the registers would hold them, and whether they are more than the registers hold.
+pub struct Asked {
+    pub first: Register,
+    pub second: Register,
+    pub packet: Filter,
+    pub crowded: bool,
 }
 
 // What one request is given.

@@ -13,7 +13,7 @@ ghost use Rattle.plans.specs.Rows.{requestOf, requestAt, setRow, setRequ
 pub const ROW_NUMBERS: usize = 4 * CAPACITY;
 
 // The kinds of request, as a row begins with them.
-const EVENT: u64 = 0;
+pub const EVENT: u64 = 0;
 
 const PACKET: u64 = 1;
 

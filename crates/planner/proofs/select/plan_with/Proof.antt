@@ -1,6 +1,6 @@
 -- `planner::select::plan_with` searches with one request more: by the laws on a row put behind others. Nothing is searched where as many
--- requests are taken as counters are usable, or the requests leave no set of counters, by the laws that no further request fits, and
--- for an event that has a counter beside the plan, by the law that it extends the plan.
+-- requests are taken as counters are usable, or the requests leave no set of counters, or ask for more words than the registers hold, by the
+-- laws that no further request fits, and for an event that has a counter beside the plan, by the law that it extends the plan.
 use mathlib.Core.Path.{_≡_, refl, ap, _∙_}
 use mathlib.Core.List.{[], _∷_, _++_}
 use borrow.Author.Needs.{needs}
@@ -11,7 +11,7 @@ use Rattle.plans.specs.Reach.{leftBy, leftOf}
 use Rattle.plans.specs.Rows.{rowsFrom}
 use Rattle.plans.proofs.ReachHolds.{reach}
 use Rattle.plans.proofs.PlanLengthHolds.{plan-length}
-use Rattle.planner.proofs.Searching.{searched-none, searched-extended, searched-unreached, searched-rows, beside-few, code-few}
+use Rattle.planner.proofs.Searching.{searched-none, searched-extended, searched-unreached, searched-crowded, searched-rows, beside-few, code-few}
 use Rattle.planner.proofs.select.plan_with.Statement.{statement}
 use Rattle.planner.proofs.select.plan_with.Tie as tie
 
@@ -77,16 +77,26 @@ returns-3 c =
       λ exists. left-then (c .before .before .before .before .before .before .before .before),
     )
 
-plan-rows-requires : tie.Need-plan-rows-requires
-plan-rows-requires c κs = omega (arith, few (c .before .before .before .before .before .before .before .before .before .before))
+crowded-by-last-requires : tie.Need-crowded-by-last-requires
+crowded-by-last-requires c κs = omega (arith, few (c .before .before .before .before .before .before .before .before .before .before))
 
 returns-4 : tie.Need-returns-4
 returns-4 c =
-    let p = c .before .before .before in
-    let b = c .before .before .before .before .before .before .before .before .before .before .before .before in
+    let p = c .before .before .before .before in
+    let b = c .before .before .before .before .before .before .before .before .before .before .before .before .before in
+    let a = b .args in
+    (searched-crowded (a .setup) (a .rows .now) (a .count) (a .request) _ (p .put-request .ensures .0) (p .put-request .ensures .1) (b .pre .0 .2) (c .before .crowded-by-last .ensures (c .if4 .taken)), nothing)
+
+plan-rows-requires : tie.Need-plan-rows-requires
+plan-rows-requires c κs = omega (arith, few (c .before .before .before .before .before .before .before .before .before .before .before .before .before))
+
+returns-5 : tie.Need-returns-5
+returns-5 c =
+    let p = c .before .before .before .before .before .before in
+    let b = c .before .before .before .before .before .before .before .before .before .before .before .before .before .before .before in
     let a = b .args in (
       searched-rows (a .setup) (a .rows .now) (a .count) (a .request) _ (p .put-request .ensures .0) (p .put-request .ensures .1) (b .pre .0 .2) _ (c .plan-rows .ensures),
-      λ exists. left-then (c .before .before .before .before .before .before .before .before .before),
+      λ exists. left-then (c .before .before .before .before .before .before .before .before .before .before .before .before),
     )
 
 pub plan-with-spec : {M : Type 1} → statement M
@@ -102,5 +112,8 @@ plan-with-spec =
     with-counter-requires
     returns-3
     (λ c. search needs)
+    crowded-by-last-requires
+    returns-4
+    (λ c. search needs)
     plan-rows-requires
-    returns-4)
+    returns-5)
