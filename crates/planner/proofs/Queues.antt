@@ -11,9 +11,10 @@ use borrow.Author.Tests.{eq-eqb, ne-eqb}
 use lib.Dec.{eqb}
 use lib.ListN.{length, take, drop, getD, set, replicate, length-take, length-append, length-set}
 use lib.Seq.{take-all, getD-drop, drop-drop, drop-set-lt, take-suc-set, take-at}
-use mathlib.Core.Option.{some}
-use Rattle.requests.specs.declared.Answer.the-variants.{Accepted}
+use mathlib.Core.Option.{Option, some}
+use Rattle.requests.specs.declared.Answer.the-variants.{Accepted, Refused}
 use Rattle.requests.specs.declared.Entry.{Entry}
+use Rattle.requests.specs.declared.Refusal.{Refusal}
 use Rattle.requests.specs.declared.Refusal.the-variants.{CallOrder}
 use Rattle.requests.specs.declared.Setup.{Setup}
 use Rattle.requests.specs.Choice.{either, pick}
@@ -21,9 +22,9 @@ use Rattle.requests.specs.Refusals.{answerFor}
 use Rattle.sessions.specs.Calls.{Call, notOpen, waits}
 use Rattle.sessions.specs.Table.{refusal}
 use Rattle.sessions.specs.Plain.{removed}
-use Rattle.sessions.specs.Sessions.{queueLimit, vacant, padded, sessionOf, refusedBy}
+use Rattle.sessions.specs.Sessions.{queueLimit, vacant, padded, answered, sessionOf, refusedBy}
 use Rattle.sessions.specs.declared.Session.{Session}
-use Rattle.sessions.proofs.TableAnswers.{answer-closed}
+use Rattle.sessions.proofs.TableAnswers.{answer-closed, answered-refused}
 use Rattle.planner.proofs.Arrays.{array-push}
 use Rattle.requests.proofs.Windows.{window-past, window-step, take-next}
 
@@ -151,6 +152,17 @@ module _ {q l : List Entry} {id i k : ℕ} (c : ClosedUp q l id i k) (d : Entry)
         front = rw (add-one k, take-suc-set l k (getD l i d) (omega (arith, c .behind, c .size)), c .front, w, same-entry);
         rest = drop-set-lt (i + 1) l k (getD l i d) (omega (arith, c .behind)) ∙ same-rest;
       }
+
+-- ---- a refused call
+
+-- what is refused is answered so
+pub refused-answer : {x : Option Refusal} {y : Refusal} → x ≡ some y → Refused y ≡ answerFor x
+unfolding answerFor
+refused-answer e = sym (ap answerFor e)
+
+-- and leaves the session as it is
+pub refused-answered : {x : Option Refusal} {y : Refusal} → x ≡ some y → (old new : Session) → record { answer = Refused y; session = old } ≡ answered x old new
+refused-answered {x} {y} e old new = answered-refused (Refused y) x (refused-answer e) old new y refl
 
 -- ---- an accepted call
 

@@ -1,4 +1,5 @@
 // add: a request enters the queue at the back.
+use crate::ids::bad_id_refusal;
 use crate::ids::outside_ids;
 use crate::queue::bounded;
 use crate::queue::vacant;
@@ -34,7 +35,7 @@ pub fn plans_alone(setup: Setup, request: Request) -> bool
     plan_rows(setup, &rows, 1) != 0
 }
 
-// The answer to an add, by the refusal table, told whether the id is waiting.
+// The answer to an add of an id, by the refusal table, told whether it is waiting.
 pub fn add_answer(
     opened: bool,
     setup: Setup,
@@ -47,9 +48,6 @@ pub fn add_answer(
 {
     if !opened {
         return Answer::Refused(Refusal::CallOrder);
-    }
-    if outside_ids(id) {
-        return Answer::Refused(Refusal::BadId);
     }
     if waiting {
         return Answer::Refused(Refusal::IdWaiting);
@@ -73,6 +71,14 @@ pub fn add_answer(
 pub fn add(session: Session, id: u64, request: Request) -> Answered
     ensures { λ r. ⌜ r ≡ addOf session id request ⌝ }
 {
+    let opened = session.opened;
+    if outside_ids(id) {
+        let refusal = bad_id_refusal(opened);
+        return Answered {
+            answer: Answer::Refused(refusal),
+            session: session,
+        };
+    }
     let setup = session.setup;
     let n = bounded(session.len);
     let mut queue = session.queue;
@@ -84,7 +90,6 @@ pub fn add(session: Session, id: u64, request: Request) -> Answered
         }
         at += 1;
     }
-    let opened = session.opened;
     let answer = add_answer(opened, setup, session.len, at < n, id, request);
     let mut len = session.len;
     if let Answer::Accepted = answer {

@@ -1,4 +1,5 @@
 // drop: a request leaves the queue.
+use crate::ids::bad_id_refusal;
 use crate::ids::outside_ids;
 use crate::queue::bounded;
 use crate::queue::vacant;
@@ -11,15 +12,12 @@ ghost use mathlib.Core.Path.{_≡_};
 ghost use Rattle.sessions.specs.Sessions.{dropOf};
 ghost use Rattle.planner.specs.Answering.{AnswersDrop};
 
-// The answer to a drop, by the refusal table, told whether the id is waiting.
+// The answer to a drop of an id, by the refusal table, told whether it is waiting.
 pub fn drop_answer(opened: bool, waiting: bool, id: u64) -> Answer
     ensures { λ r. ⌜ AnswersDrop opened waiting id r ⌝ }
 {
     if !opened {
         return Answer::Refused(Refusal::CallOrder);
-    }
-    if outside_ids(id) {
-        return Answer::Refused(Refusal::BadId);
     }
     if !waiting {
         return Answer::Refused(Refusal::IdNotWaiting);
@@ -31,6 +29,13 @@ pub fn drop_answer(opened: bool, waiting: bool, id: u64) -> Answer
 pub fn drop_request(session: Session, id: u64) -> Answered
     ensures { λ r. ⌜ r ≡ dropOf session id ⌝ }
 {
+    if outside_ids(id) {
+        let refusal = bad_id_refusal(session.opened);
+        return Answered {
+            answer: Answer::Refused(refusal),
+            session: session,
+        };
+    }
     let n = bounded(session.len);
     let mut queue = session.queue;
     let mut at = 0;

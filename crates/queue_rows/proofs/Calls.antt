@@ -1,6 +1,6 @@
 -- What an add and a drop answer, and leave in the arrays, by what the code has found and changed. Assumes nothing.
-use mathlib.Core.Path.{_≡_, ap, sym, _∙_}
-use mathlib.Core.Bool.{true}
+use mathlib.Core.Path.{_≡_, refl, ap, sym, _∙_}
+use mathlib.Core.Bool.{true, false}
 use mathlib.Core.List.{List, [], _∷_, _++_}
 use Prim.Native.Nat.{ℕ, _+_, _<_, min}
 use native.Mathlib.Numerals.{add-one}
@@ -17,11 +17,12 @@ use Rattle.requests.specs.Refusals.{answerFor}
 use Rattle.requests.proofs.Windows.{take-min}
 use Rattle.sessions.specs.Calls.{Call, Add, Drop, waits}
 use Rattle.sessions.specs.Plain.{removed}
+use Rattle.sessions.specs.Table.{outsideIds}
 use Rattle.sessions.specs.Sessions.{queued, refusedBy, addOf, dropOf}
 use Rattle.sessions.specs.declared.Session.{Session}
 use Rattle.sessions.proofs.TableAnswers.{add-room, add-closed, drop-closed}
-use Rattle.planner.specs.Answering.{AnswersFor}
-use Rattle.planner.proofs.Queues.{accepted-opened}
+use Rattle.planner.specs.Answering.{AnswersFor, RefusesBadId}
+use Rattle.planner.proofs.Queues.{refused-answer, accepted-opened}
 use Rattle.queue_rows.specs.Rows.{Sized, Holding, FirstPlace, ClosesUp, queueIn}
 use Rattle.queue_rows.specs.Heads.{sessionIn, AnswersIn}
 use Rattle.queue_rows.specs.declared.Head.{Head}
@@ -43,11 +44,11 @@ module _ (h : Head) (ids rows : List ℕ) (n : ℕ) (bound : n ≡ min (h .len) 
   queue-count = ap length (sym queue-front) ∙ length-take n q ∙ omega (arith, queue-length ids rows)
 
   -- the answer that goes by whether the id is waiting is the table's
-  pub call-answer : (id at : ℕ) → FirstPlace ids n id at → (c : Call) (a : Answer) → AnswersFor (h .opened) (h .setup) (h .len) (ltb at n) id c a
+  pub call-answer : (id at : ℕ) → outsideIds id ≡ false → FirstPlace ids n id at → (c : Call) (a : Answer) → AnswersFor (h .opened) (h .setup) (h .len) (ltb at n) id c a
       → a ≡ answerFor (refusedBy s c)
   unfolding sessionIn
-  call-answer id at first c a decided =
-      decided (s .queue) (in-size h ids rows) (found-first ids rows (h .len) n id at bound first ∙ ap (waits id) (sym (in-queued h ids rows)))
+  call-answer id at inside first c a decided =
+      decided (s .queue) (in-size h ids rows) inside (found-first ids rows (h .len) n id at bound first ∙ ap (waits id) (sym (in-queued h ids rows)))
 
   module _ (id : ℕ) (r : Request) (a : Answer) (is : a ≡ answerFor (refusedBy s (Add id r))) where
     pub add-refuses : Sized ids rows → (y : Refusal) → a ≡ Refused y → AnswersIn (addOf s id r) ids rows (record { answer = a; head = h })
@@ -81,3 +82,13 @@ module _ (h : Head) (ids rows : List ℕ) (n : ℕ) (bound : n ≡ min (h .len) 
         call-accepted a (refusedBy s (Drop id)) is (closed .size) s (h .opened) (h .setup) k (removed id (queued s))
         (accepted-opened s (Drop id) (drop-closed _ id) (sym is ∙ e))
         (closed .count ∙ rw queue-front) (closed .front ∙ rw queue-front) e
+
+-- a number that is no id is refused, whatever the arrays hold
+module _ (h : Head) (ids rows : List ℕ) (size : Sized ids rows) (y : Refusal) (refuses : RefusesBadId (h .opened) y) (id : ℕ) (outside : outsideIds id ≡ true) where
+  pub add-bad : (r : Request) → AnswersIn (addOf (sessionIn h ids rows) id r) ids rows (record { answer = Refused y; head = h })
+  unfolding sessionIn
+  add-bad r = add-refuses h ids rows (min (h .len) 16) refl id r (Refused y) (refused-answer (refuses (sessionIn h ids rows) refl id outside .0 r)) size y refl
+
+  pub drop-bad : AnswersIn (dropOf (sessionIn h ids rows) id) ids rows (record { answer = Refused y; head = h })
+  unfolding sessionIn
+  drop-bad = drop-refuses h ids rows (min (h .len) 16) refl id (Refused y) (refused-answer (refuses (sessionIn h ids rows) refl id outside .1)) size y refl

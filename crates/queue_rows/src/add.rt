@@ -5,6 +5,8 @@ use crate::QUEUE_NUMBERS;
 use crate::rows::place_of;
 use crate::rows::put_entry;
 use planner::add::add_answer;
+use planner::ids::bad_id_refusal;
+use planner::ids::outside_ids;
 use planner::queue::bounded;
 use requests::Answer;
 use requests::Request;
@@ -25,6 +27,13 @@ pub fn add(
     ensures { λ r. ⌜ AnswersIn (addOf (sessionIn head (now (ids .entry)) (now (rows .entry))) id request) (now (ids .exit)) (now (rows .exit)) r ⌝ }
 {
     let opened = head.opened;
+    if outside_ids(id) {
+        let refusal = bad_id_refusal(opened);
+        return HeadAnswered {
+            answer: Answer::Refused(refusal),
+            head,
+        };
+    }
     let setup = head.setup;
     let n = bounded(head.len);
     let at = place_of(ids, n, id);

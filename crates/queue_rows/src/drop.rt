@@ -5,6 +5,8 @@ use crate::QUEUE_NUMBERS;
 use crate::rows::copy_entry;
 use crate::rows::place_of;
 use planner::drop::drop_answer;
+use planner::ids::bad_id_refusal;
+use planner::ids::outside_ids;
 use planner::queue::bounded;
 use requests::Answer;
 use sessions::QUEUE_LIMIT;
@@ -52,6 +54,13 @@ pub fn drop_request(
     ensures { λ r. ⌜ AnswersIn (dropOf (sessionIn head (now (ids .entry)) (now (rows .entry))) id) (now (ids .exit)) (now (rows .exit)) r ⌝ }
 {
     let opened = head.opened;
+    if outside_ids(id) {
+        let refusal = bad_id_refusal(opened);
+        return HeadAnswered {
+            answer: Answer::Refused(refusal),
+            head,
+        };
+    }
     let setup = head.setup;
     let n = bounded(head.len);
     let at = place_of(ids, n, id);

@@ -1,6 +1,7 @@
 -- `planner::add::add` is `addOf`, by the answer of the table. Two loops: no entry before `at` bears the id; the places past the new entry
 -- are vacant up to k.
 use mathlib.Core.Path.{_≡_, refl, sym, ap, _∙_}
+use mathlib.Core.Bool.{false}
 use mathlib.Core.Logic.{⊎-elim}
 use mathlib.Core.List.{[], _∷_, _++_}
 use Prim.Native.Nat.{_+_, _-_, _≤_}
@@ -15,26 +16,40 @@ use Rattle.requests.specs.declared.Entry.{Entry}
 use Rattle.sessions.specs.declared.Session.{Session}
 use Rattle.requests.specs.Refusals.{answerFor}
 use Rattle.sessions.specs.Calls.{Add, waits}
+use Rattle.sessions.specs.Table.{outsideIds}
 use Rattle.sessions.specs.Sessions.{vacant, queued, sessionOf, refusedBy, addOf}
 use Rattle.requests.proofs.Windows.{length-mapped, take-min}
 use Rattle.sessions.proofs.TableAnswers.{answered-refused, answered-accepted, add-room, add-closed}
 use Rattle.planner.proofs.Arrays.{filled-next, filled-none}
-use Rattle.planner.proofs.Queues.{Unmet, unmet-none, unmet-next, met, never-met, session-filled, accepted-opened}
+use Rattle.planner.proofs.Queues.{Unmet, unmet-none, unmet-next, met, never-met, session-filled, refused-answered, accepted-opened}
 use Rattle.planner.proofs.add.add.Statement.{statement}
 use Rattle.planner.proofs.add.add.Tie as tie
 
 abbrev Inv-loop : tie.InvT-loop
-Inv-loop session id request setup n queue at₀ at = (n ≤ 16) × (length queue ≡ 16) × (at ≤ n) × Unmet queue (session .len) id at
+Inv-loop session id request opened setup n queue at₀ at = (n ≤ 16) × (length queue ≡ 16) × (at ≤ n) × Unmet queue (session .len) id at
 
 abbrev μ-loop : tie.MeasureT-loop
-μ-loop session id request setup n queue at₀ at = n - at
+μ-loop session id request opened setup n queue at₀ at = n - at
 
 abbrev Inv-loop2 : tie.InvT-loop2
-Inv-loop2 id setup n queue₀ at opened answer len empty k₀ queue k =
+Inv-loop2 id opened setup n queue₀ at answer len empty k₀ queue k =
     (length queue ≡ 16) × (n + 1 ≤ k) × (k ≤ 16) × (take k queue ≡ take (n + 1) queue₀ ++ replicate (k - (n + 1)) vacant)
 
 abbrev μ-loop2 : tie.MeasureT-loop2
-μ-loop2 id setup n queue₀ at opened answer len empty k₀ queue k = 16 - k
+μ-loop2 id opened setup n queue₀ at answer len empty k₀ queue k = 16 - k
+
+outside-ids-requires : tie.Need-outside-ids-requires Inv-loop μ-loop Inv-loop2 μ-loop2
+outside-ids-requires c κs = search needs
+
+bad-id-refusal-requires : tie.Need-bad-id-refusal-requires Inv-loop μ-loop Inv-loop2 μ-loop2
+bad-id-refusal-requires c κs = search needs
+
+returns : tie.Need-returns Inv-loop μ-loop Inv-loop2 μ-loop2
+unfolding addOf
+returns c =
+    let o = c .before .before in
+    let a = o .before .args in
+    refused-answered (c .bad-id-refusal .ensures (a .session) refl (a .id) (sym (o .outside-ids .ensures) ∙ c .before .if1 .taken) .0 (a .request)) (a .session) _
 
 bounded-requires : tie.Need-bounded-requires Inv-loop μ-loop Inv-loop2 μ-loop2
 bounded-requires c κs = search needs
@@ -43,7 +58,7 @@ length-16 : (c : tie.Start Inv-loop μ-loop Inv-loop2 μ-loop2) → length (c .a
 length-16 c = search (length-mapped, needs)
 
 loop-holds : tie.Need-loop-holds Inv-loop μ-loop Inv-loop2 μ-loop2
-loop-holds c = (omega arith, length-16 (c .before .before .before), omega arith, unmet-none _ _ _)
+loop-holds c = (omega arith, length-16 (c .before .before .before .before .before), omega arith, unmet-none _ _ _)
 
 mul-entry : tie.Need-mul-entry Inv-loop μ-loop Inv-loop2 μ-loop2
 mul-entry c = omega arith
@@ -60,13 +75,13 @@ loop-less c = omega arith
 loop-again : tie.Need-loop-again Inv-loop μ-loop Inv-loop2 μ-loop2
 loop-again c =
     let v = c .before .before .before .before .loop .inv in
-    (v .0, v .1, omega arith, unmet-next (v .3) _ (omega arith) (omega arith) (c .if1 .left))
+    (v .0, v .1, omega arith, unmet-next (v .3) _ (omega arith) (omega arith) (c .if2 .left))
 
 add-answer-requires : tie.Need-add-answer-requires Inv-loop μ-loop Inv-loop2 μ-loop2
 add-answer-requires c κs = search needs
 
 -- whether the id is waiting
-found : (c : tie.After-add-answer Inv-loop μ-loop Inv-loop2 μ-loop2) → let a = c .before .before .before .before .before .before .args in
+found : (c : tie.After-add-answer Inv-loop μ-loop Inv-loop2 μ-loop2) → let a = c .before .before .before .before .before .before .before .before .args in
     ltb (c .before .before .loop .at) (c .before .before .before .before .bounded .result) ≡ waits (a .id) (queued (a .session))
 unfolding queued
 found c =
@@ -76,12 +91,16 @@ found c =
     (λ w. lt-ltb _ _ (w .0 .taken) ∙ sym (met (v .3) _ (omega (arith, w .0 .taken)) (omega (arith, w .0 .taken)) (w .3 .taken)))
     (c .before .loop-test .came)
 
+-- the number is an id
+inside : (c : tie.After-add-answer Inv-loop μ-loop Inv-loop2 μ-loop2) → outsideIds (c .before .before .before .before .before .before .before .before .args .id) ≡ false
+inside c = let e = c .before .before .before .before .before .before in sym (e .before .outside-ids .ensures) ∙ e .if1 .left
+
 -- the answer is that of the table
-answer-is : (c : tie.After-add-answer Inv-loop μ-loop Inv-loop2 μ-loop2) → let a = c .before .before .before .before .before .before .args in
+answer-is : (c : tie.After-add-answer Inv-loop μ-loop Inv-loop2 μ-loop2) → let a = c .before .before .before .before .before .before .before .before .args in
     c .add-answer .result ≡ answerFor (refusedBy (a .session) (Add (a .id) (a .request)))
 answer-is c =
-    let b = c .before .before .before .before .before .before in
-    c .add-answer .ensures (b .args .session .queue) (length-16 b) (found c)
+    let b = c .before .before .before .before .before .before .before .before in
+    c .add-answer .ensures (b .args .session .queue) (length-16 b) (inside c) (found c)
 
 enum-told : tie.Need-enum-told Inv-loop μ-loop Inv-loop2 μ-loop2
 enum-told c = search needs
@@ -92,7 +111,7 @@ unfolding queued
 room c =
     let r = c .before .before in
     let l = r .before .before in
-    let a = l .before .before .before .before .args in
+    let a = l .before .before .before .before .before .before .args in
     let h = add-room (a .session) (a .id) (a .request) (sym (answer-is r) ∙ c .enum-told .given .1) in
     omega (arith, h, length-take (a .session .len) (a .session .queue), l .loop .inv .1, l .before .before .bounded .ensures)
 
@@ -112,7 +131,7 @@ loop2-holds : tie.Need-loop2-holds Inv-loop μ-loop Inv-loop2 μ-loop2
 loop2-holds c =
     let l = c .before .before .before .before .before in
     let n = l .before .before .bounded .result in
-    let a = l .before .before .before .before .args in
+    let a = l .before .before .before .before .before .before .args in
     let front = take (n + 1) (set (a .session .queue) n (record { id = a .id; request = a .request })) in
     (rw length-set (l .loop .inv .1), omega arith, omega (arith, room (c .before)), filled-none vacant front (n + 1))
 
@@ -134,7 +153,7 @@ loop2-again c =
     let v = l .inv in
     let p = c .before .before .before .before .before .before .before .before .before in
     let n = p .bounded .result in
-    let a = p .before .before .args in
+    let a = p .before .before .before .before .args in
     let front = take (n + 1) (set (a .session .queue) n (record { id = a .id; request = a .request })) in (
       rw length-set (v .0),
       omega arith,
@@ -148,14 +167,14 @@ add-len c = omega (arith, room (c .before .before .before))
 enum-told-2 : tie.Need-enum-told-2 Inv-loop μ-loop Inv-loop2 μ-loop2
 enum-told-2 c = search needs
 
-returns : tie.Need-returns Inv-loop μ-loop Inv-loop2 μ-loop2
+returns-2 : tie.Need-returns-2 Inv-loop μ-loop Inv-loop2 μ-loop2
 unfolding addOf queued
-returns c =
+returns-2 c =
     let f = c .before .loop2 in
     let told = c .before .before .before in
     let m = told .before .before in
     let l = m .before .before in
-    let a = l .before .before .before .before .args in
+    let a = l .before .before .before .before .before .before .args in
     let s = a .session in
     let r = m .add-answer in
     let n = l .before .before .bounded .result in
@@ -174,11 +193,11 @@ returns c =
     ap (λ (x : Session). record { answer = r .result; session = x }) filled
     ∙ answered-accepted (r .result) (refusedBy s (Add (a .id) (a .request))) (answer-is m) s (sessionOf (s .setup) q) (told .enum-told .given .1)
 
-returns-2 : tie.Need-returns-2 Inv-loop μ-loop Inv-loop2 μ-loop2
+returns-3 : tie.Need-returns-3 Inv-loop μ-loop Inv-loop2 μ-loop2
 unfolding addOf queued
-returns-2 c =
+returns-3 c =
     let m = c .before .before in
-    let a = m .before .before .before .before .before .before .args in
+    let a = m .before .before .before .before .before .before .before .before .args in
     let r = m .add-answer in
     answered-refused (r .result) (refusedBy (a .session) (Add (a .id) (a .request))) (answer-is m) (a .session) _ _ (c .enum-told2 .given .1)
 
@@ -190,6 +209,9 @@ add-spec =
     μ-loop
     Inv-loop2
     μ-loop2
+    outside-ids-requires
+    bad-id-refusal-requires
+    returns
     bounded-requires
     loop-holds
     mul-entry
@@ -211,5 +233,5 @@ add-spec =
     loop2-again
     add-len
     enum-told-2
-    returns
-    returns-2)
+    returns-2
+    returns-3)

@@ -1,6 +1,7 @@
 -- `planner::drop::drop_request` is `dropOf`, by the answer of the table. Three loops: no entry before `at` bears the id; the others close
 -- up (`ClosedUp`); the places past them are vacant up to k.
 use mathlib.Core.Path.{_≡_, refl, sym, ap, _∙_}
+use mathlib.Core.Bool.{false}
 use mathlib.Core.Logic.{⊎-elim}
 use mathlib.Core.List.{_++_}
 use Prim.Native.Nat.{_-_, _≤_}
@@ -12,12 +13,13 @@ use lib.ListN.{length, take, replicate, length-set}
 use Rattle.sessions.specs.declared.Session.{Session}
 use Rattle.requests.specs.Refusals.{answerFor}
 use Rattle.sessions.specs.Calls.{Drop, waits}
+use Rattle.sessions.specs.Table.{outsideIds}
 use Rattle.sessions.specs.Plain.{removed}
 use Rattle.sessions.specs.Sessions.{vacant, queued, sessionOf, refusedBy, dropOf}
 use Rattle.sessions.proofs.TableAnswers.{answered-refused, answered-accepted, drop-closed}
 use Rattle.requests.proofs.Windows.{length-mapped, take-min}
 use Rattle.planner.proofs.Arrays.{filled-next, filled-none}
-use Rattle.planner.proofs.Queues.{Unmet, unmet-none, unmet-next, met, never-met, ClosedUp, closed-first, closed-with, closed-without, session-filled, accepted-opened}
+use Rattle.planner.proofs.Queues.{Unmet, unmet-none, unmet-next, met, never-met, ClosedUp, closed-first, closed-with, closed-without, session-filled, refused-answered, accepted-opened}
 use Rattle.planner.proofs.drop.drop_request.Statement.{statement}
 use Rattle.planner.proofs.drop.drop_request.Tie as tie
 
@@ -42,6 +44,19 @@ Inv-loop3 session id n queue₀ at opened answer len empty k₀ queue k =
 abbrev μ-loop3 : tie.MeasureT-loop3
 μ-loop3 session id n queue₀ at opened answer len empty k₀ queue k = 16 - k
 
+outside-ids-requires : tie.Need-outside-ids-requires Inv-loop μ-loop Inv-loop2 μ-loop2 Inv-loop3 μ-loop3
+outside-ids-requires c κs = search needs
+
+bad-id-refusal-requires : tie.Need-bad-id-refusal-requires Inv-loop μ-loop Inv-loop2 μ-loop2 Inv-loop3 μ-loop3
+bad-id-refusal-requires c κs = search needs
+
+returns : tie.Need-returns Inv-loop μ-loop Inv-loop2 μ-loop2 Inv-loop3 μ-loop3
+unfolding dropOf
+returns c =
+    let o = c .before .before in
+    let a = o .before .args in
+    refused-answered (c .bad-id-refusal .ensures (a .session) refl (a .id) (sym (o .outside-ids .ensures) ∙ c .before .if1 .taken) .1) (a .session) _
+
 bounded-requires : tie.Need-bounded-requires Inv-loop μ-loop Inv-loop2 μ-loop2 Inv-loop3 μ-loop3
 bounded-requires c κs = search needs
 
@@ -49,7 +64,7 @@ length-16 : (c : tie.Start Inv-loop μ-loop Inv-loop2 μ-loop2 Inv-loop3 μ-loop
 length-16 c = search (length-mapped, needs)
 
 loop-holds : tie.Need-loop-holds Inv-loop μ-loop Inv-loop2 μ-loop2 Inv-loop3 μ-loop3
-loop-holds c = (omega arith, length-16 (c .before .before), omega arith, unmet-none _ _ _)
+loop-holds c = (omega arith, length-16 (c .before .before .before .before), omega arith, unmet-none _ _ _)
 
 mul-entry : tie.Need-mul-entry Inv-loop μ-loop Inv-loop2 μ-loop2 Inv-loop3 μ-loop3
 mul-entry c = omega arith
@@ -66,13 +81,13 @@ loop-less c = omega arith
 loop-again : tie.Need-loop-again Inv-loop μ-loop Inv-loop2 μ-loop2 Inv-loop3 μ-loop3
 loop-again c =
     let v = c .before .before .before .before .loop .inv in
-    (v .0, v .1, omega arith, unmet-next (v .3) _ (omega arith) (omega arith) (c .if1 .left))
+    (v .0, v .1, omega arith, unmet-next (v .3) _ (omega arith) (omega arith) (c .if2 .left))
 
 drop-answer-requires : tie.Need-drop-answer-requires Inv-loop μ-loop Inv-loop2 μ-loop2 Inv-loop3 μ-loop3
 drop-answer-requires c κs = search needs
 
 -- whether the id is waiting
-found : (c : tie.After-drop-answer Inv-loop μ-loop Inv-loop2 μ-loop2 Inv-loop3 μ-loop3) → let a = c .before .before .before .before .before .args in
+found : (c : tie.After-drop-answer Inv-loop μ-loop Inv-loop2 μ-loop2 Inv-loop3 μ-loop3) → let a = c .before .before .before .before .before .before .before .args in
     ltb (c .before .before .loop .at) (c .before .before .before .before .bounded .result) ≡ waits (a .id) (queued (a .session))
 unfolding queued
 found c =
@@ -82,13 +97,17 @@ found c =
     (λ w. lt-ltb _ _ (w .0 .taken) ∙ sym (met (v .3) _ (omega (arith, w .0 .taken)) (omega (arith, w .0 .taken)) (w .3 .taken)))
     (c .before .loop-test .came)
 
+-- the number is an id
+inside : (c : tie.After-drop-answer Inv-loop μ-loop Inv-loop2 μ-loop2 Inv-loop3 μ-loop3) → outsideIds (c .before .before .before .before .before .before .before .args .id) ≡ false
+inside c = let e = c .before .before .before .before .before in sym (e .before .outside-ids .ensures) ∙ e .if1 .left
+
 -- the answer is that of the table
-answer-is : (c : tie.After-drop-answer Inv-loop μ-loop Inv-loop2 μ-loop2 Inv-loop3 μ-loop3) → let a = c .before .before .before .before .before .args in
+answer-is : (c : tie.After-drop-answer Inv-loop μ-loop Inv-loop2 μ-loop2 Inv-loop3 μ-loop3) → let a = c .before .before .before .before .before .before .before .args in
     c .drop-answer .result ≡ answerFor (refusedBy (a .session) (Drop (a .id)))
 answer-is c =
-    let b = c .before .before .before .before .before in
+    let b = c .before .before .before .before .before .before .before in
     let s = b .args .session in
-    c .drop-answer .ensures (s .setup) (s .len) (s .queue) (length-16 b) (found c)
+    c .drop-answer .ensures (s .setup) (s .len) (s .queue) (length-16 b) (inside c) (found c)
 
 enum-told : tie.Need-enum-told Inv-loop μ-loop Inv-loop2 μ-loop2 Inv-loop3 μ-loop3
 enum-told c = search needs
@@ -126,7 +145,7 @@ loop2-again c =
     ⊎-elim
     (λ w. rw (w .1, w .2) (v .0, v .1, omega arith, closed-with (v .3) _ (omega arith) (w .0 .taken)))
     (λ w. rw (w .1, w .2) (v .0, v .1, omega arith, closed-without (v .3) _ (omega arith) (w .0 .left)))
-    (c .if2 .came)
+    (c .if3 .came)
 
 vacant-requires : tie.Need-vacant-requires Inv-loop μ-loop Inv-loop2 μ-loop2 Inv-loop3 μ-loop3
 vacant-requires c κs = search needs
@@ -162,11 +181,11 @@ loop3-again c =
 enum-told-2 : tie.Need-enum-told-2 Inv-loop μ-loop Inv-loop2 μ-loop2 Inv-loop3 μ-loop3
 enum-told-2 c = search needs
 
-returns : tie.Need-returns Inv-loop μ-loop Inv-loop2 μ-loop2 Inv-loop3 μ-loop3
+returns-2 : tie.Need-returns-2 Inv-loop μ-loop Inv-loop2 μ-loop2 Inv-loop3 μ-loop3
 unfolding dropOf queued
-returns c =
+returns-2 c =
     let m = c .before in
-    let a = m .before .before .before .before .before .before .args in
+    let a = m .before .before .before .before .before .before .before .before .args in
     let s = a .session in
     let r = m .before .drop-answer in
     ⊎-elim
@@ -195,6 +214,9 @@ drop-request-spec =
     μ-loop2
     Inv-loop3
     μ-loop3
+    outside-ids-requires
+    bad-id-refusal-requires
+    returns
     bounded-requires
     loop-holds
     mul-entry
@@ -221,4 +243,4 @@ drop-request-spec =
     loop3-less
     loop3-again
     enum-told-2
-    returns)
+    returns-2)
