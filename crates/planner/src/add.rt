@@ -74,10 +74,8 @@ pub fn add(session: Session, id: u64, request: Request) -> Answered
     let opened = session.opened;
     if outside_ids(id) {
         let refusal = bad_id_refusal(opened);
-        return Answered {
-            answer: Answer::Refused(refusal),
-            session: session,
-        };
+        let answer = Answer::Refused(refusal);
+        return Answered { answer, session };
     }
     let setup = session.setup;
     let n = bounded(session.len);
@@ -93,10 +91,7 @@ pub fn add(session: Session, id: u64, request: Request) -> Answered
     let answer = add_answer(opened, setup, session.len, at < n, id, request);
     let mut len = session.len;
     if let Answer::Accepted = answer {
-        queue[n] = Entry {
-            id: id,
-            request: request,
-        };
+        queue[n] = Entry { id, request };
         let empty = vacant();
         let mut k = n + 1;
         while k < QUEUE_LIMIT {
@@ -105,14 +100,11 @@ pub fn add(session: Session, id: u64, request: Request) -> Answered
         }
         len = n + 1;
     }
-    let next = Session {
-        opened: opened,
-        setup: setup,
-        queue: queue,
-        len: len,
+    let session = Session {
+        opened,
+        setup,
+        queue,
+        len,
     };
-    Answered {
-        answer: answer,
-        session: next,
-    }
+    Answered { answer, session }
 }

@@ -31,10 +31,8 @@ pub fn drop_request(session: Session, id: u64) -> Answered
 {
     if outside_ids(id) {
         let refusal = bad_id_refusal(session.opened);
-        return Answered {
-            answer: Answer::Refused(refusal),
-            session: session,
-        };
+        let answer = Answer::Refused(refusal);
+        return Answered { answer, session };
     }
     let n = bounded(session.len);
     let mut queue = session.queue;
@@ -66,14 +64,11 @@ pub fn drop_request(session: Session, id: u64) -> Answered
         }
     }
     let setup = session.setup;
-    let next = Session {
-        opened: opened,
-        setup: setup,
-        queue: queue,
-        len: len,
+    let session = Session {
+        opened,
+        setup,
+        queue,
+        len,
     };
-    Answered {
-        answer: answer,
-        session: next,
-    }
+    Answered { answer, session }
 }
