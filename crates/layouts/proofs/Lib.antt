@@ -1,6 +1,7 @@
 pub mod AcceptanceTests
 pub mod ListLaws
 pub mod FilledSlices
+pub mod SliceNumbers
 pub mod WordBits
 pub mod CounterSets
 pub mod ListedEvents

@@ -14,6 +14,7 @@ pub mod UsedEnabled
 pub mod UBox
 pub mod RestWhileWritten
 pub mod WriteCount
+pub mod SliceNumbers
 pub mod EmptyPlan
 pub mod RoundTrip
 pub mod ExactReader

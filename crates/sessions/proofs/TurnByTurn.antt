@@ -238,5 +238,7 @@ turn-by-turn s n slice ends accepted =
       written = listsFor n s;
       planned = lists-hold (s .setup) n (queued s);
       cut = rw e (ap (λ (l : List ℕ). cutAt 0 l (filled (joined (listsFor n s)) slice)) first ∙ cut-lists 0 (listsFor n s) slice);
+      past-lists = rw e (filled-rest (joined (listsFor n s)) slice);
+      past-ends = rw e (drop-at (endsFrom 0 (listsFor n s)) (drop n ends) n (count-ends 0 n (s .setup) (queued s)));
       plans = ap plansOf (turns-completed s n (length slice) (length ends) (found .0) accepted) ∙ b .plans;
     }

@@ -6,6 +6,7 @@ use lib.ListN.{length, take, drop}
 use Rattle.requests.specs.declared.Answer.the-variants.{Accepted}
 use Rattle.plans.specs.Lists.{All}
 use Rattle.layouts.specs.Writes.{Write, flat}
+use Rattle.sessions.specs.Turns.{joined}
 use Rattle.sessions.specs.Calls.{Turns}
 use Rattle.sessions.specs.RefusalTable.{Lists}
 use Rattle.sessions.specs.Sessions.{queued, plainOf, turnOf, turnSlice, planOf, turnsAnswer, turnsSlice, turnsEnds}
@@ -54,6 +55,9 @@ pub record AsSingleTurns (s : Session) (n : ℕ) (slice ends : List ℕ) : Type 
   pub written : List (List Write)
   pub planned : Lists (s .setup) n (queued s) written
   pub cut : cutAt 0 (take n (turnsEnds s n (length slice) ends)) (turnsSlice s n slice (length ends)) ≡ map flat written
+  -- "what lies past the last list and end stays", whatever stands there
+  pub past-lists : drop (2 * length (joined written)) (turnsSlice s n slice (length ends)) ≡ drop (2 * length (joined written)) slice
+  pub past-ends : drop n (turnsEnds s n (length slice) ends) ≡ drop n ends
   -- "with the plans that the single turns would answer"
   pub plans : map (λ (t : CompletedTurn). t .plan) (turnsBy smallSession (plainOf s) s (Turns n (length slice) (length ends))) ≡ map planOf (turnAnswers n s slice)
 
