@@ -13,6 +13,7 @@ pub mod Texts
 pub mod Reading
 pub mod ReadBack
 pub mod GrammarHolds
+pub mod LineBytes
 pub mod DigitLoops
 pub mod FieldParts
 pub mod FieldLoops
