@@ -1,5 +1,6 @@
 pub mod SignedNumbers
 pub mod CallAnswers
 pub mod RoomFilled
+pub mod WholeFiles
 pub mod Reported
 pub mod Retried
