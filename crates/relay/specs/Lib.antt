@@ -1,3 +1,4 @@
 pub mod Passing
 pub mod Fitness
 pub mod Endings
+pub mod Completed
