@@ -1,4 +1,5 @@
 pub mod Lists
+pub mod Fresh
 pub mod Agreed
 pub mod Refused
 pub mod Takes

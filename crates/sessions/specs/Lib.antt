@@ -9,6 +9,7 @@ pub mod Completed
 pub mod Sound
 -- Statements: what is claimed of it.
 pub mod RefusalTable
+pub mod Fresh
 pub mod Unchanged
 pub mod QueueRules
 pub mod TurnByTurn
