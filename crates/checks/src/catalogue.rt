@@ -1,25 +1,26 @@
 // What a catalogue lists of an event.
 use crate::halving::halving_search;
 use crate::mask_rules::lists;
-use crate::rows::row_at;
-use crate::rows::row_count;
+use crate::sbox_events::S_EVENTS;
+use crate::sbox_events::row_at;
 use requests::Device;
 use requests::Listing;
 ghost use mathlib.Core.Path.{_≡_};
+ghost use mathlib.Core.List.{map};
 ghost use lib.Dec.{eqb};
 ghost use Rattle.requests.specs.Choice.{either};
-ghost use Rattle.requests.specs.Lookup.{rowsOf, listingOf};
+ghost use Rattle.requests.specs.CBoxEvents.{cboxEvents};
+ghost use Rattle.requests.specs.Lookup.{rowOf, listingOf};
 ghost use Rattle.requests.specs.Halving.{halvingSearch, listedBy};
 
-// The look-up row by row, where a code may stand in several rows, and in any order.
-fn row_by_row(device: Device, code: u8, mask: u8) -> Listing
-    ensures { λ r. ⌜ r ≡ listingOf device code mask ⌝ }
+// The look-up on S, row by row: the rows stand in any order.
+fn row_by_row(code: u8, mask: u8) -> Listing
+    ensures { λ r. ⌜ r ≡ listingOf Device.S code mask ⌝ }
 {
-    let count = row_count(device);
     let mut listed = false;
     let mut i = 0;
-    while i < count {
-        let row = row_at(device, i);
+    while i < S_EVENTS.len() {
+        let row = row_at(i);
         i += 1;
         if row / 16 == code as u16 {
             if lists(row, mask) {
@@ -84,11 +85,11 @@ fn on_core(code: u8, mask: u8) -> Listing
     }
 }
 
-// The look-up by halving, where codes rise from row to row: the row found says what is listed.
-fn by_halving(device: Device, code: u8, mask: u8) -> Listing
-    ensures { λ r. ⌜ r ≡ listedBy (halvingSearch (rowsOf device) code .row) mask ⌝ }
+// The look-up on C by halving: the row found says what is listed.
+fn by_halving(code: u8, mask: u8) -> Listing
+    ensures { λ r. ⌜ r ≡ listedBy (halvingSearch (map rowOf cboxEvents) code .row) mask ⌝ }
 {
-    let found = halving_search(device, code);
+    let found = halving_search(code);
     let row = found.row;
     if row == 0 {
         return Listing {
@@ -107,10 +108,9 @@ fn by_halving(device: Device, code: u8, mask: u8) -> Listing
 pub fn look_up(device: Device, code: u8, mask: u8) -> Listing
     ensures { λ r. ⌜ r ≡ listingOf device code mask ⌝ }
 {
-    // S is named in its call, so that the compiler knows the rows.
     match device {
         Device::G => on_core(code, mask),
-        Device::S => row_by_row(Device::S, code, mask),
-        Device::C(_) => by_halving(device, code, mask),
+        Device::S => row_by_row(code, mask),
+        Device::C(_) => by_halving(code, mask),
     }
 }

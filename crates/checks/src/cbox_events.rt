@@ -1,4 +1,11 @@
 // The events of the C-Box with the manual's names (document 004, 2.3.5), by their codes. A row is the code, two digits, and the number of its mask rule, one digit.
+ghost use mathlib.Core.Path.{_≡_};
+ghost use mathlib.Core.List.{map};
+ghost use Prim.Native.Nat.{_<_};
+ghost use lib.ListN.{length, getD};
+ghost use Rattle.requests.specs.CBoxEvents.{cboxEvents};
+ghost use Rattle.requests.specs.Lookup.{rowOf};
+
 pub const C_EVENTS: [u16; 30] = [
     0x01_2, // BOUNCES_P2C_AD
     0x02_2, // BOUNCES_C2P_AK
@@ -31,3 +38,11 @@ pub const C_EVENTS: [u16; 30] = [
     0x27_2, // SNPS
     0x28_A, // SNP_HITS
 ];
+
+// A row: the one place where the table is read.
+pub fn row_at(at: usize) -> u16
+    requires { ⌜ at < length (map rowOf cboxEvents) ⌝ }
+    ensures { λ r. ⌜ r ≡ getD (map rowOf cboxEvents) at 0 ⌝ }
+{
+    C_EVENTS[at]
+}

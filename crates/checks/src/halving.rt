@@ -1,27 +1,28 @@
-// A catalogue whose codes rise is searched by halving: at most eight rounds for any code, and each reads one row.
-use crate::rows::row_at;
-use crate::rows::row_count;
-use requests::Device;
+// The events of the C-Box, whose codes rise, are searched by halving: at most eight rounds for any code, and each reads one row.
+use crate::cbox_events::C_EVENTS;
+use crate::cbox_events::row_at;
 use requests::Found;
 use requests::Span;
 ghost use mathlib.Core.Path.{_≡_};
+ghost use mathlib.Core.List.{map};
 ghost use Prim.Native.Nat.{_<_, _≤_};
 ghost use lib.ListN.{length};
-ghost use Rattle.requests.specs.Lookup.{rowsOf};
+ghost use Rattle.requests.specs.CBoxEvents.{cboxEvents};
+ghost use Rattle.requests.specs.Lookup.{rowOf};
 ghost use Rattle.requests.specs.Halving.{halved, halvingSearch};
 
 // The most rounds that a search makes.
 const ROUNDS: usize = 8;
 
 // A round: reads the middle one of the rows left, and leaves the half where the code can be.
-fn halve(device: Device, code: u8, span: Span) -> Span
-    requires { ⌜ (span .low < span .high) × (span .high ≤ length (rowsOf device)) ⌝ }
-    ensures { λ r. ⌜ r ≡ halved (rowsOf device) code span ⌝ }
+fn halve(code: u8, span: Span) -> Span
+    requires { ⌜ (span .low < span .high) × (span .high ≤ length (map rowOf cboxEvents)) ⌝ }
+    ensures { λ r. ⌜ r ≡ halved (map rowOf cboxEvents) code span ⌝ }
 {
     let low = span.low;
     let high = span.high;
     let middle = low + (high - low) / 2;
-    let row = row_at(device, middle);
+    let row = row_at(middle);
     let here = row / 16;
     let wanted = code as u16;
     if here < wanted {
@@ -46,12 +47,12 @@ fn halve(device: Device, code: u8, span: Span) -> Span
 }
 
 // Looks for the code in rising rows: halves them while some are left.
-pub fn halving_search(device: Device, code: u8) -> Found
-    ensures { λ r. ⌜ r ≡ halvingSearch (rowsOf device) code ⌝ }
+pub fn halving_search(code: u8) -> Found
+    ensures { λ r. ⌜ r ≡ halvingSearch (map rowOf cboxEvents) code ⌝ }
 {
     let mut span = Span {
         low: 0,
-        high: row_count(device),
+        high: C_EVENTS.len(),
         row: 0,
     };
     let mut rounds = 0;
@@ -62,7 +63,7 @@ pub fn halving_search(device: Device, code: u8) -> Found
                 rounds: rounds,
             };
         }
-        span = halve(device, code, span);
+        span = halve(code, span);
         rounds += 1;
     }
     Found {

@@ -8,5 +8,5 @@ pub mod devices;
 mod halving;
 mod mask_rules;
 pub mod refusals;
-mod rows;
+mod sbox_events;
 pub mod set;

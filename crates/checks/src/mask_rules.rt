@@ -93,9 +93,6 @@ pub fn lists(row: u16, mask: u8) -> bool
         0x8 => in_range(0x01, 0x0F, mask),
         0x9 => in_range(0x01, 0x1F, mask),
         0xA => in_range(0x01, 0xFF, mask),
-        0xB => mask == 0x01,
-        0xC => mask == 0x4F,
-        0xD => mask == 0x41,
         _ => false,
     }
 }

@@ -17,7 +17,7 @@ use Rattle.requests.specs.Halving.{rowWith, halvingSearch, listedBy}
 use Rattle.requests.specs.Rounds.{codeAt, Rising}
 use Rattle.requests.specs.declared.Device.the-variants.{C}
 use Rattle.requests.proofs.Tests.{both-parts, either-false}
-use Rattle.requests.proofs.RuleNumbers.{hasRule, Known, allKnown, device-known, row-code, row-allows}
+use Rattle.requests.proofs.RuleNumbers.{hasRule, Known, allKnown, cbox-known, row-code, row-allows}
 use Rattle.requests.proofs.Halvings.{searched-row}
 
 -- whether every row has a code above n
@@ -146,9 +146,9 @@ cbox-short b = omega arith
 
 -- what a row found by halving says
 pub halved-listing : (b c m : ℕ) → listingOf (C b) c m ≡ listedBy (halvingSearch (rowsOf (C b)) c .row) m
-unfolding listingOf listedBy rises rowsOf
+unfolding listingOf listedBy rises rowsOf eventsOf
 halved-listing b c m =
     let split = both-parts _ _ (cbox-rises b) in
-    let t = told (eventsOf (C b)) (device-known (C b)) (split .1) (split .0) c m in
+    let t = told (eventsOf (C b)) (cbox-known) (split .1) (split .0) c m in
     let found = searched-row (rowsOf (C b)) (rising-rows (rowsOf (C b)) (split .1)) c (omega (arith, cbox-short b)) in
     ap₂ (λ (x y : Bool). record { code = x; pair = y }) (t .0 ∙ sym (ap (ltb 0) found)) (t .1 ∙ sym (ap (λ (r : ℕ). rowAllows r m) found))

@@ -19,7 +19,7 @@ use Rattle.requests.specs.declared.Device.{Device}
 use Rattle.requests.specs.declared.Listing.{Listing}
 use Rattle.requests.specs.declared.Request.the-variants.{Event}
 use Rattle.requests.proofs.Tests.{either-true, either-false}
-use Rattle.requests.proofs.RuleNumbers.{row-code, row-allows, events-known}
+use Rattle.requests.proofs.RuleNumbers.{Known, allKnown, known-at, row-code, row-allows}
 
 -- the event of a row
 abbrev pub eventAt : Device → ℕ → ListedEvent
@@ -48,15 +48,18 @@ at-start d c m = refl
 left-at : (d : Device) (i : ℕ) → i < length (rowsOf d) → drop i (eventsOf d) ≡ eventAt d i ∷ drop (i + 1) (eventsOf d)
 left-at d i l = rw (add-one, drop-cons (eventsOf d) i (listed 0 (among [])) (rw (← row-length d) l))
 
-module _ (d : Device) (i c m : ℕ) (b : Bool) (within : i < length (rowsOf d)) (r : ℕ) (read : r ≡ getD (rowsOf d) i 0) where
+module _ (d : Device) (known : allKnown (eventsOf d) ≡ true) (i c m : ℕ) (b : Bool) (within : i < length (rowsOf d)) (r : ℕ) (read : r ≡ getD (rowsOf d) i 0) where
   abbrev here : r ≡ rowOf (eventAt d i)
   here = read ∙ row-event d i
 
+  known-here : Known (eventAt d i)
+  known-here = known-at (eventsOf d) known i (listed 0 (among [])) (rw (← row-length d) within)
+
   code-here : r / 16 ≡ eventAt d i .code
-  code-here = ap (λ (x : ℕ). x / 16) here ∙ row-code (eventAt d i) (events-known d i (rw (← row-length d) within))
+  code-here = ap (λ (x : ℕ). x / 16) here ∙ row-code (eventAt d i) known-here
 
   allows-here : allows (eventAt d i .masks) m ≡ rowAllows r m
-  allows-here = row-allows (eventAt d i) (events-known d i (rw (← row-length d) within)) m ∙ ap (λ (x : ℕ). rowAllows x m) (sym here)
+  allows-here = row-allows (eventAt d i) known-here m ∙ ap (λ (x : ℕ). rowAllows x m) (sym here)
 
   -- a row of another code
   pub other-code : (r / 16 ≡ c → ⊥) → listingFrom b (drop i (eventsOf d)) c m ≡ listingFrom b (drop (i + 1) (eventsOf d)) c m

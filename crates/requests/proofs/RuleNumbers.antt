@@ -7,12 +7,11 @@ use native.Mathlib.Omega.{arith}
 use lib.ListN.{length, getD, List·getD-eq-default}
 use borrow.Author.Tests.{eqb-true}
 use Rattle.requests.specs.Choice.{both, either}
-use Rattle.requests.specs.MaskRules.{MaskRule, alone, range, among, ListedEvent, listed, allows}
+use Rattle.requests.specs.MaskRules.{MaskRule, alone, range, among, ListedEvent, allows}
 use Rattle.requests.specs.CBoxEvents.{sinkMasks, ringMasks, starvedMasks, bypassMasks, cboxEvents}
 use Rattle.requests.specs.Catalogue.{eventsOf}
 use Rattle.requests.specs.Lookup.{maskRules, ruleAt, sameNumbers, sameRule, placeOf, rowOf, rowAllows}
-use Rattle.requests.specs.declared.Device.{Device}
-use Rattle.requests.specs.declared.Device.the-variants.{G, S, C}
+use Rattle.requests.specs.declared.Device.the-variants.{S}
 use Rattle.requests.proofs.Tests.{both-parts}
 
 -- ---- rules
@@ -80,11 +79,11 @@ past-all : (n k : ℕ) → NoneOf (suc n) k → k ≤ n
 past-all n zero others = omega arith
 past-all n (suc k) others = let below = past-all n k (others .0) in omega (arith, others .1)
 
--- the numbers 1 to 13 have rules that list a mask
-pub no-rule : (n : ℕ) → NoneOf n 13 → ruleAt n ≡ among []
+-- the numbers 1 to 10 have rules that list a mask
+pub no-rule : (n : ℕ) → NoneOf n 10 → ruleAt n ≡ among []
 unfolding ruleAt maskRules
 no-rule zero others = refl
-no-rule (suc n) others = let past : 14 ≤ suc n = omega (arith, past-all n 13 others) in List·getD-eq-default maskRules (among []) past
+no-rule (suc n) others = let past : 11 ≤ suc n = omega (arith, past-all n 10 others) in List·getD-eq-default maskRules (among []) past
 
 -- ---- events
 
@@ -93,24 +92,24 @@ unfoldable pub allKnown : List ListedEvent → Bool
 allKnown [] = true
 allKnown (e ∷ es) = both (hasRule maskRules (e .masks)) (allKnown es)
 
-known-at : (es : List ListedEvent) → allKnown es ≡ true → (i : ℕ) (x : ListedEvent) → i < length es → hasRule maskRules (getD es i x .masks) ≡ true
+pub known-at : (es : List ListedEvent) → allKnown es ≡ true → (i : ℕ) (x : ListedEvent) → i < length es → hasRule maskRules (getD es i x .masks) ≡ true
 unfolding allKnown
 known-at [] h i x l = absurd (omega arith)
 known-at (e ∷ es) h zero x l = both-parts _ _ h .0
 known-at (e ∷ es) h (suc i) x l = known-at es (both-parts _ _ h .1) i x (omega arith)
 
-pub device-known : (d : Device) → allKnown (eventsOf d) ≡ true
-unfolding allKnown eventsOf hasRule maskRules sameRule sameNumbers both either cboxEvents sinkMasks ringMasks starvedMasks bypassMasks
-device-known G = refl
-device-known S = refl
-device-known (C b) = refl
+-- computed
+pub sbox-known : allKnown (eventsOf S) ≡ true
+unfolding allKnown eventsOf hasRule maskRules sameRule sameNumbers both either sinkMasks ringMasks starvedMasks bypassMasks
+sbox-known = refl
 
--- the rule of an event in a device's catalogue has a number
+pub cbox-known : allKnown cboxEvents ≡ true
+unfolding allKnown hasRule maskRules sameRule sameNumbers both either cboxEvents sinkMasks ringMasks starvedMasks bypassMasks
+cbox-known = refl
+
+-- the rule of an event has a number
 abbrev pub Known : ListedEvent → Type 0
 Known e = hasRule maskRules (e .masks) ≡ true
-
-pub events-known : (d : Device) (i : ℕ) → i < length (eventsOf d) → Known (getD (eventsOf d) i (listed 0 (among [])))
-events-known d i l = known-at (eventsOf d) (device-known d) i (listed 0 (among [])) l
 
 place-digit : (e : ListedEvent) → Known e → placeOf maskRules (e .masks) < 16
 unfolding maskRules

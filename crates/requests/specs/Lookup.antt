@@ -13,7 +13,7 @@ use Rattle.requests.specs.declared.Listing.{Listing}
 use Rattle.requests.specs.declared.Request.{Request}
 use Rattle.requests.specs.declared.Request.the-variants.{Event, Packet, Offcore, Latency}
 
--- the mask rules of all catalogues: a rule's number is its place
+-- the mask rules of the catalogues that are searched by rows: a rule's number is its place
 unfoldable pub maskRules : List MaskRule
 maskRules =
     among []
@@ -27,9 +27,6 @@ maskRules =
     ∷ range 1 0xF
     ∷ range 1 0x1F
     ∷ range 1 0xFF
-    ∷ alone 0x01
-    ∷ alone 0x4F
-    ∷ alone 0x41
     ∷ []
 
 -- the rule of a number; there is none past the last

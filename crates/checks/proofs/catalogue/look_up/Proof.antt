@@ -3,6 +3,8 @@
 use mathlib.Core.Path.{sym}
 use native.Mathlib.Omega.{arith}
 use borrow.Author.Needs.{needs}
+use Rattle.requests.specs.Catalogue.{eventsOf}
+use Rattle.requests.specs.Lookup.{rowsOf}
 use Rattle.requests.proofs.HalvedLookups.{halved-listing}
 use Rattle.checks.proofs.catalogue.look_up.Statement.{statement}
 use Rattle.checks.proofs.catalogue.look_up.Tie as tie
@@ -14,6 +16,7 @@ returns-2 : tie.Need-returns-2
 returns-2 c = rw (c .before .enum-told2 .given .1) (c .row-by-row .ensures)
 
 returns-3 : tie.Need-returns-3
+unfolding rowsOf eventsOf
 returns-3 c = rw (c .by-halving .ensures, c .before .enum-told3 .given .1) (sym (halved-listing _ _ _))
 
 pub look-up-spec : {M : Type 1} → statement M

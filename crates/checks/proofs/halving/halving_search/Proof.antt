@@ -1,24 +1,26 @@
 -- `halving::halving_search` meets its contract: after each round, the rounds left find and read the rest.
 -- Assumes nothing.
 use mathlib.Core.Logic.{inl, inr}
+use mathlib.Core.List.{map}
 use Prim.Native.Nat.{_-_}
 use native.Mathlib.Omega.{arith}
 use borrow.Author.Needs.{needs}
-use Rattle.requests.specs.Lookup.{rowsOf}
+use Rattle.requests.specs.CBoxEvents.{cboxEvents}
+use Rattle.requests.specs.Lookup.{rowOf}
 use Rattle.requests.specs.Halving.{whole, mostRounds}
 use Rattle.requests.proofs.Halvings.{After, after-none, after-one-more, after-answers}
 use Rattle.checks.proofs.halving.halving_search.Statement.{statement}
 use Rattle.checks.proofs.halving.halving_search.Tie as tie
 
 abbrev Inv-loop : tie.InvT-loop
-Inv-loop device code span₀ rounds₀ span rounds = After (rowsOf device) code span rounds
+Inv-loop code span₀ rounds₀ span rounds = After (map rowOf cboxEvents) code span rounds
 
 abbrev μ-loop : tie.MeasureT-loop
-μ-loop device code span₀ rounds₀ span rounds = 8 - rounds
+μ-loop code span₀ rounds₀ span rounds = 8 - rounds
 
 loop-holds : tie.Need-loop-holds Inv-loop μ-loop
-unfolding whole
-loop-holds c = rw (c .row-count .ensures) (after-none (rowsOf (c .before .args .device)) (c .before .args .code))
+unfolding whole cboxEvents
+loop-holds c = after-none (map rowOf cboxEvents) (c .args .code)
 
 returns : tie.Need-returns Inv-loop μ-loop
 returns c = after-answers _ _ _ _ (c .before .before .before .loop .inv) (inr (c .if1 .taken))
@@ -42,7 +44,6 @@ halving-search-spec =
     (tie.spec
     Inv-loop
     μ-loop
-    (λ c κs. search needs)
     loop-holds
     returns
     halve-requires

@@ -12,9 +12,9 @@ use Rattle.requests.proofs.RuleNumbers.{no-rule}
 use Rattle.checks.proofs.mask_rules.lists.Statement.{statement}
 use Rattle.checks.proofs.mask_rules.lists.Tie as tie
 
-returns-14 : tie.Need-returns-14
+returns-11 : tie.Need-returns-11
 unfolding rowAllows allows inList
-returns-14 c = rw (no-rule (c .before .args .row % 16) (c .match .rest))
+returns-11 c = rw (no-rule (c .before .args .row % 16) (c .match .rest))
 
 pub lists-spec : {M : Type 1} → statement M
 unfolding rowAllows ruleAt maskRules allows inList sinkMasks ringMasks starvedMasks bypassMasks
@@ -44,7 +44,4 @@ lists-spec =
     (λ c. let rule : c .before .before .args .row % 16 ≡ 8 = omega arith in rw rule (c .in-range3 .ensures))
     (λ c. let rule : c .before .before .args .row % 16 ≡ 9 = omega arith in rw rule (c .in-range4 .ensures))
     (λ c. let rule : c .before .before .args .row % 16 ≡ 10 = omega arith in rw rule (c .in-range5 .ensures))
-    (λ c. let rule : c .before .args .row % 16 ≡ 11 = omega arith in rw rule)
-    (λ c. let rule : c .before .args .row % 16 ≡ 12 = omega arith in rw rule)
-    (λ c. let rule : c .before .args .row % 16 ≡ 13 = omega arith in rw rule)
-    returns-14)
+    returns-11)
