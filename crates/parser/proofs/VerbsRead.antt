@@ -1,5 +1,5 @@
 -- What a text asks for, by the verb that it has. Assumes nothing.
-use mathlib.Core.Path.{_≡_, refl, _∙_}
+use mathlib.Core.Path.{_≡_, refl, sym, _∙_}
 use mathlib.Core.Bool.{Bool, true, false}
 use mathlib.Core.List.{List}
 use mathlib.Core.Option.{some}
@@ -50,10 +50,10 @@ module _ (n : NameLists) (d : Device) (t : List ℕ) (closed : Bool) where
   unfolding recordWith
   asked-named has = rw has
 
-  -- a text is read as its verb says
-  pub read-as : (verb : String) (read : List ℕ → Bool → Parsed) → sameBytes (bytes verb) (bytes "named") ≡ false → hasVerb t verb ≡ true
-      → firstHolding (verbs t) ≡ some read → recordWith n d t closed ≡ read t closed
-  read-as verb read differ has first = asked-record (other-verb t verb "named" differ has) ∙ read-by t closed read first
+  -- a text is read as its verb says, which is the first that it has
+  pub read-as : (verb : String) (read : List ℕ → Bool → Parsed) (r : Parsed) → sameBytes (bytes verb) (bytes "named") ≡ false → hasVerb t verb ≡ true
+      → (hasVerb t verb ≡ true → firstHolding (verbs t) ≡ some read) → r ≡ read t closed → r ≡ recordWith n d t closed
+  read-as verb read r differ has first is = is ∙ sym (asked-record (other-verb t verb "named" differ has) ∙ read-by t closed read (first has))
 
 -- a request by name beside well-formed lists, and beside others
 module _ (n : NameLists) (d : Device) (name : List ℕ) (id : ℕ) (a : CounterSet) where

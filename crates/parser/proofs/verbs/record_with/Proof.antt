@@ -43,45 +43,31 @@ past-turn c = past-drop (c .before .before .before) ∙ skips _ _ (sym (c .befor
 
 returns : tie.Need-returns
 unfolding verbs hasVerb bytes sameBytes
-returns c =
-    let has = sym (c .before .before .is-word .ensures) ∙ c .before .if1 .taken in
-    c .open-line .ensures ∙ sym (read-as _ _ _ _ "open" openLine refl has (holds _ _ has))
+returns c = read-as _ _ _ _ "open" openLine _ refl (sym (c .before .before .is-word .ensures) ∙ c .before .if1 .taken) (λ has. holds _ _ has) (c .open-line .ensures)
 
 returns-2 : tie.Need-returns-2
 unfolding verbs hasVerb bytes sameBytes
-returns-2 c =
-    let has = sym (c .before .before .is-word2 .ensures) ∙ c .before .if2 .taken in
-    c .event-line .ensures ∙ sym (read-as _ _ _ _ "event" eventLine refl has (past-open (c .before .before .before .before) ∙ holds _ _ has))
+returns-2 c = read-as _ _ _ _ "event" eventLine _ refl (sym (c .before .before .is-word2 .ensures) ∙ c .before .if2 .taken) (λ has. past-open (c .before .before .before .before) ∙ holds _ _ has) (c .event-line .ensures)
 
 returns-3 : tie.Need-returns-3
 unfolding verbs hasVerb bytes sameBytes
-returns-3 c =
-    let has = sym (c .before .before .is-word3 .ensures) ∙ c .before .if3 .taken in
-    c .packet-line .ensures ∙ sym (read-as _ _ _ _ "packet" packetLine refl has (past-event (c .before .before .before .before) ∙ holds _ _ has))
+returns-3 c = read-as _ _ _ _ "packet" packetLine _ refl (sym (c .before .before .is-word3 .ensures) ∙ c .before .if3 .taken) (λ has. past-event (c .before .before .before .before) ∙ holds _ _ has) (c .packet-line .ensures)
 
 returns-4 : tie.Need-returns-4
 unfolding verbs hasVerb bytes sameBytes
-returns-4 c =
-    let has = sym (c .before .before .is-word4 .ensures) ∙ c .before .if4 .taken in
-    c .offcore-line .ensures ∙ sym (read-as _ _ _ _ "offcore" offcoreLine refl has (past-packet (c .before .before .before .before) ∙ holds _ _ has))
+returns-4 c = read-as _ _ _ _ "offcore" offcoreLine _ refl (sym (c .before .before .is-word4 .ensures) ∙ c .before .if4 .taken) (λ has. past-packet (c .before .before .before .before) ∙ holds _ _ has) (c .offcore-line .ensures)
 
 returns-5 : tie.Need-returns-5
 unfolding verbs hasVerb bytes sameBytes
-returns-5 c =
-    let has = sym (c .before .before .is-word5 .ensures) ∙ c .before .if5 .taken in
-    c .latency-line .ensures ∙ sym (read-as _ _ _ _ "latency" latencyLine refl has (past-offcore (c .before .before .before .before) ∙ holds _ _ has))
+returns-5 c = read-as _ _ _ _ "latency" latencyLine _ refl (sym (c .before .before .is-word5 .ensures) ∙ c .before .if5 .taken) (λ has. past-offcore (c .before .before .before .before) ∙ holds _ _ has) (c .latency-line .ensures)
 
 returns-6 : tie.Need-returns-6
 unfolding verbs hasVerb bytes sameBytes
-returns-6 c =
-    let has = sym (c .before .before .is-word6 .ensures) ∙ c .before .if6 .taken in
-    c .drop-line .ensures ∙ sym (read-as _ _ _ _ "drop" dropLine refl has (past-latency (c .before .before .before .before) ∙ holds _ _ has))
+returns-6 c = read-as _ _ _ _ "drop" dropLine _ refl (sym (c .before .before .is-word6 .ensures) ∙ c .before .if6 .taken) (λ has. past-latency (c .before .before .before .before) ∙ holds _ _ has) (c .drop-line .ensures)
 
 returns-7 : tie.Need-returns-7
 unfolding verbs hasVerb bytes sameBytes
-returns-7 c =
-    let has = sym (c .before .before .is-word7 .ensures) ∙ c .before .if7 .taken in
-    c .turn-line .ensures ∙ sym (read-as _ _ _ _ "turn" turnLine refl has (past-drop (c .before .before .before .before) ∙ holds _ _ has))
+returns-7 c = read-as _ _ _ _ "turn" turnLine _ refl (sym (c .before .before .is-word7 .ensures) ∙ c .before .if7 .taken) (λ has. past-drop (c .before .before .before .before) ∙ holds _ _ has) (c .turn-line .ensures)
 
 returns-8 : tie.Need-returns-8
 unfolding hasVerb bytes
