@@ -27,8 +27,8 @@ use Rattle.sessions.specs.Sessions.{vacant}
 use Rattle.sessions.proofs.TakenPlan.{requests-length}
 use Rattle.sessions.proofs.Takes.{taking}
 use Rattle.planner.specs.Selections.{inArray, Searched}
-use Rattle.planner.proofs.Selecting.{left-none, places-read}
-use Rattle.planner.proofs.Searching.{found-none, found-plan}
+use Rattle.planner.proofs.Selecting.{behind, fits-behind, fits-not, taken-room, left-none, left-takes, places-read}
+use Rattle.planner.proofs.Searching.{found-plan}
 use Rattle.planner.proofs.Arrays.{array-push}
 use Rattle.planner.proofs.Assigning.{requests-next}
 use Rattle.lent_planner.specs.Changes.{nowhere}
@@ -82,45 +82,25 @@ taking-one t end i e rows found left =
     }
 
 module _ {s : Setup} {q : List Entry} {t : Choice} (c : HasChosen s q t) (e : Entry) {next : List ℕ} {found : ℕ} (search : Searched s (t .rows) (t .count) (e .request) next found) where
-  -- what was searched for is the plan of the record behind those taken
-  behind : rowsFrom (t .rows) 0 (t .count) ++ (e .request ∷ []) ≡ requestsOf (taken s q ++ (e ∷ []))
-  behind = rw (c .rows-taken) (sym (requests-next (taken s q) e))
-
-  fits-behind : (found ≡ 0 → ⊥) → HasPlan s (requestsOf (taken s q ++ (e ∷ [])))
-  fits-behind exists = found-plan s _ (λ z. exists (search .answer ∙ rw behind z))
-
-  fits-not : found ≡ 0 → ¬ HasPlan s (requestsOf (taken s q ++ (e ∷ [])))
-  fits-not missing = found-none s _ (rw (← behind) (sym (search .answer) ∙ missing))
-
   chosen-passes : found ≡ 0 → HasChosen s (q ++ (e ∷ [])) t
-  chosen-passes missing = chosen-same c e (fits-not missing)
-
-  -- there is room for one more
-  chosen-room : (found ≡ 0 → ⊥) → (t .count < usableCount s) × (t .count < 8)
-  unfolding capacity
-  chosen-room exists =
-      let m = parts .at-most s _ (fits-behind exists) in
-      let r : length (requestsOf (taken s q ++ (e ∷ []))) ≡ t .count + 1 = requests-length (taken s q ++ (e ∷ [])) ∙ rw (length-append, c .taken-count) in
-      let u = plan-length .usable-at-most s in
-      let d = plan-length .device-at-most (s .device) in
-      (omega arith, omega arith)
+  chosen-passes missing = chosen-same c e (fits-not q (c .rows-taken) e search missing)
 
   chosen-takes : (found ≡ 0 → ⊥) → (end less : ℕ) → less ≡ leftBy (counterCount (s .device)) (e .request) (t .left)
       → HasChosen s (q ++ (e ∷ [])) (taking-one t end (length q) e next found less)
   unfolding capacity taking-one
   chosen-takes exists end less w =
-      let f = fits-behind exists in
+      let f = fits-behind q (c .rows-taken) e search exists in
       let yes = taking s .taken-fits q e f in
-      let room = chosen-room exists in
+      let room = taken-room q (c .rows-taken) e search exists in
       record {
         setup = c .setup;
         usable = c .usable;
         counters = c .counters;
         rows-length = search .size;
-        rows-taken = rw yes (search .behind exists ∙ behind);
-        plan-found = rw yes (search .answer ∙ rw behind);
+        rows-taken = rw yes (search .behind exists ∙ behind q (c .rows-taken) e search);
+        plan-found = rw yes (search .answer ∙ rw (behind q (c .rows-taken) e search));
         plan-some = exists;
-        left-sets = λ small. rw (yes, requests-next, reach .grows s (requestsOf (taken s q)) (e .request), ← c .left-sets small) w;
+        left-sets = left-takes q (c .rows-taken) e search (c .left-sets) w exists;
         taken-array = rw (yes, c .taken-array) (array-push 8 vacant (taken s q) (t .count) e (c .taken-count) (room .1));
         taken-count = rw (yes, length-append, ← c .taken-count);
         taken-usable = omega (arith, room .0);
