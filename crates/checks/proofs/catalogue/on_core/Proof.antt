@@ -1,5 +1,5 @@
 -- `catalogue::on_core` is the look-up on G: the rows of each code are those of the catalogue, and no row has another code.
-use mathlib.Core.Path.{_≡_, refl, sym, ap, _∙_}
+use mathlib.Core.Path.{_≡_, sym, ap, _∙_}
 use mathlib.Core.Bool.{Bool, true, false}
 use Prim.Native.Nat.{ℕ}
 use lib.Dec.{eqb}
@@ -9,6 +9,7 @@ use Rattle.requests.specs.Choice.{both, either}
 use Rattle.requests.specs.MaskRules.{allows}
 use Rattle.requests.specs.Catalogue.{eventsOf, codeIn, pairIn}
 use Rattle.requests.specs.Lookup.{listingOf}
+use Rattle.requests.proofs.Tests.{either-false}
 use Rattle.requests.specs.declared.Device.the-variants.{G}
 use Rattle.requests.specs.declared.Listing.{Listing}
 use Rattle.checks.proofs.catalogue.on_core.Statement.{statement}
@@ -18,30 +19,25 @@ use Rattle.checks.proofs.catalogue.on_core.Tie as tie
 abbrev with-pair : Bool → Listing
 with-pair p = record { code = true; pair = p }
 
-last : (b : Bool) → either b false ≡ b
-unfolding either
-last true = refl
-last false = refl
-
 listed-3C : (m : ℕ) → listingOf G 0x3C m ≡ with-pair (either (eqb m 0x00) (eqb m 0x01))
 unfolding listingOf eventsOf codeIn pairIn allows both either
-listed-3C m = ap (λ (b : Bool). with-pair (either (eqb m 0x00) b)) (last (eqb m 0x01))
+listed-3C m = ap (λ (b : Bool). with-pair (either (eqb m 0x00) b)) (either-false (eqb m 0x01))
 
 listed-2E : (m : ℕ) → listingOf G 0x2E m ≡ with-pair (either (eqb m 0x4F) (eqb m 0x41))
 unfolding listingOf eventsOf codeIn pairIn allows both either
-listed-2E m = ap (λ (b : Bool). with-pair (either (eqb m 0x4F) b)) (last (eqb m 0x41))
+listed-2E m = ap (λ (b : Bool). with-pair (either (eqb m 0x4F) b)) (either-false (eqb m 0x41))
 
 listed-C0 : (m : ℕ) → listingOf G 0xC0 m ≡ with-pair (eqb m 0x00)
 unfolding listingOf eventsOf codeIn pairIn allows both either
-listed-C0 m = ap with-pair (last (eqb m 0x00))
+listed-C0 m = ap with-pair (either-false (eqb m 0x00))
 
 listed-C4 : (m : ℕ) → listingOf G 0xC4 m ≡ with-pair (eqb m 0x00)
 unfolding listingOf eventsOf codeIn pairIn allows both either
-listed-C4 m = ap with-pair (last (eqb m 0x00))
+listed-C4 m = ap with-pair (either-false (eqb m 0x00))
 
 listed-C5 : (m : ℕ) → listingOf G 0xC5 m ≡ with-pair (eqb m 0x00)
 unfolding listingOf eventsOf codeIn pairIn allows both either
-listed-C5 m = ap with-pair (last (eqb m 0x00))
+listed-C5 m = ap with-pair (either-false (eqb m 0x00))
 
 unlisted : (c m : ℕ) → eqb c 0x3C ≡ false → eqb c 0xC0 ≡ false → eqb c 0x2E ≡ false → eqb c 0xC4 ≡ false → eqb c 0xC5 ≡ false → listingOf G c m ≡ record { code = false; pair = false }
 unfolding listingOf eventsOf codeIn pairIn allows both either
