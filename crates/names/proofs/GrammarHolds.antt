@@ -61,7 +61,7 @@ text-formed n t h e =
     (fields-formed n t h parts, ap (λ (fs : List (List ℕ)). getD fs 0 []) parts)
 
 -- four fields
-four : (fs : List (List ℕ)) → length fs ≡ 4 → fs ≡ getD fs 0 [] ∷ getD fs 1 [] ∷ getD fs 2 [] ∷ getD fs 3 [] ∷ []
+pub four : (fs : List (List ℕ)) → length fs ≡ 4 → fs ≡ getD fs 0 [] ∷ getD fs 1 [] ∷ getD fs 2 [] ∷ getD fs 3 [] ∷ []
 four [] e = let z : ⊥ = omega arith in absurd z
 four (a ∷ []) e = let z : ⊥ = omega arith in absurd z
 four (a ∷ b ∷ []) e = let z : ⊥ = omega arith in absurd z

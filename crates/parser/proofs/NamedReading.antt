@@ -5,7 +5,7 @@ use mathlib.Core.List.{List, [], _∷_, _++_}
 use Prim.Native.Nat.{ℕ, _≤_}
 use native.Mathlib.Omega.{arith}
 use lib.Dec.{eqb}
-use lib.ListN.{length, getD}
+use lib.ListN.{length}
 use borrow.Author.Tests.{eqb-true}
 use Rattle.requests.specs.Choice.{both}
 use Rattle.requests.specs.declared.CounterSet.{CounterSet}
@@ -24,6 +24,7 @@ use Rattle.records.proofs.Texts.{decimal-plain}
 use Rattle.records.proofs.WordLoops.{same-bytes}
 use Rattle.names.specs.EventNames.{isName}
 use Rattle.names.specs.Lists.{NameLists}
+use Rattle.names.proofs.GrammarHolds.{four}
 use Rattle.names.proofs.NameBytes.{names-tested, name-field}
 use Rattle.parser.specs.NamedText.{namedText, NamedFits}
 use Rattle.parser.specs.ParseWith.{addNamed, namedLine}
@@ -65,15 +66,6 @@ named-written id name a h =
     let plain = tabs.more (decimal-plain id (h .0)) (tabs.more (record { field = name-field name (names-tested .passes name (h .1)); short = h .1 .at-most-40 }) (tabs.more (decimal-plain (a .0) (h .2)) tabs.none)) in
     let w = tabs.written _ (bytes "named") (decimalText id ∷ name ∷ decimalText (a .0) ∷ []) refl plain in
     record { text = w .text; line = w .line; says = record { fit = h; parts = w .parts }; short = omega (arith, w .size) }
-
--- four fields
-four : (fs : List (List ℕ)) → length fs ≡ 4 → fs ≡ getD fs 0 [] ∷ getD fs 1 [] ∷ getD fs 2 [] ∷ getD fs 3 [] ∷ []
-four [] e = let z : ⊥ = omega arith in absurd z
-four (a ∷ []) e = let z : ⊥ = omega arith in absurd z
-four (a ∷ b ∷ []) e = let z : ⊥ = omega arith in absurd z
-four (a ∷ b ∷ c ∷ []) e = let z : ⊥ = omega arith in absurd z
-four (a ∷ b ∷ c ∷ d ∷ []) e = refl
-four (a ∷ b ∷ c ∷ d ∷ f ∷ fs) e = let z : ⊥ = omega arith in absurd z
 
 -- a text with the verb is closed and says a request by name, or has a field at fault, whatever the lists and the device
 pub data Read (t : List ℕ) (closed : Bool) : Type 0 where
