@@ -3,9 +3,11 @@
 mod endings;
 
 use answers::replies::REPLY_ROOM;
+use descriptors::FileRead;
 use descriptors::Next;
 use descriptors::Reading;
 use descriptors::Writing;
+use descriptors::file::read_file;
 use descriptors::read::bytes_read;
 use descriptors::read::read_some;
 use descriptors::write::is_complete;
@@ -149,4 +151,25 @@ pub fn answer_input<'a>(
         return Ending::Refused;
     }
     ending_of(answer_all(input, output, site, house, block, out))
+}
+
+// Answers the lines that come from the input, with names from the lists of two files, once both are read: what keeps one from being
+// read is told on standard error, and then no line is answered.
+pub fn answer_with_files(
+    input: i32,
+    output: i32,
+    site_path: &[u8],
+    house_path: &[u8],
+    block: &mut [u8],
+    out: &mut [u8],
+) -> Ending {
+    let mut site = io::large_buffer();
+    let FileRead::Bytes(n) = read_file(site_path, &mut site) else {
+        return Ending::Failed;
+    };
+    let mut house = io::large_buffer();
+    let FileRead::Bytes(m) = read_file(house_path, &mut house) else {
+        return Ending::Failed;
+    };
+    answer_input(input, output, &site[..n], &house[..m], block, out)
 }

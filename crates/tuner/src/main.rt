@@ -1,14 +1,14 @@
 // The line program, `tuner [SITE HOUSE]`: lines from standard input, replies to standard output. The two arguments are files, which
 // have the site's list of names and the house's. Without them both lists are empty.
 // A program has no exit status of its own: where its first argument asks for it, it writes the number on descriptor 3 as it ends.
-use descriptors::FileRead;
-use descriptors::file::read_file;
 use libc::STDERR_FILENO;
 use libc::STDIN_FILENO;
 use libc::STDOUT_FILENO;
 use records::words::same;
+use relay::answer_input;
+use relay::answer_with_files;
+use relay::status_of;
 ghost use Prim.Native.Nat.{_≤_};
-ghost use Rattle.descriptors.specs.Files.{FileWithin};
 
 const STATUS_FILENO: i32 = 3;
 
@@ -25,59 +25,45 @@ fn is_status_asked() -> bool {
     same(&word[..n], b"--status-fd=3")
 }
 
-// Answers the lines, with names from these lists, and gives the status.
-fn answer_lines<'a>(site: &'a [u8], house: &'a [u8]) -> u64 {
-    let mut block = io::large_buffer();
-    let mut out = io::large_buffer();
-    let ending = relay::answer_input(
-        STDIN_FILENO,
-        STDOUT_FILENO,
-        site,
-        house,
-        &mut block,
-        &mut out,
-    );
-    relay::status_of(ending)
-}
-
-// Reads the file that argument i names. Of a name that is too long for a path, its start is told.
-fn read_list(i: usize, room: &mut [u8]) -> FileRead
-    ensures { λ r. ⌜ FileWithin (now (room .exit)) r ⌝ }
-{
-    let mut path = io::buffer();
-    let n = os::arg(i, &mut path);
-    if os::errno() != 0 {
-        os::fail(&path);
-        return FileRead::Failed;
-    }
-    read_file(&path[..n], room)
-}
-
-// Answers the lines with the lists of the two files that the arguments from `first` on name, once both are read.
-fn answer_with_files(first: usize) -> u64
+// Answers the lines with the lists of the two files that the arguments from `first` on name. Of a name that is too long for a path, its
+// start is told.
+fn answer_with_lists(first: usize, block: &mut [u8], out: &mut [u8]) -> u64
     requires { ⌜ first ≤ 2 ⌝ }
 {
-    let mut site = io::large_buffer();
-    let FileRead::Bytes(n) = read_list(first, &mut site) else {
+    let mut site = io::buffer();
+    let n = os::arg(first, &mut site);
+    if os::errno() != 0 {
+        os::fail(&site);
         return UNREAD;
-    };
-    let mut house = io::large_buffer();
-    let FileRead::Bytes(m) = read_list(first + 1, &mut house) else {
+    }
+    let mut house = io::buffer();
+    let m = os::arg(first + 1, &mut house);
+    if os::errno() != 0 {
+        os::fail(&house);
         return UNREAD;
-    };
-    answer_lines(&site[..n], &house[..m])
+    }
+    status_of(answer_with_files(
+        STDIN_FILENO,
+        STDOUT_FILENO,
+        &site[..n],
+        &house[..m],
+        block,
+        out,
+    ))
 }
 
-// Answers the lines, with the lists that the arguments from `first` on name: none, or two.
+// Answers the lines, with the lists that the arguments from `first` on name, none or two, and gives the status.
 fn answer_with_arguments(first: usize) -> u64
     requires { ⌜ first ≤ 2 ⌝ }
 {
+    let mut block = io::large_buffer();
+    let mut out = io::large_buffer();
     let count = os::arg_count();
     if count <= first {
-        return answer_lines(b"", b"");
+        return status_of(answer_input(STDIN_FILENO, STDOUT_FILENO, b"", b"", &mut block, &mut out));
     }
     if count == first + 2 {
-        return answer_with_files(first);
+        return answer_with_lists(first, &mut block, &mut out);
     }
     io::write_all(STDERR_FILENO, b"usage: tuner [SITE HOUSE]\n");
     MISUSED

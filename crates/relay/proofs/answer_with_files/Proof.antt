@@ -1,29 +1,29 @@
 -- Each list is as long as its file, which lies in the room for it.
 use borrow.Author.Needs.{needs}
 use Rattle.descriptors.proofs.RoomFilled.{file-counts}
-use Rattle.tuner.proofs.answer_with_files.Statement.{statement}
-use Rattle.tuner.proofs.answer_with_files.Tie as tie
+use Rattle.relay.proofs.answer_with_files.Statement.{statement}
+use Rattle.relay.proofs.answer_with_files.Tie as tie
 
 array-share-prefix-site : tie.Need-array-share-prefix-site
 array-share-prefix-site c =
     let t = c .before .before .before .before .before .before .before .before in
-    let r = t .before .before .before .read-list in
+    let r = t .before .before .before .read-file in
     file-counts (r .last .1 .0) _ _ (t .n .given .1) (r .ensures) .0
 
-slice-aggregate-site : tie.Need-slice-aggregate-answer-lines
+slice-aggregate-site : tie.Need-slice-aggregate-answer-input
 slice-aggregate-site c =
     let t = c .before .before .before .before .before .before .before .before .before in
-    let r = t .before .before .before .read-list in
+    let r = t .before .before .before .read-file in
     file-counts (r .last .1 .0) _ _ (t .n .given .1) (r .ensures) .1
 
 array-share-prefix-house : tie.Need-array-share-prefix-house
 array-share-prefix-house c =
-    let r = c .before .before .before .before .before .read-list2 in
+    let r = c .before .before .before .before .before .read-file2 in
     file-counts (r .last .1 .0) _ _ (c .before .before .m .given .1) (r .ensures) .0
 
-slice-aggregate-house : tie.Need-slice-aggregate-answer-lines-2
+slice-aggregate-house : tie.Need-slice-aggregate-answer-input-2
 slice-aggregate-house c =
-    let r = c .before .before .before .before .before .before .read-list2 in
+    let r = c .before .before .before .before .before .before .read-file2 in
     file-counts (r .last .1 .0) _ _ (c .before .before .before .m .given .1) (r .ensures) .1
 
 pub answer-with-files-spec : {M : Type 1} → statement M
@@ -37,7 +37,6 @@ answer-with-files-spec =
     (λ c. search needs)
     (λ c κs. search needs)
     (λ c. search needs)
-    (λ c. search needs)
     (λ c κs. search needs)
     (λ c. search needs)
     (λ c. search needs)
@@ -46,4 +45,6 @@ answer-with-files-spec =
     array-share-prefix-house
     slice-aggregate-house
     (λ c κs. search needs)
+    (λ c. search needs)
+    (λ c. search needs)
     (λ c. search needs))
