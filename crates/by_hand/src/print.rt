@@ -1,28 +1,15 @@
 // Prints requests, sessions and answers, a line each.
 use checks::refusals::number_of;
 use plans::Place;
+use prints::decimal;
+use prints::hex;
+use prints::text;
 use requests::Answer;
 use requests::Device;
 use requests::Entry;
 use requests::Request;
 use sessions::Session;
 use sessions::TurnAnswered;
-
-// Standard output.
-const OUT: i32 = 1;
-
-pub fn text(bytes: &[u8]) {
-    io::write_all(OUT, bytes);
-}
-
-fn decimal(n: u64) {
-    io::print_decimal(OUT, n);
-}
-
-// A number in hexadecimal, with at least `width` digits.
-fn hex(n: u64, width: usize) {
-    io::print_hex(OUT, n, width);
-}
 
 // A blank and a number.
 fn field(n: u64) {

@@ -7,7 +7,7 @@ use requests::Device;
 
 // The device's letter, and its tally.
 fn line(letter: &[u8], device: Device) {
-    print::text(letter);
+    prints::text(letter);
     print::tally(tally_of(device));
 }
 

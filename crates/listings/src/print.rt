@@ -1,20 +1,7 @@
 // Prints tallies.
 use crate::tally::Tally;
-
-// Standard output.
-const OUT: i32 = 1;
-
-pub fn text(bytes: &[u8]) {
-    io::write_all(OUT, bytes);
-}
-
-// A name and a number.
-fn field(name: &[u8], n: u64) {
-    text(b" ");
-    text(name);
-    text(b" ");
-    io::print_decimal(OUT, n);
-}
+use prints::field;
+use prints::text;
 
 // A tally, to the end of the line.
 pub fn tally(t: Tally) {

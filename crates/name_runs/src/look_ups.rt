@@ -1,5 +1,4 @@
 // What the look-up shows, and how single lines are answered, with two lists of names.
-use crate::print;
 use answers::line::answer_line;
 use names::look_up::look_up;
 use planner::open::new_session;
@@ -7,10 +6,10 @@ use sessions::Session;
 
 // A name, and the row that it finds.
 fn show<'a>(name: &[u8], site: &'a [u8], house: &'a [u8]) {
-    print::text(name);
-    print::text(b": ");
-    print::text(look_up(name, site, house));
-    print::text(b"\n");
+    prints::text(name);
+    prints::text(b": ");
+    prints::text(look_up(name, site, house));
+    prints::text(b"\n");
 }
 
 // Answers a line, and gives the session afterwards.
@@ -18,7 +17,7 @@ fn answer<'a>(session: Session, line: &[u8], site: &'a [u8], house: &'a [u8]) ->
     let reply = answer_line(session, line, site, house);
     let text = reply.text;
     let n = reply.length;
-    print::text(&text[..n]);
+    prints::text(&text[..n]);
     reply.session
 }
 

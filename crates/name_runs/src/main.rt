@@ -20,16 +20,16 @@ fn line(list: &[u8], letter: &[u8], device: Device) {
     let setup = events::all_usable(device);
     let rows = rows::rows_on(list, setup);
     let coverage = coverage::coverage_of(list, setup);
-    print::text(letter);
+    prints::text(letter);
     print::rows(rows);
     print::coverage(coverage);
 }
 
 fn report(list: &[u8]) {
     if list_formed(list) {
-        print::text(b"formed\n");
+        prints::text(b"formed\n");
     } else {
-        print::text(b"ill-formed\n");
+        prints::text(b"ill-formed\n");
     }
     line(list, b"G", Device::G);
     line(list, b"S", Device::S);

@@ -1,21 +1,9 @@
 // Prints what was counted.
 use crate::coverage::Coverage;
 use crate::rows::Rows;
-
-// Standard output.
-const OUT: i32 = 1;
-
-pub fn text(bytes: &[u8]) {
-    io::write_all(OUT, bytes);
-}
-
-// A name and a number.
-fn field(name: &[u8], n: u64) {
-    text(b" ");
-    text(name);
-    text(b" ");
-    io::print_decimal(OUT, n);
-}
+use prints::field;
+use prints::hex;
+use prints::text;
 
 pub fn rows(r: Rows) {
     field(b"rows", r.count);
@@ -43,6 +31,6 @@ pub fn offender(row: &[u8], why: &[u8]) {
 // A code that has no row.
 pub fn unnamed(code: u8) {
     text(b"unnamed: ");
-    io::print_hex(OUT, code as u64, 2);
+    hex(code as u64, 2);
     text(b"\n");
 }

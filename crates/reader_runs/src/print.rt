@@ -3,26 +3,18 @@ use checks::devices::counter_count;
 use layouts::CounterState;
 use layouts::FilterRead;
 use layouts::Reading;
+use prints::decimal;
+use prints::hex;
+use prints::text;
 use requests::Core;
 use requests::Device;
 use requests::Overflow;
 use requests::Setup;
 
-// Standard output.
-const OUT: i32 = 1;
-
-pub fn text(bytes: &[u8]) {
-    io::write_all(OUT, bytes);
-}
-
-pub fn decimal(n: u64) {
-    io::print_decimal(OUT, n);
-}
-
 // A blank and a number in hexadecimal, with at least `width` digits.
 fn hex_field(n: u64, width: usize) {
     text(b" ");
-    io::print_hex(OUT, n, width);
+    hex(n, width);
 }
 
 fn device(d: Device) {

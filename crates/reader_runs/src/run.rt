@@ -25,15 +25,15 @@ fn planned(setup: Setup, requests: [Request; 8], count: usize, list: &mut [u64; 
 fn one_bit_changed(setup: Setup, values: [u64; 13], told: Reading) {
     let same = changes::count(setup, values, told, changes::SAME);
     let another = changes::count(setup, values, told, changes::ANOTHER);
-    print::text(b"one bit changed: accepted ");
-    print::decimal(changes::count(setup, values, told, changes::ACCEPTED));
-    print::text(b", refused ");
-    print::decimal(changes::count(setup, values, told, changes::REFUSED));
-    print::text(b"; where not looked at: the same ");
-    print::decimal(same);
-    print::text(b" of ");
-    print::decimal(same + another);
-    print::text(b"\n");
+    prints::text(b"one bit changed: accepted ");
+    prints::decimal(changes::count(setup, values, told, changes::ACCEPTED));
+    prints::text(b", refused ");
+    prints::decimal(changes::count(setup, values, told, changes::REFUSED));
+    prints::text(b"; where not looked at: the same ");
+    prints::decimal(same);
+    prints::text(b" of ");
+    prints::decimal(same + another);
+    prints::text(b"\n");
 }
 
 // The first plan of the first `count` requests, written, read, and read with one bit changed.
@@ -42,9 +42,9 @@ pub fn run(setup: Setup, requests: [Request; 8], count: usize) {
     let writes = planned(setup, requests, count, &mut list);
     let values = after(&list, writes);
     print::setup(setup);
-    print::text(b" writes ");
-    print::decimal(writes as u64);
-    print::text(b"\n");
+    prints::text(b" writes ");
+    prints::decimal(writes as u64);
+    prints::text(b"\n");
     let told = changes::reading(setup, values);
     print::counters(setup, told);
     one_bit_changed(setup, values, told);
