@@ -1,5 +1,6 @@
 // The line program over two descriptors: lines come from one, and the replies go to the other.
-// No contract can say what is read and written there: what is read is answered by `lines`, and `pass_block` says that all of it is.
+// No contract can say what is read and written there: what is read is answered by `lines`, `pass_block` says that all of a block is,
+// and `answer_all` that the blocks are one text.
 mod endings;
 
 use answers::replies::REPLY_ROOM;
@@ -26,6 +27,7 @@ ghost use lib.ListN.{length};
 ghost use Rattle.names.specs.Lists.{NameLists};
 ghost use Rattle.descriptors.specs.Writes.{Reached};
 ghost use Rattle.relay.specs.Passing.{Passing};
+ghost use Rattle.relay.specs.Relayed.{Relaying, Relayed};
 ghost use Rattle.relay.specs.Fitness.{Unfit};
 ghost use Rattle.answers.specs.Written.{replyRoom};
 
@@ -34,6 +36,15 @@ struct Passed {
     pub feed: Feed,
     pub taken: usize,
     pub sent: usize,
+    pub next: Next,
+}
+
+// What a run leaves: the state, the number of bytes reported read, the number reported written, the last read, and what comes next.
+struct Run {
+    pub feed: Feed,
+    pub received: usize,
+    pub sent: usize,
+    pub last: Reading,
     pub next: Next,
 }
 
@@ -94,7 +105,55 @@ fn send_first(output: i32, text: &[u8], n: usize) -> Writing
     send(output, &text[..n])
 }
 
-// Answers what is read, block by block, and then the end of the input.
+// Answers what is read, block by block, until a read has nothing more or a write is not complete.
+fn answer_blocks<'a>(
+    input: i32,
+    output: i32,
+    site: &'a [u8],
+    house: &'a [u8],
+    block: &mut [u8],
+    out: &mut [u8],
+) -> Run
+    requires { ⌜ replyRoom ≤ length (now out) ⌝ }
+    ensures { λ r. ⌜ Relaying (record { site = now (site .entry); house = now (house .entry) }) r ⌝ }
+{
+    let mut state = start();
+    let mut received = 0;
+    let mut sent = 0;
+    let mut last = Reading::Again;
+    let mut turns = u64::MAX;
+    while turns > 0 {
+        last = read_some(input, block);
+        let n = bytes_read(last);
+        if n == 0 {
+            break;
+        }
+        let passed = pass_block(state, &block[..n], site, house, output, out);
+        state = passed.feed;
+        received = wrapping_add_usize(received, n);
+        sent = wrapping_add_usize(sent, passed.sent);
+        let ended = passed.next;
+        if !is_complete(ended) {
+            return Run {
+                feed: state,
+                received,
+                sent,
+                last,
+                next: ended,
+            };
+        }
+        turns -= 1;
+    }
+    Run {
+        feed: state,
+        received,
+        sent,
+        last,
+        next: Next::Complete,
+    }
+}
+
+// Answers what is read, and then the end of the input.
 fn answer_all<'a>(
     input: i32,
     output: i32,
@@ -102,31 +161,28 @@ fn answer_all<'a>(
     house: &'a [u8],
     block: &mut [u8],
     out: &mut [u8],
-) -> Next
+) -> Run
     requires { ⌜ replyRoom ≤ length (now out) ⌝ }
+    ensures { λ r. ⌜ Relayed (record { site = now (site .entry); house = now (house .entry) }) r ⌝ }
 {
-    let mut state = start();
-    let mut reading = Reading::Again;
-    let mut turns = u64::MAX;
-    while turns > 0 {
-        reading = read_some(input, block);
-        let n = bytes_read(reading);
-        if n == 0 {
-            break;
-        }
-        let passed = pass_block(state, &block[..n], site, house, output, out);
-        let ended = passed.next;
-        if !is_complete(ended) {
-            return ended;
-        }
-        state = passed.feed;
-        turns -= 1;
+    let run = answer_blocks(input, output, site, house, block, out);
+    let reached = run.next;
+    if !is_complete(reached) {
+        return run;
     }
-    let last = end(state);
-    let text = last.text;
-    let written = send_first(output, &text, last.length);
+    let feed = run.feed;
+    let reply = end(feed);
+    let text = reply.text;
+    let written = send_first(output, &text, reply.length);
     let ended = written.next;
-    last_of(reading, ended)
+    let last = run.last;
+    Run {
+        feed,
+        received: run.received,
+        sent: wrapping_add_usize(run.sent, written.done),
+        last,
+        next: last_of(last, ended),
+    }
 }
 
 // Answers the lines that come from the input, a session of their own, until it ends, or a read or write fails. Names are looked
@@ -150,7 +206,9 @@ pub fn answer_input<'a>(
     if out.len() < REPLY_ROOM {
         return Ending::Refused;
     }
-    ending_of(answer_all(input, output, site, house, block, out))
+    let run = answer_all(input, output, site, house, block, out);
+    let next = run.next;
+    ending_of(next)
 }
 
 // Answers the lines that come from the input, with names from the lists of two files, once both are read: what keeps one from being

@@ -1,111 +1,75 @@
--- Both slices keep their lengths from turn to turn, and what was read lies in the block. The measure is the number of turns that are left.
-use mathlib.Core.Logic.{⊎-elim}
-use mathlib.Core.Path.{_≡_, refl, sym}
-use native.Mathlib.Omega.{arith}
+-- The blocks are one text; the end adds its reply where their writing was complete.
+use mathlib.Core.Bool.{true, false, false≢true}
+use mathlib.Core.Path.{_≡_, sym, ap, _∙_}
 use borrow.Author.Needs.{needs}
-use lib.ListN.{length}
-use lib.Seq.{length-take-le}
-use Rattle.descriptors.proofs.CallAnswers.{bytes-within}
+use borrow.Author.Tests.{not-true, not-false}
+use Rattle.descriptors.specs.Writes.{isComplete}
+use Rattle.descriptors.specs.declared.Next.the-variants.{Complete}
+use Rattle.descriptors.proofs.Reported.{complete-is}
 use Rattle.relay.proofs.Passes.{array-holds}
+use Rattle.relay.proofs.Relays.{relayed-part, relayed}
 use Rattle.relay.proofs.answer_all.Statement.{statement}
 use Rattle.relay.proofs.answer_all.Tie as tie
 
-abbrev Inv-loop : tie.InvT-loop
-Inv-loop input output site house block₀ out₀ state₀ reading₀ turns₀ block out state reading turns = (length block ≡ length block₀) × (length out ≡ length out₀)
+answer-blocks-requires : tie.Need-answer-blocks-requires
+answer-blocks-requires c κs = search needs
 
-abbrev μ-loop : tie.MeasureT-loop
-μ-loop input output site house block₀ out₀ state₀ reading₀ turns₀ block out state reading turns = turns
-
-start-requires : tie.Need-start-requires Inv-loop μ-loop
-start-requires c κs = search needs
-
-loop-holds : tie.Need-loop-holds Inv-loop μ-loop
-loop-holds c = (refl, refl)
-
-read-some-requires : tie.Need-read-some-requires Inv-loop μ-loop
-read-some-requires c κs = search needs
-
-bytes-read-requires : tie.Need-bytes-read-requires Inv-loop μ-loop
-bytes-read-requires c κs = search needs
-
-slice-reshare-prefix-pass-block : tie.Need-slice-reshare-prefix-pass-block Inv-loop μ-loop
-slice-reshare-prefix-pass-block c =
-    let r = c .before .before .before .before .read-some in
-    rw (c .before .bytes-read .ensures) (bytes-within (r .last .1 .0) (r .result) (r .ensures))
-
-slice-aggregate-pass-block : tie.Need-slice-aggregate-pass-block Inv-loop μ-loop
-slice-aggregate-pass-block c =
-    let r = c .before .before .before .before .before .read-some in
-    sym (length-take-le (c .before .before .bytes-read .result) (r .last .1 .0) (rw (c .before .before .bytes-read .ensures) (bytes-within (r .last .1 .0) (r .result) (r .ensures))))
-
-pass-block-requires : tie.Need-pass-block-requires Inv-loop μ-loop
-pass-block-requires c κs = omega arith
-
-is-complete-requires : tie.Need-is-complete-requires Inv-loop μ-loop
+is-complete-requires : tie.Need-is-complete-requires
 is-complete-requires c κs = search needs
 
-same-length : tie.Need-same-length Inv-loop μ-loop
+same-length : tie.Need-same-length
 same-length c = search needs
 
-same-length-2 : tie.Need-same-length-2 Inv-loop μ-loop
+same-length-2 : tie.Need-same-length-2
 same-length-2 c = search needs
 
-returns : tie.Need-returns Inv-loop μ-loop
-returns c = search needs
+returns : tie.Need-returns
+returns c =
+    let b = c .before .before .before .before .before .before .answer-blocks in
+    let other : isComplete (b .result .next) ≡ false = sym (c .before .is-complete .ensures) ∙ not-true (c .before .is-complete .result) (c .if1 .taken) in
+    relayed-part (b .ensures) (λ e. false≢true (sym other ∙ ap isComplete e))
 
-sub-turns : tie.Need-sub-turns Inv-loop μ-loop
-sub-turns c = omega arith
-
-loop-less : tie.Need-loop-less Inv-loop μ-loop
-loop-less c = omega arith
-
-loop-again : tie.Need-loop-again Inv-loop μ-loop
-loop-again c = (search needs, search needs)
-
-end-requires : tie.Need-end-requires Inv-loop μ-loop
+end-requires : tie.Need-end-requires
 end-requires c κs = search needs
 
-slice-aggregate-send-first : tie.Need-slice-aggregate-send-first Inv-loop μ-loop
+slice-aggregate-send-first : tie.Need-slice-aggregate-send-first
 slice-aggregate-send-first c = search needs
 
-send-first-requires : tie.Need-send-first-requires Inv-loop μ-loop
+send-first-requires : tie.Need-send-first-requires
 send-first-requires c κs = rw (c .before .before .end .ensures) (array-holds _)
 
-last-of-requires : tie.Need-last-of-requires Inv-loop μ-loop
+wrapping-add-usize-requires : tie.Need-wrapping-add-usize-requires
+wrapping-add-usize-requires c κs = search needs
+
+last-of-requires : tie.Need-last-of-requires
 last-of-requires c κs = search needs
 
-same-length-3 : tie.Need-same-length-3 Inv-loop μ-loop
-same-length-3 c = ⊎-elim (λ w. search needs) (λ w. search needs) (c .before .before .before .before .before .loop-test .came)
+same-length-3 : tie.Need-same-length-3
+same-length-3 c = search needs
 
-same-length-4 : tie.Need-same-length-4 Inv-loop μ-loop
-same-length-4 c = c .before .before .before .before .before .before .loop .inv .1
+same-length-4 : tie.Need-same-length-4
+same-length-4 c = search needs
 
-returns-2 : tie.Need-returns-2 Inv-loop μ-loop
-returns-2 c = search needs
+returns-2 : tie.Need-returns-2
+returns-2 c =
+    let b = c .before .before .before .before .before .before .before .before .before .before .before .before .before .answer-blocks in
+    let i = c .before .before .before .before .before .before .before in
+    let full : b .result .next ≡ Complete = complete-is (b .result .next) (sym (i .before .is-complete .ensures) ∙ not-false (i .before .is-complete .result) (i .if1 .left)) in
+    relayed (b .ensures) full (c .before .before .before .before .before .end .result) (c .before .before .send-first .result) _ _ (c .before .before .before .before .before .end .ensures) (c .before .before .send-first .ensures) (c .before .wrapping-add-usize .ensures) (c .last-of .ensures)
 
 pub answer-all-spec : {M : Type 1} → statement M
 answer-all-spec =
     tie.close
     (tie.spec
-    Inv-loop
-    μ-loop
-    start-requires
-    loop-holds
-    read-some-requires
-    bytes-read-requires
-    slice-reshare-prefix-pass-block
-    slice-aggregate-pass-block
-    pass-block-requires
+    answer-blocks-requires
     is-complete-requires
     same-length
     same-length-2
     returns
-    sub-turns
-    loop-less
-    loop-again
     end-requires
     slice-aggregate-send-first
     send-first-requires
+    wrapping-add-usize-requires
     last-of-requires
     same-length-3
     same-length-4

@@ -48,7 +48,7 @@ returns-3 c =
     let i = c .before .before .before .before .before .before .before .before in
     let a = i .before .before .before .before .before .before .args in
     let fit : Unfit (now (a .block)) (now (a .out)) → ⊥ = ⊎-elim (i .before .if1 .left) (λ short. absurd (omega (arith, short, i .if2 .left))) in
-    (λ h. absurd (fit h), (λ e. absurd (not-refused (c .before .before .before .before .before .answer-all .result) (sym (c .ending-of .ensures) ∙ e)), λ h. absurd (fit h)))
+    (λ h. absurd (fit h), (λ e. absurd (not-refused (c .before .before .before .before .before .answer-all .result .next) (sym (c .ending-of .ensures) ∙ e)), λ h. absurd (fit h)))
 
 pub answer-input-spec : {M : Type 1} → statement M
 answer-input-spec =

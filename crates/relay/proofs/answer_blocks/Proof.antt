@@ -1,0 +1,135 @@
+-- After each turn what was answered is one text, with its replies counted, and both slices keep their lengths. What was read lies in the block.
+-- The measure is the number of turns that are left.
+use mathlib.Core.Bool.{true, false, false≢true}
+use mathlib.Core.Path.{_≡_, refl, sym, ap, _∙_}
+use Prim.Native.Nat.{ℕ, _+_, _%_, _^_, _≤_}
+use native.Mathlib.Omega.{arith}
+use denote.Ref.{now}
+use borrow.Author.Needs.{needs}
+use borrow.Author.Tests.{not-true, not-false}
+use lib.ListN.{length, take}
+use lib.Seq.{length-take-le}
+use Rattle.descriptors.specs.Writes.{isComplete}
+use Rattle.descriptors.specs.declared.Next.the-variants.{Complete}
+use Rattle.descriptors.proofs.CallAnswers.{bytes-within}
+use Rattle.descriptors.proofs.Reported.{complete-is}
+use Rattle.relay.proofs.Relays.{RelayedSoFar, relayed-none, relaying, broken-off, one-more}
+use Rattle.relay.proofs.answer_blocks.Statement.{statement}
+use Rattle.relay.proofs.answer_blocks.Tie as tie
+
+abbrev Inv-loop : tie.InvT-loop
+Inv-loop input output site house block₀ out₀ state₀ received₀ sent₀ last₀ turns₀ block out state received sent last turns = RelayedSoFar (record { site = site; house = house }) state received sent × (length block ≡ length block₀) × (length out ≡ length out₀)
+
+abbrev μ-loop : tie.MeasureT-loop
+μ-loop input output site house block₀ out₀ state₀ received₀ sent₀ last₀ turns₀ block out state received sent last turns = turns
+
+start-requires : tie.Need-start-requires Inv-loop μ-loop
+start-requires c κs = search needs
+
+loop-holds : tie.Need-loop-holds Inv-loop μ-loop
+loop-holds c = (relayed-none _ _ (c .start .ensures), refl, refl)
+
+read-some-requires : tie.Need-read-some-requires Inv-loop μ-loop
+read-some-requires c κs = search needs
+
+bytes-read-requires : tie.Need-bytes-read-requires Inv-loop μ-loop
+bytes-read-requires c κs = search needs
+
+slice-reshare-prefix-pass-block : tie.Need-slice-reshare-prefix-pass-block Inv-loop μ-loop
+slice-reshare-prefix-pass-block c =
+    let r = c .before .before .before .before .read-some in
+    rw (c .before .bytes-read .ensures) (bytes-within (r .last .1 .0) (r .result) (r .ensures))
+
+slice-aggregate-pass-block : tie.Need-slice-aggregate-pass-block Inv-loop μ-loop
+slice-aggregate-pass-block c =
+    let r = c .before .before .before .before .before .read-some in
+    sym (length-take-le (c .before .before .bytes-read .result) (r .last .1 .0) (rw (c .before .before .bytes-read .ensures) (bytes-within (r .last .1 .0) (r .result) (r .ensures))))
+
+pass-block-requires : tie.Need-pass-block-requires Inv-loop μ-loop
+pass-block-requires c κs = omega arith
+
+wrapping-add-usize-requires : tie.Need-wrapping-add-usize-requires Inv-loop μ-loop
+wrapping-add-usize-requires c κs = search needs
+
+wrapping-add-usize-requires-2 : tie.Need-wrapping-add-usize-requires-2 Inv-loop μ-loop
+wrapping-add-usize-requires-2 c κs = search needs
+
+is-complete-requires : tie.Need-is-complete-requires Inv-loop μ-loop
+is-complete-requires c κs = search needs
+
+same-length : tie.Need-same-length Inv-loop μ-loop
+same-length c = search needs
+
+same-length-2 : tie.Need-same-length-2 Inv-loop μ-loop
+same-length-2 c = search needs
+
+returns : tie.Need-returns Inv-loop μ-loop
+returns c =
+    let p = c .before .before .before .before .before .before .before .pass-block in
+    let l = c .before .before .before .before .before .before .before .before .before .before .before .before .before .before .before .before .before .loop in
+    let other : isComplete (p .result .next) ≡ false = sym (c .before .is-complete .ensures) ∙ not-true (c .before .is-complete .result) (c .if2 .taken) in
+    broken-off (l .inv .0) (p .ensures) (λ e. false≢true (sym other ∙ ap isComplete e)) _ _ _
+
+sub-turns : tie.Need-sub-turns Inv-loop μ-loop
+sub-turns c = omega arith
+
+loop-less : tie.Need-loop-less Inv-loop μ-loop
+loop-less c = omega arith
+
+loop-again : tie.Need-loop-again Inv-loop μ-loop
+loop-again c =
+    let p = c .before .before .before .before .before .before .before .pass-block in
+    let r = c .before .before .before .before .before .before .before .before .before .before .before .before .before .before .read-some in
+    let b = c .before .before .before .before .before .before .before .before .before .before .before .bytes-read in
+    let l = c .before .before .before .before .before .before .before .before .before .before .before .before .before .before .before .before .before .loop in
+    let full : p .result .next ≡ Complete = complete-is (p .result .next) (sym (c .before .is-complete .ensures) ∙ not-false (c .before .is-complete .result) (c .if2 .left)) in
+    let held : length (take (b .result) (r .last .1 .0)) ≡ b .result = length-take-le (b .result) (r .last .1 .0) (rw (b .ensures) (bytes-within (r .last .1 .0) (r .result) (r .ensures))) in
+    let total = c .before .before .before .wrapping-add-usize .ensures ∙ ap (λ (k : ℕ). (l .received + k) % 2 ^ 64) (sym held) in
+    (one-more (l .inv .0) (p .ensures) full _ _ total (c .before .before .wrapping-add-usize2 .ensures), search needs, search needs)
+
+same-length-3 : tie.Need-same-length-3 Inv-loop μ-loop
+same-length-3 c = c .before .loop .inv .1
+
+same-length-4 : tie.Need-same-length-4 Inv-loop μ-loop
+same-length-4 c = c .before .loop .inv .2
+
+returns-2 : tie.Need-returns-2 Inv-loop μ-loop
+returns-2 c = relaying (c .before .loop .inv .0) _
+
+same-length-5 : tie.Need-same-length-5 Inv-loop μ-loop
+same-length-5 c = search needs
+
+same-length-6 : tie.Need-same-length-6 Inv-loop μ-loop
+same-length-6 c = c .before .before .before .before .before .before .before .loop .inv .2
+
+returns-3 : tie.Need-returns-3 Inv-loop μ-loop
+returns-3 c = relaying (c .before .before .before .before .before .before .before .loop .inv .0) _
+
+pub answer-blocks-spec : {M : Type 1} → statement M
+answer-blocks-spec =
+    tie.close
+    (tie.spec
+    Inv-loop
+    μ-loop
+    start-requires
+    loop-holds
+    read-some-requires
+    bytes-read-requires
+    slice-reshare-prefix-pass-block
+    slice-aggregate-pass-block
+    pass-block-requires
+    wrapping-add-usize-requires
+    wrapping-add-usize-requires-2
+    is-complete-requires
+    same-length
+    same-length-2
+    returns
+    sub-turns
+    loop-less
+    loop-again
+    same-length-3
+    same-length-4
+    returns-2
+    same-length-5
+    same-length-6
+    returns-3)
