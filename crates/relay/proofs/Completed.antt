@@ -12,7 +12,7 @@ use Rattle.relay.specs.declared.Ending.{Ending}
 use Rattle.relay.specs.declared.Ending.the-variants.{Complete, Closed, Failed, Refused}
 
 -- a write that leaves a complete ending is complete
-written : (next : Next) → endingOf next ≡ Complete → next ≡ Next.Complete
+pub written : (next : Next) → endingOf next ≡ Complete → next ≡ Next.Complete
 written Next.Go e = let z : _≡_ {A = ℕ} 0 1 = cc in absurd (omega arith)
 written Next.Wait e = let z : _≡_ {A = ℕ} 0 1 = cc in absurd (omega arith)
 written Next.Complete e = refl

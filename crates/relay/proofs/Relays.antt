@@ -22,10 +22,13 @@ use Rattle.descriptors.specs.declared.Next.the-variants.{Complete}
 use Rattle.descriptors.proofs.Reported.{known}
 use Rattle.relay.specs.Endings.{lastOf, endingOf}
 use Rattle.relay.specs.Passing.{Passing}
-use Rattle.relay.specs.Relayed.{Relaying, Relayed}
+use Rattle.relay.specs.Relayed.{Relaying, Relayed, Transcribed}
 use Rattle.relay.specs.declared.Passed.{Passed}
 use Rattle.relay.specs.declared.Run.{Run}
-use Rattle.relay.proofs.Completed.{completed}
+use Rattle.relay.specs.declared.Answered.{Answered}
+use Rattle.relay.specs.declared.Ending.{Ending}
+use Rattle.relay.specs.declared.Ending.the-variants as Ending
+use Rattle.relay.proofs.Completed.{completed, written}
 
 -- two counts in 64 bits, added
 both-counted : (a b s t : ℕ) → s ≡ a % 2 ^ 64 → t ≡ b % 2 ^ 64 → (s + t) % 2 ^ 64 ≡ (a + b) % 2 ^ 64
@@ -135,3 +138,10 @@ module _ {n : NameLists} {run : Run} (so : Relaying n run) where
             ∙ mod-add-mod (length (feedText n feedStart (so .input))) (2 ^ 64) (length (endText (run .feed)))
             ∙ ap (λ (x : ℕ). x % 2 ^ 64) (sym whole);
       }
+
+-- what is told of it
+pub transcribed : {n : NameLists} {run : Run} → Relayed n run → (ending : Ending) → ending ≡ endingOf (run .next) → ending ≡ Ending.Complete
+    → Transcribed n (record { ending = ending; received = run .received; sent = run .sent })
+transcribed {run = run} so ending e c =
+    let full = written (run .next) (sym e ∙ c) in
+    record { input = so .input; received = so .received full; replies = so .replies full }

@@ -9,6 +9,7 @@ use Rattle.lines.specs.Stream.{feedStart, feedState, feedText, transcript}
 use Rattle.descriptors.specs.declared.Reading.the-variants.{End}
 use Rattle.descriptors.specs.declared.Next.the-variants.{Complete}
 use Rattle.relay.specs.declared.Run.{Run}
+use Rattle.relay.specs.declared.Answered.{Answered}
 
 -- a run over blocks, before the end of the input is answered
 pub record Relaying (n : NameLists) (r : Run) : Type 0 where
@@ -33,3 +34,12 @@ pub record Relayed (n : NameLists) (r : Run) : Type 0 where
   pub received : r .next ≡ Complete → r .received ≡ length input % 2 ^ 64
   -- and as many bytes are reported written as the whole output of this input has
   pub replies : r .next ≡ Complete → r .sent ≡ length (transcript n input) % 2 ^ 64
+
+-- what a caller is told of an input that was answered to its end
+pub record Transcribed (n : NameLists) (r : Answered) : Type 0 where
+  -- the input
+  pub input : List ℕ
+  -- its bytes are as many as reads reported (counted in 64 bits)
+  pub received : r .received ≡ length input % 2 ^ 64
+  -- and as many are reported written as its whole output has
+  pub replies : r .sent ≡ length (transcript n input) % 2 ^ 64

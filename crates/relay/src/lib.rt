@@ -27,7 +27,7 @@ ghost use lib.ListN.{length};
 ghost use Rattle.names.specs.Lists.{NameLists};
 ghost use Rattle.descriptors.specs.Writes.{Reached};
 ghost use Rattle.relay.specs.Passing.{Passing};
-ghost use Rattle.relay.specs.Relayed.{Relaying, Relayed};
+ghost use Rattle.relay.specs.Relayed.{Relaying, Relayed, Transcribed};
 ghost use Rattle.relay.specs.Fitness.{Unfit};
 ghost use Rattle.answers.specs.Written.{replyRoom};
 
@@ -55,6 +55,24 @@ pub enum Ending {
     Closed,
     Failed,
     Refused,
+}
+
+// What became of an input: how its lines ended, the number of bytes reported read, and the number reported written.
+pub struct Answered {
+    pub ending: Ending,
+    pub received: usize,
+    pub sent: usize,
+}
+
+// An input that is not read.
+fn refused() -> Answered
+    ensures { λ r. ⌜ r ≡ record { ending = Ending.Refused; received = 0; sent = 0 } ⌝ }
+{
+    Answered {
+        ending: Ending::Refused,
+        received: 0,
+        sent: 0,
+    }
 }
 
 // Answers a block: what the output holds is written before more of the block is answered.
@@ -195,20 +213,25 @@ pub fn answer_input<'a>(
     house: &'a [u8],
     block: &mut [u8],
     out: &mut [u8],
-) -> Ending
-    ensures refused { λ r. ⌜ (Unfit (now (block .entry)) (now (out .entry)) → r ≡ Ending.Refused) ⌝ }
-    ensures fit { λ r. ⌜ (r ≡ Ending.Refused → Unfit (now (block .entry)) (now (out .entry))) ⌝ }
+) -> Answered
+    ensures refused { λ r. ⌜ (Unfit (now (block .entry)) (now (out .entry)) → r .ending ≡ Ending.Refused) ⌝ }
+    ensures fit { λ r. ⌜ (r .ending ≡ Ending.Refused → Unfit (now (block .entry)) (now (out .entry))) ⌝ }
     ensures unused { λ _. ⌜ (Unfit (now (block .entry)) (now (out .entry)) → (now (block .exit) ≡ now (block .entry)) × (now (out .exit) ≡ now (out .entry))) ⌝ }
+    ensures complete { λ r. ⌜ (r .ending ≡ Ending.Complete → Transcribed (record { site = now (site .entry); house = now (house .entry) }) r) ⌝ }
 {
     if block.len() == 0 {
-        return Ending::Refused;
+        return refused();
     }
     if out.len() < REPLY_ROOM {
-        return Ending::Refused;
+        return refused();
     }
     let run = answer_all(input, output, site, house, block, out);
     let next = run.next;
-    ending_of(next)
+    Answered {
+        ending: ending_of(next),
+        received: run.received,
+        sent: run.sent,
+    }
 }
 
 // Answers the lines that come from the input, with names from the lists of two files, once both are read: what keeps one from being
@@ -220,7 +243,9 @@ pub fn answer_with_files(
     house_path: &[u8],
     block: &mut [u8],
     out: &mut [u8],
-) -> Ending {
+) -> Ending
+    ensures { λ r. ⌜ (r ≡ Ending.Refused → Unfit (now (block .entry)) (now (out .entry))) ⌝ }
+{
     let mut site = io::large_buffer();
     let FileRead::Bytes(n) = read_file(site_path, &mut site) else {
         return Ending::Failed;
@@ -229,5 +254,7 @@ pub fn answer_with_files(
     let FileRead::Bytes(m) = read_file(house_path, &mut house) else {
         return Ending::Failed;
     };
-    answer_input(input, output, &site[..n], &house[..m], block, out)
+    let answered = answer_input(input, output, &site[..n], &house[..m], block, out);
+    let ending = answered.ending;
+    ending
 }

@@ -60,7 +60,9 @@ fn answer_with_arguments(first: usize) -> u64
     let mut out = io::large_buffer();
     let count = os::arg_count();
     if count <= first {
-        return status_of(answer_input(STDIN_FILENO, STDOUT_FILENO, b"", b"", &mut block, &mut out));
+        let answered = answer_input(STDIN_FILENO, STDOUT_FILENO, b"", b"", &mut block, &mut out);
+        let ending = answered.ending;
+        return status_of(ending);
     }
     if count == first + 2 {
         return answer_with_lists(first, &mut block, &mut out);

