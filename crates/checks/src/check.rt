@@ -92,8 +92,16 @@ fn mask_not_listed(device: Device, code: u8, mask: u8, listing: Listing) -> bool
     false
 }
 
+// The same of a code and a mask that are looked up here.
+pub fn mask_unlisted(device: Device, code: u8, mask: u8) -> bool
+    ensures { λ r. ⌜ r ≡ maskNotListed device code mask ⌝ }
+{
+    let listing = look_up(device, code, mask);
+    mask_not_listed(device, code, mask, listing)
+}
+
 // Whether an allowed set has a counter that the device has not.
-fn too_wide(device: Device, allowed: CounterSet) -> bool
+pub fn too_wide(device: Device, allowed: CounterSet) -> bool
     ensures { λ r. ⌜ r ≡ tooWide device allowed ⌝ }
 {
     let all = all_counters(device);

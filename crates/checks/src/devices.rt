@@ -63,7 +63,7 @@ pub fn letter_of(d: Device) -> u64
 }
 
 // How many boxes the device has.
-fn box_count(d: Device) -> u64
+pub fn box_count(d: Device) -> u64
     ensures { λ r. ⌜ r ≡ boxCount d ⌝ }
 {
     match d {
@@ -125,7 +125,7 @@ pub fn pairs_judged(d: Device) -> bool
 }
 
 // Whether a usable set has a counter, and none past the device's.
-fn usable_set(d: Device, usable: CounterSet) -> bool
+pub fn usable_set(d: Device, usable: CounterSet) -> bool
     ensures { λ r. ⌜ r ≡ usableSet d usable ⌝ }
 {
     let counters = usable.0;

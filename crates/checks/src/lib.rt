@@ -5,6 +5,8 @@ pub mod catalogue;
 mod cbox_events;
 pub mod check;
 pub mod devices;
+pub mod faults;
+pub mod fields;
 mod halving;
 mod mask_rules;
 pub mod refusals;

@@ -95,7 +95,7 @@ listed-holds d r (code {c = c} on none) = rw (codes-judged d on) (ap not (eq-fal
 -- ---- masks of a code's own
 
 -- a code that is listed, but not with the mask
-mask-row : (d : Device) (c m : ℕ) → maskNotListed d c m ≡ true → CodesOn d × ((masks : MaskRule) × InCatalogue d c masks × (¬ Lists masks m))
+pub mask-row : (d : Device) (c m : ℕ) → maskNotListed d c m ≡ true → CodesOn d × ((masks : MaskRule) × InCatalogue d c masks × (¬ Lists masks m))
 unfolding maskNotListed
 mask-row d c m h = ⊎-elim pairs codes (judged d)
   where
@@ -111,7 +111,7 @@ mask-row d c m h = ⊎-elim pairs codes (judged d)
         let row = code-row (eventsOf d) c (p .0) in
         (on, (row .0, row .1, λ l. both-ways (row-pair (eventsOf d) c m (row .0) (row .1) l) (not-true _ (p .1))))
 
-row-mask : (d : Device) → CodesOn d → (c m : ℕ) (masks : MaskRule) → InCatalogue d c masks → ¬ Lists masks m → maskNotListed d c m ≡ true
+pub row-mask : (d : Device) → CodesOn d → (c m : ℕ) (masks : MaskRule) → InCatalogue d c masks → ¬ Lists masks m → maskNotListed d c m ≡ true
 unfolding maskNotListed
 row-mask d on c m masks row out =
     true-both _ _ (ap not (codes-judged d on))

@@ -24,3 +24,7 @@ pub mod CBoxPages
 pub mod Rounds
 pub mod Sizes
 pub mod Windows
+pub mod FaultRows
+pub mod FailingFields
+pub mod FailingOpenings
+pub mod FaultFields

@@ -7,14 +7,17 @@ pub mod MaskRules
 pub mod CBoxEvents
 pub mod Catalogue
 pub mod Checks
+pub mod Faults
 -- Statements: what is claimed of it.
 pub mod Openings
 pub mod RefusedRequests
 pub mod WellFormedRequests
+pub mod FaultFields
 pub mod PrintedEvents
 pub mod CBoxPages
 pub mod Rounds
 pub mod Examples
+pub mod FaultExamples
 -- The code's own: how it holds its values. No claim.
 pub mod Choice
 pub mod Masks

@@ -121,3 +121,22 @@ pub enum Answer {
     Accepted,
     Refused(Refusal),
 }
+
+// A refusal, and the field at fault, counted from 0 at the verb of the line that makes the call.
+pub struct Fault {
+    pub refusal: Refusal,
+    pub field: usize,
+}
+
+// What the checks of a call say: nothing is at fault, or this.
+pub enum Checked {
+    Passed,
+    Failed(Fault),
+}
+
+// The fields of a call that are at fault under 3, 10 and 9, which alone depend on what the call was given; 0 for a number that it never gets.
+pub struct Fields {
+    pub opening: usize,
+    pub range: usize,
+    pub lack: usize,
+}
