@@ -17,7 +17,7 @@ use requests::Fields;
 use requests::Opening;
 use requests::Request;
 ghost use mathlib.Core.Path.{_≡_};
-ghost use Rattle.requests.specs.Faults.{freezeField, rangeField, lackField, requestFields, openingField, askingField, openingFields, turnsFields, noFields};
+ghost use Rattle.requests.specs.Faults.{freezeField, rangeField, lackField, requestFields, openingField, askingField, fieldsOn, openingFields, turnsFields, noFields};
 
 // Where an event is refused with 10: the mask, or the allowed set.
 fn event_range_field(device: Device, code: u8, mask: u8, allowed: CounterSet) -> usize
@@ -151,6 +151,17 @@ fn asking_field(d: Device, o: Opening) -> usize
     freeze
 }
 
+// The fields of an open with the device's letter.
+fn fields_on(d: Device, o: Opening) -> Fields
+    ensures { λ r. ⌜ r ≡ fieldsOn d o ⌝ }
+{
+    Fields {
+        opening: opening_field(d, o),
+        range: asking_field(d, o),
+        lack: 0,
+    }
+}
+
 // The fields of an open: the letter, where no device has it.
 pub fn opening_fields(o: Opening) -> Fields
     ensures { λ r. ⌜ r ≡ openingFields o ⌝ }
@@ -161,11 +172,7 @@ pub fn opening_fields(o: Opening) -> Fields
     while i < devices.len() {
         let device = devices[i];
         if letter == letter_of(device) {
-            return Fields {
-                opening: opening_field(device, o),
-                range: asking_field(device, o),
-                lack: 0,
-            };
+            return fields_on(device, o);
         }
         i += 1;
     }

@@ -3,20 +3,22 @@ use mathlib.Core.Path.{_≡_, refl, ap, sym, _∙_}
 use mathlib.Core.Bool.{Bool, true, false, not}
 use mathlib.Core.List.{List, [], _∷_}
 use mathlib.Core.Option.{Option, none, some}
-use Prim.Native.Nat.{ℕ, _+_}
+use Prim.Native.Nat.{ℕ, _+_, _≤_}
 use native.Mathlib.Omega.{arith}
 use lib.Dec.{eqb, leb, ltb}
 use Rattle.requests.specs.Choice.{both, either, pick, Row, firstHolding}
 use Rattle.requests.specs.Bits.{onlyBits, typeBits, rsp0Bits, matchBits, maskBits}
 use Rattle.requests.specs.Refusals.{answerFor}
 use Rattle.requests.specs.Askings.{overflowNotOn, coreFits, overflowFits}
-use Rattle.requests.specs.Devices.{allFixed, boxCount, deviceOf, usableSet, opens, rowsWhere, onDevice, openingTable}
+use Rattle.requests.specs.Devices.{allFixed, boxCount, deviceOf, usableSet, opens, rowsWhere, onDevice, openingTable, openedBy}
 use Rattle.requests.specs.Catalogue.{maskNotListed}
 use Rattle.requests.specs.Checks.{kindNotOn, notListed, tooWide, outOfRange, incomplete, conflicting, requestRows, requestRefusal}
-use Rattle.requests.specs.Faults.{at, refusalIn, checkedAs, freezeField, openingFaults, openingFaultTable, requestFaults, openingFault, requestFault, rangeField, lackField, requestFields, openingField, askingField, openingFields, fieldOf, withField}
+use Rattle.requests.specs.Faults.{at, refusalIn, checkedAs, freezeField, openingFaults, openingFaultTable, requestFaults, openingFault, requestFault, rangeField, lackField, requestFields, openingField, askingField, fieldsOn, openingFields, fieldOf, withField}
 use Rattle.requests.specs.declared.Device.{Device}
 use Rattle.requests.specs.declared.Setup.{Setup}
 use Rattle.requests.specs.declared.Opening.{Opening}
+use Rattle.requests.specs.declared.Opened.{Opened}
+use Rattle.requests.specs.declared.Opened.the-variants.{With}
 use Rattle.requests.specs.declared.Request.{Request}
 use Rattle.requests.specs.declared.Request.the-variants.{Event, Packet, Offcore, Latency}
 use Rattle.requests.specs.declared.Refusal.{Refusal}
@@ -25,6 +27,7 @@ use Rattle.requests.specs.declared.Answer.the-variants.{Accepted, Refuse
 use Rattle.requests.specs.declared.Checked.the-variants.{Passed, Failed}
 use Rattle.requests.specs.declared.Fault.{Fault}
 use Rattle.requests.specs.declared.Fields.{Fields}
+use Rattle.requests.proofs.Openings.{opened-some, opened-none, taken-table}
 
 -- ---- requests
 
@@ -112,7 +115,7 @@ opening-rows true true true false true true n = refl
 
 -- the fault of an opening is its refusal with that field
 pub opening-told : (o : Opening) → openingFault o ≡ withField (openingFields o) (firstHolding (openingTable o))
-unfolding openingFault openingFaultTable openingFaults openingFields openingField askingField openingTable rowsWhere onDevice opens overflowFits firstHolding withField fieldOf
+unfolding openingFault openingFaultTable openingFaults openingFields fieldsOn openingField askingField openingTable rowsWhere onDevice opens overflowFits firstHolding withField fieldOf
 opening-told o = go (deviceOf (o .device) (o .cbox)) refl
   where
     go : (x : Option Device) → deviceOf (o .device) (o .cbox) ≡ x → openingFault o ≡ withField (openingFields o) (firstHolding (openingTable o))
@@ -120,6 +123,15 @@ opening-told o = go (deviceOf (o .device) (o .cbox)) refl
     go (some d) h =
         rw (h, openingFault, openingFaultTable, openingFields, openingTable, onDevice)
         (opening-rows (usableSet d (o .usable)) (leb (o .fixed) (allFixed d)) (ltb (o .cbox) (boxCount d)) (overflowNotOn d (o .overflow)) (leb (o .overflow .freeze) 1) (coreFits (o .overflow .core)) (freezeField d))
+
+-- the fields of an opening with the letter of a device, or of none
+pub fields-on : (o : Opening) (d : Device) → deviceOf (o .device) (o .cbox) ≡ some d → openingFields o ≡ fieldsOn d o
+unfolding openingFields
+fields-on o d h = rw (h, openingFields)
+
+pub fields-none : (o : Opening) → deviceOf (o .device) (o .cbox) ≡ none → openingFields o ≡ record { opening = 1; range = 0; lack = 0 }
+unfolding openingFields
+fields-none o h = rw (h, openingFields)
 
 -- ---- the field beside a refusal
 
@@ -139,3 +151,21 @@ pub failed-told : (f : Fields) (x : Option Refusal) (y : Refusal) → answerFor 
 unfolding answerFor checkedAs withField
 failed-told f none y e = let z : _≡_ {A = ℕ} 0 1 = cc in absurd (omega arith)
 failed-told f (some x) y e = let h : x ≡ y = cc in ap (λ (z : Refusal). Failed (at z (fieldOf z f))) h
+
+-- the field of the freeze is a small number
+pub freeze-small : (d : Device) (n : ℕ) → n ≡ freezeField d → n ≤ 5
+unfolding freezeField
+freeze-small d n e = rw e (go (ltb 1 (boxCount d)))
+  where
+    go : (b : Bool) → pick b 5 4 ≤ 5
+    go true = omega arith
+    go false = omega arith
+
+-- what an opening opens, and what is told of it with its field
+pub opening-passes : (o : Opening) (s : Setup) → openedBy o ≡ With s → checkedAs (openingFault o) ≡ Passed
+unfolding checkedAs withField
+opening-passes o s e = ap checkedAs (opening-told o ∙ ap (withField (openingFields o)) (taken-table o s (opened-some o s e)))
+
+pub opening-fails : (o : Opening) (x : Refusal) → openedBy o ≡ Opened.Refused x → checkedAs (openingFault o) ≡ Failed (at x (fieldOf x (openingFields o)))
+unfolding checkedAs withField
+opening-fails o x e = ap checkedAs (opening-told o ∙ ap (withField (openingFields o)) (opened-none o x e .1))

@@ -126,13 +126,12 @@ openingField d o = pick (usableSet d (o .usable)) (pick (leb (o .fixed) (allFixe
 unfoldable pub askingField : Device → Opening → ℕ
 askingField d o = pick (leb (o .overflow .freeze) 1) (freezeField d + 1) (freezeField d)
 
--- the fields of an open
+-- the fields of an open, by the device of its letter
+unfoldable pub fieldsOn : Device → Opening → Fields
+fieldsOn d o = record { opening = openingField d o; range = askingField d o; lack = 0 }
+
 unfoldable pub openingFields : Opening → Fields
-openingFields o =
-    elim (deviceOf (o .device) (o .cbox)) [
-      | none ↦ record { opening = 1; range = 0; lack = 0 }
-      | some d ↦ record { opening = openingField d o; range = askingField d o; lack = 0 }
-    ]
+openingFields o = elim (deviceOf (o .device) (o .cbox)) [ none ↦ record { opening = 1; range = 0; lack = 0 } | some d ↦ fieldsOn d o ]
 
 -- those of order 6's call: 10 is at the number of turns
 unfoldable pub turnsFields : Fields
