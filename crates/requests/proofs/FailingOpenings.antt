@@ -11,7 +11,7 @@ use borrow.Author.Tests.{ltb-true, ltb-false, leb-true, leb-false}
 use Rattle.requests.specs.Choice.{both, firstHolding}
 use Rattle.requests.specs.Askings.{coreCount, overflowNotOn, coreFits}
 use Rattle.requests.specs.Devices.{allCounters, allFixed, letterOf, boxCount, devices, named, deviceOf, usableSet, onDevice}
-use Rattle.requests.specs.Openings.{letterCode, mostUsable, mostFixed, mostBox}
+use Rattle.requests.specs.Openings.{letterCode, mostUsable, mostFixed, mostBox, GivenFor}
 use Rattle.requests.specs.Faults.{at, freezeField, openingFaults, openingFaultTable, openingFault}
 use Rattle.requests.specs.FaultFields.{freezeAt, OpeningFailsAt, letter, none-usable, usable-above, fixed-above, box-above, asked-elsewhere, freeze-above, core-above}
 use Rattle.requests.specs.declared.Core.{Core}
@@ -24,7 +24,7 @@ use Rattle.requests.specs.declared.Refusal.the-variants.{BadOpening, Kin
 use Rattle.requests.specs.declared.Fault.{Fault}
 use Rattle.requests.proofs.Tests.{both-ways, both-parts}
 use Rattle.requests.proofs.DeviceNumbers.{numbers}
-use Rattle.requests.proofs.Openings.{letter-is}
+use Rattle.requests.proofs.Openings.{letter-named, letter-is}
 use Rattle.requests.proofs.OpeningsTaken.{kind-row, openings}
 
 -- the opening fails in the field of the fault, and in no field left of it
@@ -184,3 +184,14 @@ opening-leftmost o f e = go (deviceOf (o .device) (o .cbox)) refl
     go : (x : Option Device) → deviceOf (o .device) (o .cbox) ≡ x → OpeningLeftmost o f
     go none h = found (at BadOpening 1) f (rw (h, openingFault, openingFaultTable) at e) (record { fails = letter (unknown-letter (o .device) (o .cbox) h); first = letter-left o })
     go (some d) h = known-fault o d h f (rw (h, openingFault, openingFaultTable) at e)
+
+-- what fails under 3 is given for no device
+given-alike : (o : Opening) (d e : Device) → GivenFor o d → o .device ≡ letterCode e → Alike d e
+given-alike o d e given l = alike (o .device) (o .cbox) d e (letter-named (o .device) (o .cbox) d (given .letter) (given .box)) l
+
+pub not-given : (o : Opening) (d : Device) → GivenFor o d → (k : ℕ) → ¬ OpeningFailsAt o BadOpening k
+not-given o d given k (letter h) = h d (given .letter ∙ openings .letters d)
+not-given o d given k (none-usable e l h) = absurd (omega (arith, given .at-least))
+not-given o d given k (usable-above e l h) = absurd (omega (arith, given .at-most, numbers d .usable-most, given-alike o d e given l .usable))
+not-given o d given k (fixed-above e l h) = absurd (omega (arith, given .fixed-at-most, given-alike o d e given l .fixed))
+not-given o d given k (box-above e l h) = absurd (omega (arith, given .box-at-most, given-alike o d e given l .box))

@@ -2,7 +2,8 @@
 -- fail under one number, the leftmost." What fails in which field, in the words of the rows of document 01 and the orders, a constructor for each
 -- number and field of a line.
 use mathlib.Core.Path.{_≡_}
-use mathlib.Core.Option.{Option, some}
+use mathlib.Core.Logic.{_↔_}
+use mathlib.Core.Option.{some}
 use Prim.Native.Nat.{ℕ, suc, _<_}
 use Rattle.requests.specs.Bits.{typeBits, rsp0Bits, matchBits, maskBits}
 use Rattle.requests.specs.Choice.{firstHolding}
@@ -84,11 +85,12 @@ pub record FaultFields : Type 0 where
   pub leftmost : (s : Setup) (r : Request) (f : Fault) → requestFault s r ≡ some f → (k : ℕ) → k < f .field → ¬ FailsAt (s .device) r (f .refusal) k
   pub opening-fails : (o : Opening) (f : Fault) → openingFault o ≡ some f → OpeningFailsAt o (f .refusal) (f .field)
   pub opening-leftmost : (o : Opening) (f : Fault) → openingFault o ≡ some f → (k : ℕ) → k < f .field → ¬ OpeningFailsAt o (f .refusal) k
-  -- the fields share out what document 01 and the orders say of each number: where that holds, it holds in a field
-  pub seven : (d : Device) (r : Request) → rows.KindNotOn d r → FailsAt d r KindNotOnDevice 0
-  pub eight : (d : Device) (r : Request) → rows.NotListed d r → FailsAt d r NotListed 2
-  pub nine : (d : Device) (r : Request) → rows.Incomplete d r → (k : ℕ) × FailsAt d r Incomplete k
-  pub ten : (d : Device) (r : Request) → rows.OutOfRange d r → (k : ℕ) × FailsAt d r OutOfRange k
-  pub eleven : (d : Device) (r : Request) → rows.Conflicting d r → FailsAt d r Conflicting 2
-  pub opening-three : (o : Opening) → ((d : Device) → ¬ GivenFor o d) → (k : ℕ) × OpeningFailsAt o BadOpening k
-  pub opening-ten : (o : Opening) (d : Device) → o .device ≡ letterCode d → ¬ InRange (o .overflow) → (k : ℕ) × OpeningFailsAt o OutOfRange k
+  -- the fields share out what document 01 and the orders say of each number
+  pub seven : (d : Device) (r : Request) → rows.KindNotOn d r ↔ ((k : ℕ) × FailsAt d r KindNotOnDevice k)
+  pub eight : (d : Device) (r : Request) → rows.NotListed d r ↔ ((k : ℕ) × FailsAt d r NotListed k)
+  pub nine : (d : Device) (r : Request) → rows.Incomplete d r ↔ ((k : ℕ) × FailsAt d r Incomplete k)
+  pub ten : (d : Device) (r : Request) → rows.OutOfRange d r ↔ ((k : ℕ) × FailsAt d r OutOfRange k)
+  pub eleven : (d : Device) (r : Request) → rows.Conflicting d r ↔ ((k : ℕ) × FailsAt d r Conflicting k)
+  pub opening-three : (o : Opening) → ((d : Device) → ¬ GivenFor o d) ↔ ((k : ℕ) × OpeningFailsAt o BadOpening k)
+  pub opening-seven : (o : Opening) → (NotAsked o × (¬ NothingAsked (o .overflow))) ↔ ((k : ℕ) × OpeningFailsAt o KindNotOnDevice k)
+  pub opening-ten : (o : Opening) (d : Device) → o .device ≡ letterCode d → (¬ InRange (o .overflow)) ↔ ((k : ℕ) × OpeningFailsAt o OutOfRange k)

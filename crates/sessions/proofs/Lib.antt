@@ -30,3 +30,5 @@ pub mod Promised
 pub mod Demand3
 pub mod TurnPlan
 pub mod AcceptanceTests
+pub mod FaultTable
+pub mod FaultRows

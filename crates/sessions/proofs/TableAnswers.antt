@@ -49,13 +49,13 @@ plain-opened s h = rw (h, plainOf)
 -- ---- tables one after the other
 
 module _ {A : Type 0} where
-  holding-first : (xs ys : List (Row A)) (x : A) → firstHolding xs ≡ some x → firstHolding (xs ++ ys) ≡ some x
+  pub holding-first : (xs ys : List (Row A)) (x : A) → firstHolding xs ≡ some x → firstHolding (xs ++ ys) ≡ some x
   unfolding firstHolding
   holding-first [] ys x h = let z : _≡_ {A = ℕ} 0 1 = cc in absurd (omega arith)
   holding-first ((true, a) ∷ xs) ys x h = h
   holding-first ((false, a) ∷ xs) ys x h = holding-first xs ys x h
 
-  holding-rest : (xs ys : List (Row A)) → firstHolding xs ≡ none → firstHolding (xs ++ ys) ≡ firstHolding ys
+  pub holding-rest : (xs ys : List (Row A)) → firstHolding xs ≡ none → firstHolding (xs ++ ys) ≡ firstHolding ys
   unfolding firstHolding
   holding-rest [] ys h = refl
   holding-rest ((true, a) ∷ xs) ys h = let z : _≡_ {A = ℕ} 0 1 = cc in absurd (omega arith)

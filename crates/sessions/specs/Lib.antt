@@ -3,6 +3,7 @@ pub mod Choose
 pub mod Turns
 pub mod Calls
 pub mod Table
+pub mod FaultTable
 pub mod Plain
 pub mod Sessions
 pub mod Completed
@@ -10,6 +11,7 @@ pub mod Sound
 -- Statements: what is claimed of it.
 pub mod RefusalTable
 pub mod Fresh
+pub mod FaultRows
 pub mod Unchanged
 pub mod QueueRules
 pub mod TurnByTurn
