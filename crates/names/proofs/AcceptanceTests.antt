@@ -11,8 +11,9 @@ use Rattle.records.specs.Text.{bytes, tab, newline}
 use Rattle.names.specs.EventNames.{nameByte, nameBytes, longestName, isName}
 use Rattle.names.specs.Lists.{rowTexts, isEnded, allFormed, wellFormed, listsFormed}
 use Rattle.names.specs.LookUp.{topRow, rowNamed}
+use Rattle.names.specs.Named.{namedField}
 use Rattle.names.specs.Rows.{numbersOn, rowOf, hasName}
-use Rattle.names.specs.Examples.{FindExamples, ListExamples, RowExamples}
+use Rattle.names.specs.Examples.{FieldExamples, FindExamples, ListExamples, RowExamples}
 
 pub rows-read : RowExamples
 unfolding both letterOf devices named deviceOf tabbed fields lettered digitOf numberFrom hexOf bytes tab nameByte nameBytes longestName isName numbersOn rowOf
@@ -25,3 +26,7 @@ lists-tested = refl
 pub names-find : FindExamples
 unfolding flatMap both letterOf devices named deviceOf tabbed typed fields sameBytes lettered digitOf numberFrom hexOf bytes tab newline nameByte nameBytes longestName isName rowTexts isEnded allFormed wellFormed listsFormed topRow rowNamed numbersOn rowOf hasName
 names-find = refl
+
+pub fields-are : FieldExamples
+unfolding namedField
+fields-are = refl

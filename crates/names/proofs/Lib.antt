@@ -9,3 +9,4 @@ pub mod RowTexts
 pub mod GrammarHolds
 pub mod RowsFound
 pub mod Requesting
+pub mod NamedFields

@@ -11,6 +11,7 @@ use Rattle.records.specs.Examples.{tabbed, typed}
 use Rattle.names.specs.Rows.{rowOf}
 use Rattle.names.specs.Lists.{NameLists, wellFormed}
 use Rattle.names.specs.LookUp.{rowNamed}
+use Rattle.names.specs.Named.{namedField}
 use Rattle.names.specs.declared.RowRead.{RowRead}
 use Rattle.names.specs.declared.RowRead.the-variants.{Formed, Bad}
 
@@ -99,3 +100,7 @@ ListExamples = map (λ (e : List ℕ × Bool). wellFormed (e .0)) lists ≡ map 
 
 abbrev pub FindExamples : Type 0
 FindExamples = map (λ (e : Find). rowNamed (e .lists) (bytes (e .name))) finds ≡ map (λ (e : Find). asBytes (e .row)) finds
+
+-- order 11: the fields verb, id, code, mask and allowed of an event, and those of the `named` line
+abbrev pub FieldExamples : Type 0
+FieldExamples = map namedField (0 ∷ 1 ∷ 2 ∷ 3 ∷ 4 ∷ []) ≡ 0 ∷ 1 ∷ 2 ∷ 2 ∷ 3 ∷ []

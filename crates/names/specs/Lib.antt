@@ -9,4 +9,5 @@ pub mod NamesTested
 pub mod RowGrammar
 pub mod RowsFound
 pub mod NamedRequests
+pub mod NamedFields
 pub mod Examples

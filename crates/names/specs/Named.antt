@@ -1,7 +1,7 @@
 -- Document 02, order 9: the request that a name stands for on a device.
 use mathlib.Core.List.{List}
-use Prim.Native.Nat.{ℕ}
-use lib.Dec.{eqb}
+use Prim.Native.Nat.{ℕ, _-_}
+use lib.Dec.{eqb, leb}
 use Rattle.requests.specs.Choice.{pick}
 use Rattle.requests.specs.Devices.{letterOf, packetsOn}
 use Rattle.requests.specs.declared.CounterSet.{CounterSet}
@@ -30,3 +30,7 @@ requestFor Bad d a = unlisted a
 -- the request of a name on a device
 unfoldable pub requestNamed : NameLists → List ℕ → Device → CounterSet → Request
 requestNamed n name d a = requestFor (rowOf (shown (rowNamed n name))) d a
+
+-- Order 11: the field of a `named` line (id, name, allowed) for a field of the event that its name stands for: the row's code and mask are at the name
+unfoldable pub namedField : ℕ → ℕ
+namedField k = pick (leb k 2) k (k - 1)

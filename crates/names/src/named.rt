@@ -10,7 +10,7 @@ use requests::Request;
 ghost use mathlib.Core.Path.{_≡_};
 ghost use mathlib.Core.Bool.{true};
 ghost use Rattle.names.specs.Lists.{NameLists, listsFormed};
-ghost use Rattle.names.specs.Named.{unlisted, foreign, requestFor, requestNamed};
+ghost use Rattle.names.specs.Named.{unlisted, foreign, requestFor, requestNamed, namedField};
 
 // An event that no device lists.
 fn unlisted(allowed: CounterSet) -> Request
@@ -70,4 +70,14 @@ pub fn request_named<'a>(
     ensures { λ r. ⌜ r ≡ requestNamed (record { site = now (site .entry); house = now (house .entry) }) (now (name .entry)) device allowed ⌝ }
 {
     request_for(row_of(row_named(name, site, house)), device, allowed)
+}
+
+// The field of a named line for a field of the event that its name stands for.
+pub fn named_field(field: usize) -> usize
+    ensures { λ r. ⌜ r ≡ namedField field ⌝ }
+{
+    if field <= 2 {
+        return field;
+    }
+    field - 1
 }
