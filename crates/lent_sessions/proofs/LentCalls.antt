@@ -74,7 +74,7 @@ unfolding lentRefusal lentTable refusal
 table-last s rows c h b = later-row (outOfOrder s c) CallOrder _ h ∙ later-row (badRows (s .setup) rows c) BadOpening _ b
 
 -- the plain queue refuses with 2 where the session does
-plain-order : (limit : ℕ) (s : LentSession) (rows : List Entry) (c : Call) → outOfOrder s c ≡ true → refusal limit (plainWith s rows) c ≡ some CallOrder
+pub plain-order : (limit : ℕ) (s : LentSession) (rows : List Entry) (c : Call) → outOfOrder s c ≡ true → refusal limit (plainWith s rows) c ≡ some CallOrder
 unfolding outOfOrder
 plain-order limit s rows (Open o) h = rw (with-opened s rows h) (open-again limit (s .setup) (standing rows) o)
 plain-order limit s rows (Add id r) h = rw (with-closed s rows (not-true (s .opened) h)) (add-closed limit id r)

@@ -6,3 +6,4 @@ pub mod LentHistories
 pub mod LentTurnPlan
 pub mod SameAsSmall
 pub mod AcceptanceTests
+pub mod LentFaults
