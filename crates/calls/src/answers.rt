@@ -2,14 +2,16 @@
 use crate::output::decimal;
 use crate::output::field;
 use crate::output::text;
+use checks::faults::field_of;
 use checks::refusals::number_of;
 use plans::Place;
 use requests::Answer;
 use requests::CAPACITY;
+use requests::Fields;
 use sessions::Assigned;
 use sessions::Session;
 
-// `ok`, or `no` and the number.
+// `ok`, or `no` and the number: an answer without a field, as the reader's.
 pub fn answer(a: Answer) {
     match a {
         Answer::Accepted => text(b"ok"),
@@ -20,9 +22,13 @@ pub fn answer(a: Answer) {
     }
 }
 
-// The answer in a line of its own.
-pub fn answer_line(a: Answer) {
+// The answer of a call with these fields, in a line of its own: `ok`, or `no`, the number and the field at fault.
+pub fn answer_line(a: Answer, fields: Fields) {
     answer(a);
+    match a {
+        Answer::Accepted => {}
+        Answer::Refused(refusal) => field(field_of(refusal, fields) as u64),
+    }
     text(b"\n");
 }
 

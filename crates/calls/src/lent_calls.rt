@@ -11,14 +11,18 @@ use crate::lending::open_rows;
 use crate::lending::turn_rows;
 use crate::output::slice;
 use crate::rows::rows_line;
+use checks::fields::no_fields;
+use checks::fields::request_fields;
+use lent_planner::faults::lent_opening_fields;
+use requests::Fields;
 use requests::Opening;
 use requests::Request;
 
-// The answer of an open, add or drop.
-fn answered(host: Host, done: AnsweredRows) -> Host {
+// The answer of an open, add or drop with these fields.
+fn answered(host: Host, done: AnsweredRows, fields: Fields) -> Host {
     let told = done.answered;
     let answer = told.answer;
-    answer_line(answer);
+    answer_line(answer, fields);
     let rows = done.rows;
     rows_line(rows, lent_count(host));
     let lent = told.session;
@@ -28,19 +32,31 @@ fn answered(host: Host, done: AnsweredRows) -> Host {
 pub fn open_lent(host: Host, given: Opening) -> Host {
     let rows = host.rows;
     let lent = host.lent;
-    answered(host, open_rows(rows, lent_count(host), lent, given))
+    let fields = lent_opening_fields(lent_count(host), given);
+    answered(host, open_rows(rows, lent_count(host), lent, given), fields)
 }
 
 pub fn add_lent(host: Host, id: u64, request: Request) -> Host {
     let rows = host.rows;
     let lent = host.lent;
-    answered(host, add_rows(rows, lent_count(host), lent, id, request))
+    let setup = lent.setup;
+    let device = setup.device;
+    let fields = request_fields(device, request);
+    answered(
+        host,
+        add_rows(rows, lent_count(host), lent, id, request),
+        fields,
+    )
 }
 
 pub fn drop_lent(host: Host, id: u64) -> Host {
     let rows = host.rows;
     let lent = host.lent;
-    answered(host, drop_rows(rows, lent_count(host), lent, id))
+    answered(
+        host,
+        drop_rows(rows, lent_count(host), lent, id),
+        no_fields(),
+    )
 }
 
 // A turn with a slice: its plan and its answer.
@@ -52,7 +68,7 @@ fn taken_lent(host: Host, list: &mut [u64]) -> Host {
     let assigned = told.plan;
     plan(assigned, told.taken);
     let answer = told.answer;
-    answer_line(answer);
+    answer_line(answer, no_fields());
     let left = done.rows;
     let next = told.session;
     with_lent(host, next, left)

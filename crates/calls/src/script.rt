@@ -13,15 +13,14 @@ use crate::output::KEPT;
 use crate::output::LONGEST_SLICE;
 use crate::output::unknown;
 use crate::reading::reading;
-use crate::session_calls::answered;
+use crate::session_calls::added;
+use crate::session_calls::dropped;
+use crate::session_calls::opened;
 use crate::session_calls::turned;
 use crate::session_calls::turned_at_once;
 use crate::words::Words;
 use crate::words::word;
 use crate::words::words_of;
-use planner::add::add;
-use planner::drop::drop_request;
-use planner::open::open;
 use records::words::same;
 use sessions::Session;
 ghost use Prim.Native.Nat.{_≤_};
@@ -36,7 +35,7 @@ fn add_call(session: Session, line: &[u8], words: Words) -> Session {
     let numbers = add_numbers(line, words);
     let at = numbers.at;
     match request_of(line, words, numbers) {
-        Asked::For(request) => answered(add(session, at[1], request)),
+        Asked::For(request) => added(session, at[1], request),
         Asked::Nothing => unknown_session(session),
     }
 }
@@ -92,7 +91,7 @@ fn session_call(session: Session, line: &[u8], words: Words) -> Session {
     let one = numbers_in(line, words, b"vd");
     let at = one.at;
     if same(verb, b"drop") && one.fits {
-        return answered(drop_request(session, at[1]));
+        return dropped(session, at[1]);
     }
     if same(verb, b"turn") && one.fits {
         return turn_call(session, at[1]);
@@ -105,7 +104,7 @@ fn session_call(session: Session, line: &[u8], words: Words) -> Session {
     let numbers = numbers_in(line, words, b"vlddddc");
     if same(verb, b"open") && numbers.fits {
         let at = numbers.at;
-        return answered(open(session, opening(line, words, at)));
+        return opened(session, opening(line, words, at));
     }
     let values = numbers_in(line, words, b"vlddddcxxxxxxxxxxx0");
     if same(verb, b"read") && values.fits {

@@ -9,6 +9,7 @@ use requests::Setup;
 pub mod add;
 mod choose;
 pub mod drop;
+pub mod faults;
 pub mod open;
 mod places;
 mod rules;
