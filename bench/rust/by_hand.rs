@@ -4,6 +4,7 @@ mod planner;
 
 use planner::devices::{Device, Opening, Setup};
 use planner::model::Session;
+use planner::refusal::Refusal;
 use planner::requests::{Entry, Place, Request};
 use planner::{Calls, Turn, LIMIT, LIST};
 
@@ -37,10 +38,10 @@ fn print_session_of(s: &Session, length: usize) {
     }
 }
 
-fn print_answer(answer: Result<(), u64>) {
+fn print_answer(answer: Result<(), Refusal>) {
     match answer {
         Ok(()) => println!("ok"),
-        Err(number) => println!("no {number}"),
+        Err(Refusal { number, field }) => println!("no {number} {field}"),
     }
 }
 
@@ -66,7 +67,7 @@ fn turn_and_print(s: &mut Session, out: &mut [u64]) {
             print_turn(&turn, out);
             println!("ok");
         }
-        Err(number) => println!("no {number}"),
+        Err(Refusal { number, field }) => println!("no {number} {field}"),
     }
 }
 

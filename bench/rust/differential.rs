@@ -4,9 +4,12 @@
 
 #[path = "line_program/answer.rs"]
 mod answer;
+mod answer_tally;
 #[path = "line_program/call.rs"]
 mod call;
 mod expected;
+mod fault_tally;
+mod grammar;
 mod kinds;
 mod named_kinds;
 mod named_tally;
@@ -79,7 +82,7 @@ fn fail(programs: &Programs, number: u64, what: &str, transcript: &Transcript, t
 fn compare(programs: &Programs, number: u64, tally: &mut Tally) -> bool {
     let transcript = transcript::random(number, programs.seed);
     let (lists, words) = (&transcript.lists, words_of(&transcript));
-    let count = |session: &Session, line: &[u8], answered: &[u8]| tally.count(session, lists, line, answered);
+    let count = |session: &Session, part: &[u8], answered: &[u8]| tally.count(session, lists, part, answered);
     let expected = expected::expected(&transcript.text, &lists.texts, count);
     write(&transcript);
     let rust = output_of(&programs.rust, words);
@@ -113,6 +116,7 @@ fn main() {
     let cut = (0..count).filter(|&number| compare(&programs, number, &mut tally)).count();
     println!("{count} transcripts, {} lines, {cut} of them in pieces too: the same, byte for byte", tally.lines);
     tally.print();
+    tally.nothing_else();
     if count >= 1000 {
         tally.nothing_missed();
     }

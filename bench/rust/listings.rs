@@ -14,7 +14,7 @@ const FACTOR: u64 = 31;
 /// The number that refuses each event on counter 0, 0 where it is accepted: code by code, and of each code mask by mask.
 fn answers(device: &Device) -> Vec<u64> {
     let events = (0..=255).flat_map(|code| (0..=255).map(move |mask| Request::Event { code, mask, allowed: 1 }));
-    events.map(|event| refusal_of(device, event).unwrap_or(0)).collect()
+    events.map(|event| refusal_of(device, event).map_or(0, |refusal| refusal.number as u64)).collect()
 }
 
 fn print_listing(device: &Device) {

@@ -3,6 +3,7 @@
 
 #[path = "line_program/answer.rs"]
 mod answer;
+mod answer_tally;
 #[path = "line_program/call.rs"]
 mod call;
 mod names;
@@ -76,6 +77,7 @@ fn main() {
             (0..number(count)).for_each(|at| compare(program, at, number(seed), &mut tally));
             println!("{count} scripts, {} calls: the same, byte for byte", tally.calls);
             tally.print();
+            tally.nothing_else();
             if number(count) >= 1000 {
                 tally.nothing_missed();
             }

@@ -1,26 +1,36 @@
-//! How often each answer was given on each device, and how many turns there were of each kind.
+//! How often each answer was given to each verb, with its field, and how many ill-formed lines and turns there were of each
+//! kind.
 
+use crate::answer_tally::{AnswerTally, Answers};
 use crate::call::{call_of, Call};
+use crate::fault_tally::FaultTally;
 use crate::kinds::{Turned, KINDS};
 use crate::named_tally::NamedTally;
 use crate::planner::devices::DEVICES;
 use crate::planner::model::Session;
 use crate::transcript::lists::DrawnLists;
 
-const VERBS: [&str; 8] = ["open", "event", "packet", "offcore", "latency", "named", "drop", "turn"];
-/// The highest refusal that a line can get.
-const REFUSALS: usize = 13;
-/// The refusals that an open in the grammar can get.
-const OPEN_REFUSALS: [usize; 4] = [2, 3, 7, 10];
+/// Every answer that a line can get, by its verb: `ok`, or the number and the field of a `no`. An open of C has fields of its own,
+/// and a line of another verb is `other`.
+const ANSWERS: [Answers; 10] = [
+    ("open", "ok, 1 1, 1 2, 1 3, 1 4, 1 5, 1 6, 2 0, 3 2, 3 3, 7 0, 10 4, 10 5"),
+    ("open C", "ok, 1 2, 1 3, 1 4, 1 5, 1 6, 1 7, 2 0, 3 2, 3 3, 3 4, 10 5, 10 6"),
+    ("event", "ok, 1 1, 1 2, 1 3, 1 4, 1 5, 2 0, 4 1, 5 1, 8 2, 9 3, 10 3, 10 4, 12 0, 13 0"),
+    ("packet", "ok, 1 1, 1 2, 1 3, 1 4, 1 5, 2 0, 4 1, 5 1, 7 0, 10 3, 10 4, 12 0, 13 0"),
+    ("offcore", "ok, 1 1, 1 2, 1 3, 1 4, 2 0, 4 1, 5 1, 7 0, 9 2, 10 2, 10 3, 11 2, 12 0, 13 0"),
+    ("latency", "ok, 1 1, 1 2, 1 3, 1 4, 1 5, 2 0, 4 1, 5 1, 7 0, 9 2, 10 2, 10 3, 10 4, 12 0, 13 0"),
+    ("named", "ok, 1 0, 1 1, 1 2, 1 3, 1 4, 2 0, 4 1, 5 1, 7 0, 8 2, 9 2, 10 2, 10 3, 12 0, 13 0"),
+    ("drop", "ok, 1 1, 1 2, 2 0, 4 1, 6 1"),
+    ("turn", "ok, 1 1, 2 0"),
+    ("other", "1 0"),
+];
 /// A kind that fewer than one in so many turns are of is too seldom.
 const SELDOM: u64 = 300;
 
 pub struct Tally {
     pub lines: u64,
-    accepted: [u64; VERBS.len()],
-    refused: [u64; REFUSALS + 1],
-    /// The same of the lines whose verb is open.
-    opens_refused: [u64; REFUSALS + 1],
+    answers: AnswerTally,
+    faults: FaultTally,
     /// The turns of each device, and of each kind on it.
     turns: [u64; DEVICES.len()],
     kinds: [[u64; DEVICES.len()]; KINDS.len()],
@@ -31,31 +41,25 @@ impl Tally {
     pub fn new() -> Tally {
         Tally {
             lines: 0,
-            accepted: [0; VERBS.len()],
-            refused: [0; REFUSALS + 1],
-            opens_refused: [0; REFUSALS + 1],
+            answers: AnswerTally::default(),
+            faults: FaultTally::new(),
             turns: [0; DEVICES.len()],
             kinds: [[0; DEVICES.len()]; KINDS.len()],
             named: NamedTally::new(),
         }
     }
 
-    /// Counts a line with the session before it, the lists and its answer.
-    pub fn count(&mut self, session: &Session, lists: &DrawnLists, line: &[u8], answered: &[u8]) {
+    /// Counts a line, with its newline if it has one, the session before it, the lists and its answer.
+    pub fn count(&mut self, session: &Session, lists: &DrawnLists, part: &[u8], answered: &[u8]) {
         self.lines += 1;
-        let said = line.split(|&byte| byte == b'\t').next();
-        let refusal = refusal_in(answered);
-        if refusal == 0 {
-            let verb = VERBS.iter().position(|verb| said == Some(verb.as_bytes()));
-            self.accepted[verb.expect("a verb")] += 1;
-        } else {
-            self.refused[refusal] += 1;
-            self.opens_refused[refusal] += (said == Some(b"open")) as u64;
+        let answer = answer_in(answered);
+        let line = part.strip_suffix(b"\n");
+        self.answers.count(verb_of(line.unwrap_or(part)), &answer);
+        self.faults.count(part, &lists.texts);
+        if let Some(Ok(Call::Named { name, .. })) = line.map(call_of) {
+            self.named.count(session, lists, name, number_in(&answer));
         }
-        if let Some(Call::Named { name, .. }) = call_of(line) {
-            self.named.count(session, lists, name, refusal);
-        }
-        if line == b"turn" {
+        if line == Some(b"turn") {
             self.count_turn(session);
         }
     }
@@ -71,11 +75,8 @@ impl Tally {
     }
 
     pub fn print(&self) {
-        let accepted: Vec<String> = VERBS.iter().zip(self.accepted).map(|(verb, n)| format!("{verb} {n}")).collect();
-        let refused: Vec<String> = (1..=REFUSALS).map(|number| format!("{number}: {}", self.refused[number])).collect();
-        println!("ok   {}", accepted.join(", "));
-        println!("no   {}", refused.join(", "));
-        println!("open {}", OPEN_REFUSALS.map(|number| format!("{number}: {}", self.opens_refused[number])).join(", "));
+        self.answers.print(&ANSWERS);
+        self.faults.print();
         print_row("turns", DEVICES.each_ref().map(|device| (device.letter as char).to_string()));
         print_row("all", self.turns.map(|n| n.to_string()));
         for ((kind, _), counts) in KINDS.iter().zip(self.kinds) {
@@ -84,11 +85,15 @@ impl Tally {
         self.named.print();
     }
 
-    /// Every verb was accepted, every refusal given and every kind of turn made, or the comparison says too little.
+    /// No line got an answer that is not its verb's.
+    pub fn nothing_else(&self) {
+        self.answers.nothing_else(&ANSWERS);
+    }
+
+    /// Every verb got every answer, and there was every kind of ill-formed line and of turn, or the comparison says too little.
     pub fn nothing_missed(&self) {
-        assert!(self.accepted.iter().all(|&n| n > 0), "a verb was never accepted");
-        assert!(self.refused[1..].iter().all(|&n| n > 0), "a refusal was never given");
-        assert!(OPEN_REFUSALS.iter().all(|&number| self.opens_refused[number] > 0), "an open was never refused with a number");
+        self.answers.nothing_missed(&ANSWERS);
+        self.faults.nothing_missed();
         let turns: u64 = self.turns.iter().sum();
         for ((kind, _), counts) in KINDS.iter().zip(self.kinds) {
             assert!(counts.iter().sum::<u64>() * SELDOM > turns, "seldom in a turn: {kind}");
@@ -97,12 +102,27 @@ impl Tally {
     }
 }
 
-/// The number that refuses a line, 0 where it is accepted.
-fn refusal_in(answered: &[u8]) -> usize {
-    match answered.strip_prefix(b"no\t") {
-        Some(rest) => std::str::from_utf8(&rest[..rest.len() - 1]).ok().and_then(|number| number.parse().ok()).expect("a number"),
-        None => 0,
+/// What a line is counted as.
+fn verb_of(line: &[u8]) -> &'static str {
+    let mut fields = line.split(|&byte| byte == b'\t');
+    let said = (fields.next().unwrap_or_default(), fields.next());
+    match said {
+        (b"open", Some(b"C")) => "open C",
+        (b"open C", _) => "other",
+        (verb, _) => ANSWERS.iter().map(|row| row.0).find(|row| row.as_bytes() == verb).unwrap_or("other"),
     }
+}
+
+/// The last line of an answer, as the table has it.
+fn answer_in(answered: &[u8]) -> String {
+    let text = String::from_utf8_lossy(answered);
+    let last = text.lines().next_back().expect("an answer");
+    last.trim_start_matches("no\t").replace('\t', " ")
+}
+
+/// The number that refuses a line, 0 where it is accepted.
+fn number_in(answer: &str) -> usize {
+    answer.split_once(' ').map_or(0, |(number, _)| number.parse().expect("a number"))
 }
 
 fn print_row<const N: usize>(name: &str, columns: [String; N]) {

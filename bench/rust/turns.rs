@@ -4,6 +4,7 @@ use crate::cases::Case;
 use crate::numbers::Numbers;
 use crate::planner::devices::Opening;
 use crate::planner::fast::session::Session;
+use crate::planner::refusal::Refusal;
 use crate::planner::requests::Request;
 use crate::planner::{model, Calls, Turn};
 use crate::rows::{to_request, to_row};
@@ -48,7 +49,7 @@ fn called(session: &mut impl Calls, call: &[u64], answer: &mut [u64]) {
             answer[2] = turn.writes as u64;
         }),
     };
-    answer[0] = outcome.err().unwrap_or(0);
+    answer[0] = outcome.err().map_or(0, |refusal| refusal.number as u64);
 }
 
 /// The answers to a list of calls. What a call does not answer is 7 in the slice and 0 before it.
@@ -145,7 +146,7 @@ pub fn compare_answers(numbers: &mut Numbers) {
 
 /// A turn across a library's boundary, as the proved one is called.
 #[inline(never)]
-fn turn(session: &mut Session, list: &mut [u64]) -> Result<Turn, u64> {
+fn turn(session: &mut Session, list: &mut [u64]) -> Result<Turn, Refusal> {
     session.turn(list)
 }
 

@@ -1,7 +1,8 @@
 //! The answer of a line: the call is made, and its answer is written in the grammar of document 01, 'Lines'.
 
-use crate::call::{call_of, Call};
+use crate::call::{call_of, fault_without_newline, Call};
 use crate::names::Lists;
+use crate::planner::refusal::Refusal;
 use crate::planner::requests::{Entry, Place};
 use crate::planner::{Calls, Turn, LIST};
 
@@ -57,10 +58,11 @@ impl Output<'_> {
         }
     }
 
-    pub fn refuse(&mut self, number: u64) {
+    /// A refusal's number and its field.
+    fn refuse(&mut self, refusal: Refusal) {
         self.text(b"no\t");
-        self.decimal(number);
-        self.text(b"\n");
+        self.decimal(refusal.number as u64);
+        self.text(&[b'\t', b'0' + refusal.field, b'\n']);
     }
 
     /// What a turn took, in the order taken, then its writes.
@@ -105,18 +107,24 @@ fn put_hex(digits: &mut [u8], number: u64) {
 /// looks at the lists.
 pub fn answer(session: &mut impl Calls, lists: &impl Lists, line: &[u8], out: &mut Output) {
     let outcome = match call_of(line) {
-        None => Err(1),
-        Some(Call::Open(opening)) => session.open(opening),
-        Some(Call::Add { id, request }) => session.add(id, request),
-        Some(Call::Named { id, name, allowed }) => lists.look_up(name).and_then(|row| session.add_named(id, row, allowed)),
-        Some(Call::Drop { id }) => session.drop(id),
-        Some(Call::Turn) => {
+        Err(field) => Err(Refusal::at(1, field)),
+        Ok(Call::Open(opening)) => session.open(opening),
+        Ok(Call::Add { id, request }) => session.add(id, request),
+        Ok(Call::Named { id, name, allowed }) => lists.look_up(name).and_then(|row| session.add_named(id, row, allowed)),
+        Ok(Call::Drop { id }) => session.drop(id),
+        Ok(Call::Turn) => {
             let mut list = [0; LIST];
             session.turn(&mut list).map(|turn| out.turn(&turn, &list))
         }
     };
     match outcome {
         Ok(()) => out.text(b"ok\n"),
-        Err(number) => out.refuse(number),
+        Err(refusal) => out.refuse(refusal),
     }
+}
+
+/// The answer to the last line where its newline is missing.
+#[allow(dead_code)] // by the programs that read no whole text
+pub fn answer_unfinished(line: &[u8], out: &mut Output) {
+    out.refuse(Refusal::at(1, fault_without_newline(line)));
 }

@@ -1,5 +1,5 @@
 //! The grammar of document 01, 'Lines', with the fields that the orders add to `open` and the line `named`: a line without its
-//! newline becomes a call, or nothing. So does a row of a list of names become an event.
+//! newline becomes a call, or the first field that breaks the grammar. So does a row of a list of names become an event.
 
 use crate::names::{is_name_byte, NAME_LIMIT};
 use crate::planner::devices::{Device, Opening};
@@ -22,9 +22,15 @@ pub enum Call<'a> {
 /// The fields of a line, each as the part of the line where it begins and ends.
 struct Fields<'a> {
     rest: Option<&'a [u8]>,
+    /// How many were read and are good: the number of the first that is not, and of all fields where the line stops too soon.
+    good: u8,
 }
 
 impl<'a> Fields<'a> {
+    fn of(line: &'a [u8]) -> Fields<'a> {
+        Fields { rest: Some(line), good: 0 }
+    }
+
     /// The part up to the next tab or to the line's end; nothing after the last field.
     fn next(&mut self) -> Option<&'a [u8]> {
         let rest = self.rest?;
@@ -40,24 +46,39 @@ impl<'a> Fields<'a> {
         }
     }
 
-    fn decimal(&mut self) -> Option<u64> {
-        decimal_of(self.next()?)
+    /// The next field by its format.
+    fn read<T>(&mut self, format: impl FnOnce(&'a [u8]) -> Option<T>) -> Option<T> {
+        let value = format(self.next()?)?;
+        self.good += 1;
+        Some(value)
     }
 
-    /// A core, or `-` for none.
+    fn decimal(&mut self) -> Option<u64> {
+        self.read(decimal_of)
+    }
+
     fn core(&mut self) -> Option<Option<u64>> {
-        match self.next()? {
-            b"-" => Some(None),
-            field => decimal_of(field).map(Some),
-        }
+        self.read(core_of)
     }
 
     fn hex(&mut self, width: usize) -> Option<u64> {
-        hex_of(self.next()?, width)
+        self.read(|field| hex_of(field, width))
     }
 
     fn name(&mut self) -> Option<&'a [u8]> {
-        name_of(self.next()?)
+        self.read(name_of)
+    }
+
+    fn device(&mut self) -> Option<&'static Device> {
+        self.read(device_of)
+    }
+}
+
+/// A core, or `-` for none.
+fn core_of(field: &[u8]) -> Option<Option<u64>> {
+    match field {
+        b"-" => Some(None),
+        _ => decimal_of(field).map(Some),
     }
 }
 
@@ -110,7 +131,7 @@ fn device_of(field: &[u8]) -> Option<&'static Device> {
 
 /// Where the device has several boxes the box is one more field; what is asked of an overflow is the last two.
 fn opening(fields: &mut Fields) -> Option<Opening> {
-    let device = device_of(fields.next()?)?;
+    let device = fields.device()?;
     let (usable, fixed) = (fields.decimal()?, fields.decimal()?);
     let box_number = if device.has_boxes() { fields.decimal()? } else { 0 };
     let (freeze, core) = (fields.decimal()?, fields.core()?);
@@ -139,8 +160,8 @@ fn latency(fields: &mut Fields) -> Option<Request> {
 
 /// The name and the event of a list's row, without its newline; nothing where the row is ill-formed.
 pub fn row_of(row: &[u8]) -> Option<(&[u8], NamedEvent)> {
-    let mut fields = Fields { rest: Some(row) };
-    let (name, device) = (fields.name()?, device_of(fields.next()?)?);
+    let mut fields = Fields::of(row);
+    let (name, device) = (fields.name()?, fields.device()?);
     let (code, mask) = (fields.hex(2)? as u8, fields.hex(2)? as u8);
     match fields.rest {
         None => Some((name, NamedEvent { letter: device.letter, code, mask })),
@@ -148,25 +169,40 @@ pub fn row_of(row: &[u8]) -> Option<(&[u8], NamedEvent)> {
     }
 }
 
-/// The call of a line; nothing where the line is too long, a field is ill-formed, or one is missing or left over.
-pub fn call_of(line: &[u8]) -> Option<Call<'_>> {
-    if line.len() > LINE_LIMIT {
-        return None;
-    }
-    let mut fields = Fields { rest: Some(line) };
-    let call = match fields.next()? {
-        b"open" => Call::Open(opening(&mut fields)?),
-        b"event" => Call::Add { id: fields.decimal()?, request: event(&mut fields)? },
-        b"packet" => Call::Add { id: fields.decimal()?, request: packet(&mut fields)? },
-        b"offcore" => Call::Add { id: fields.decimal()?, request: offcore(&mut fields)? },
-        b"latency" => Call::Add { id: fields.decimal()?, request: latency(&mut fields)? },
+/// The call that the fields behind a verb make.
+fn behind<'a>(verb: &[u8], fields: &mut Fields<'a>) -> Option<Call<'a>> {
+    fields.good = 1;
+    Some(match verb {
+        b"open" => Call::Open(opening(fields)?),
+        b"event" => Call::Add { id: fields.decimal()?, request: event(fields)? },
+        b"packet" => Call::Add { id: fields.decimal()?, request: packet(fields)? },
+        b"offcore" => Call::Add { id: fields.decimal()?, request: offcore(fields)? },
+        b"latency" => Call::Add { id: fields.decimal()?, request: latency(fields)? },
         b"named" => Call::Named { id: fields.decimal()?, name: fields.name()?, allowed: fields.decimal()? },
         b"drop" => Call::Drop { id: fields.decimal()? },
         b"turn" => Call::Turn,
-        _ => return None,
-    };
-    match fields.rest {
-        None => Some(call),
-        Some(_) => None,
+        _ => {
+            fields.good = 0;
+            return None;
+        }
+    })
+}
+
+/// The call of a line; or the number of the first field that is ill-formed or left over, or of all fields where one is missing.
+/// No call has more than 58 bytes, so that every longer line has such a field, and the first 80 bytes tell which it is.
+pub fn call_of(line: &[u8]) -> Result<Call<'_>, u8> {
+    let mut fields = Fields::of(&line[..line.len().min(LINE_LIMIT)]);
+    let call = fields.next().and_then(|verb| behind(verb, &mut fields));
+    match (call, fields.rest) {
+        (Some(call), None) => Ok(call),
+        _ => Err(fields.good),
+    }
+}
+
+/// The field at fault of a line whose newline is missing: the first that breaks the grammar, or else the number of fields.
+pub fn fault_without_newline(line: &[u8]) -> u8 {
+    match call_of(line) {
+        Err(field) => field,
+        Ok(_) => line.split(|&byte| byte == b'\t').count() as u8,
     }
 }

@@ -10,7 +10,7 @@ mod names;
 #[path = "../planner/mod.rs"]
 mod planner;
 
-use answer::{answer, Output, LONGEST_ANSWER};
+use answer::{answer, answer_unfinished, Output, LONGEST_ANSWER};
 use call::LINE_LIMIT;
 #[cfg(not(same_road))]
 use names::index::Index as NamesOf;
@@ -45,38 +45,39 @@ fn flush(output: &mut File, out: &mut Output) -> Result<()> {
     Ok(())
 }
 
-/// Answers every line. An unfinished line waits at the front of the block; of an overlong one nothing is kept.
+/// Where the first line ends. A call of its own: inside the loop of lines each byte takes an instruction more.
+#[inline(never)]
+fn line_end(bytes: &[u8]) -> Option<usize> {
+    bytes.iter().position(|&byte| byte == b'\n')
+}
+
+/// Answers every line. An unfinished line waits at the front of the block, of an overlong one its first 80 bytes: they are as
+/// little in the grammar as the whole line, at the same field.
 fn answer_lines(input: &mut File, output: &mut File, lists: &impl Lists) -> Result<()> {
     let mut session = Session::new();
     let mut block = [0; LINE_LIMIT + BLOCK];
     let mut out = Output { block: &mut [0; BLOCK], used: 0 };
-    let (mut held, mut overlong) = (0, false);
+    let mut held = 0;
     loop {
         let count = read(input, &mut block[held..held + BLOCK])?;
         if count == 0 {
             break;
         }
         let mut rest = &block[..held + count];
-        while let Some(length) = rest.iter().position(|&byte| byte == b'\n') {
-            if overlong {
-                out.refuse(1);
-                overlong = false;
-            } else {
-                answer(&mut session, lists, &rest[..length], &mut out);
-            }
+        while let Some(length) = line_end(rest) {
+            answer(&mut session, lists, &rest[..length], &mut out);
             rest = &rest[length + 1..];
             if out.block.len() - out.used < LONGEST_ANSWER {
                 flush(output, &mut out)?;
             }
         }
-        overlong |= rest.len() > LINE_LIMIT;
         let start = held + count - rest.len();
-        held = if overlong { 0 } else { rest.len() };
+        held = rest.len().min(LINE_LIMIT);
         block.copy_within(start..start + held, 0);
         flush(output, &mut out)?;
     }
-    if overlong || held > 0 {
-        out.refuse(1);
+    if held > 0 {
+        answer_unfinished(&block[..held], &mut out);
     }
     flush(output, &mut out)
 }

@@ -2,6 +2,7 @@
 
 use super::road::front_of;
 use super::{Lists, Texts};
+use crate::planner::refusal::Refusal;
 use crate::planner::requests::NamedEvent;
 use std::collections::HashMap;
 use std::hash::{BuildHasherDefault, Hasher};
@@ -63,8 +64,8 @@ impl Index<'_> {
 }
 
 impl Lists for Index<'_> {
-    fn look_up(&self, name: &[u8]) -> Result<Option<NamedEvent>, u64> {
-        let table = self.table.as_ref().ok_or(1u64)?;
+    fn look_up(&self, name: &[u8]) -> Result<Option<NamedEvent>, Refusal> {
+        let table = self.table.as_ref().ok_or(Refusal::whole(1))?;
         Ok(table.get(name).copied())
     }
 }

@@ -8,6 +8,7 @@ pub mod index;
 pub mod model;
 pub mod road;
 
+use crate::planner::refusal::Refusal;
 use crate::planner::requests::NamedEvent;
 
 /// The most bytes of a name.
@@ -38,6 +39,6 @@ pub struct Texts {
 /// The look-up in two lists.
 pub trait Lists {
     /// The event of the row with this name: of the site's list first, and within a list of the topmost row. Refuses with 1,
-    /// before any search, where a row of either list is ill-formed.
-    fn look_up(&self, name: &[u8]) -> Result<Option<NamedEvent>, u64>;
+    /// before any search, where a row of either list is ill-formed: that is at field 0.
+    fn look_up(&self, name: &[u8]) -> Result<Option<NamedEvent>, Refusal>;
 }

@@ -2,6 +2,7 @@
 
 use super::{Lists, Texts};
 use crate::call::row_of;
+use crate::planner::refusal::Refusal;
 use crate::planner::requests::NamedEvent;
 
 /// A name and its event.
@@ -23,8 +24,9 @@ impl Plain<'_> {
 }
 
 impl Lists for Plain<'_> {
-    fn look_up(&self, name: &[u8]) -> Result<Option<NamedEvent>, u64> {
-        let (site, house) = (rows_of(&self.texts.site).ok_or(1u64)?, rows_of(&self.texts.house).ok_or(1u64)?);
+    fn look_up(&self, name: &[u8]) -> Result<Option<NamedEvent>, Refusal> {
+        let rows = |list| rows_of(list).ok_or(Refusal::whole(1));
+        let (site, house) = (rows(&self.texts.site)?, rows(&self.texts.house)?);
         let row = site.into_iter().chain(house).find(|row| row.0 == name);
         Ok(row.map(|(_, event)| event))
     }

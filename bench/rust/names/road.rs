@@ -2,6 +2,7 @@
 
 use super::{is_name_byte, Lists, Texts, NAME_LIMIT};
 use crate::planner::devices::Device;
+use crate::planner::refusal::Refusal;
 use crate::planner::requests::NamedEvent;
 
 /// The bytes of a row behind its name: three fields with the tab before each, and the newline.
@@ -76,11 +77,11 @@ impl EachTime<'_> {
 }
 
 impl Lists for EachTime<'_> {
-    fn look_up(&self, name: &[u8]) -> Result<Option<NamedEvent>, u64> {
+    fn look_up(&self, name: &[u8]) -> Result<Option<NamedEvent>, Refusal> {
         let Texts { site, house } = self.texts;
         match well_formed(site) && well_formed(house) {
             true => Ok(search(site, name).or_else(|| search(house, name))),
-            false => Err(1),
+            false => Err(Refusal::whole(1)),
         }
     }
 }

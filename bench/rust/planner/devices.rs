@@ -1,6 +1,7 @@
 //! The devices of document 01 and of order 3, a row each: whatever tells one from another stands in this table.
 
 use super::catalogue::{self, Event};
+use super::refusal::Refusal;
 use super::u_box;
 
 /// The filter registers of a device, and with them the requests that need them.
@@ -119,7 +120,8 @@ impl Device {
 }
 
 /// What open and the reader are given: the device's letter, the usable set, the enables of the fixed counters, the box, and
-/// what an overflow shall do: whether it freezes all uncore counting (1 or 0), and the core that it interrupts.
+/// what an overflow shall do: whether it freezes all uncore counting (1 or 0), and the core that it interrupts. The fields of
+/// the line of an open stand in this order behind the verb; where the device has one box alone the line does not name it.
 #[derive(Clone, Copy, PartialEq, Eq, Debug)]
 pub struct Opening {
     pub letter: u64,
@@ -148,13 +150,18 @@ impl Opening {
     }
 
     /// 7 where something is asked of a device that is not the uncore's; 10 for a freeze that is not 0 or 1, or a core too high.
-    fn asking_refusal(&self, device: &Device) -> Option<u64> {
+    /// The freeze and the core stand behind the box where the device has several.
+    fn asking_refusal(&self, device: &Device) -> Option<Refusal> {
         let asks = self.freeze != 0 || self.core.is_some();
-        let fits = self.freeze <= 1 && self.core.is_none_or(|core| core < u_box::CORES);
-        match (device.uncore, asks, fits) {
-            (false, true, _) => Some(7),
-            (true, _, false) => Some(10),
-            _ => None,
+        let freeze = if device.has_boxes() { 5 } else { 4 };
+        if !device.uncore {
+            asks.then_some(Refusal::whole(7))
+        } else if self.freeze > 1 {
+            Some(Refusal::at(10, freeze))
+        } else if self.core.is_some_and(|core| core >= u_box::CORES) {
+            Some(Refusal::at(10, freeze + 1))
+        } else {
+            None
         }
     }
 }
@@ -165,16 +172,21 @@ const FIXED_PLACE: u64 = 32;
 impl Setup {
     /// Refuses with 3: a device that is not there, a usable set that is empty or has a counter too many, or a fixed counter
     /// or a box that the device does not have. What is asked of an overflow is looked at after that.
-    pub fn of(opening: Opening) -> Result<Setup, u64> {
+    pub fn of(opening: Opening) -> Result<Setup, Refusal> {
         let Opening { letter, usable, fixed, box_number, freeze, core } = opening;
-        let device = Device::named(letter).ok_or(3u64)?;
-        let known = fixed <= device.fixed && box_number < device.boxes.len() as u64;
-        if usable == 0 || usable > device.all() || !known {
-            return Err(3);
+        let device = Device::named(letter).ok_or(Refusal::at(3, 1))?;
+        if usable == 0 || usable > device.all() {
+            return Err(Refusal::at(3, 2));
+        }
+        if fixed > device.fixed {
+            return Err(Refusal::at(3, 3));
+        }
+        if box_number >= device.boxes.len() as u64 {
+            return Err(Refusal::at(3, 4));
         }
         match opening.asking_refusal(device) {
             None => Ok(Setup { device, usable, fixed, box_number, freeze, core }),
-            Some(number) => Err(number),
+            Some(refusal) => Err(refusal),
         }
     }
 

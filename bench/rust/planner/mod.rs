@@ -9,10 +9,12 @@ pub mod catalogue;
 pub mod devices;
 pub mod fast;
 pub mod model;
+pub mod refusal;
 pub mod requests;
 pub mod u_box;
 
 use devices::Opening;
+use refusal::Refusal;
 use requests::{Entry, NamedEvent, Place, Request};
 
 /// The most requests that can wait.
@@ -35,29 +37,29 @@ pub struct Turn {
     pub writes: usize,
 }
 
-/// The calls of a session. A refused call answers its number and changes nothing.
+/// The calls of a session. A refused call answers its number with the field at fault, and changes nothing.
 pub trait Calls {
     /// The lent session of the same planner.
     type Lent: LentCalls;
     fn new() -> Self;
-    fn open(&mut self, opening: Opening) -> Result<(), u64>;
-    fn add(&mut self, id: u64, request: Request) -> Result<(), u64>;
+    fn open(&mut self, opening: Opening) -> Result<(), Refusal>;
+    fn add(&mut self, id: u64, request: Request) -> Result<(), Refusal>;
     /// An add by name (order 9), where well-formed lists have this row under it, or none.
-    fn add_named(&mut self, id: u64, row: Option<NamedEvent>, allowed: u64) -> Result<(), u64>;
-    fn drop(&mut self, id: u64) -> Result<(), u64>;
-    fn turn(&mut self, list: &mut [u64]) -> Result<Turn, u64>;
+    fn add_named(&mut self, id: u64, row: Option<NamedEvent>, allowed: u64) -> Result<(), Refusal>;
+    fn drop(&mut self, id: u64) -> Result<(), Refusal>;
+    fn turn(&mut self, list: &mut [u64]) -> Result<Turn, Refusal>;
     /// So many turns at once (order 6): the lists one after another, and the places where they end.
-    fn turns(&mut self, count: u64, lists: &mut [u64], ends: &mut [u64]) -> Result<(), u64>;
+    fn turns(&mut self, count: u64, lists: &mut [u64], ends: &mut [u64]) -> Result<(), Refusal>;
     fn queue(&self) -> &[Entry];
 }
 
 /// The calls of a session without a queue of its own (order 8): the queue lies in the records that the host lends to each
-/// call, those that wait first and vacant ones behind them. A refused call answers its number and changes nothing.
+/// call, those that wait first and vacant ones behind them. A refused call answers as one of a session does, and changes nothing.
 pub trait LentCalls: Clone {
     fn new() -> Self;
     /// Makes all records vacant.
-    fn open(&mut self, rows: &mut [Entry], opening: Opening) -> Result<(), u64>;
-    fn add(&self, rows: &mut [Entry], id: u64, request: Request) -> Result<(), u64>;
-    fn drop(&self, rows: &mut [Entry], id: u64) -> Result<(), u64>;
-    fn turn(&self, rows: &mut [Entry], list: &mut [u64]) -> Result<Turn, u64>;
+    fn open(&mut self, rows: &mut [Entry], opening: Opening) -> Result<(), Refusal>;
+    fn add(&self, rows: &mut [Entry], id: u64, request: Request) -> Result<(), Refusal>;
+    fn drop(&self, rows: &mut [Entry], id: u64) -> Result<(), Refusal>;
+    fn turn(&self, rows: &mut [Entry], list: &mut [u64]) -> Result<Turn, Refusal>;
 }

@@ -1,7 +1,9 @@
 //! Requests and their places, and the checks 7 to 11 of a request.
 
 use super::devices::{Device, Filters};
+use super::refusal::Refusal;
 
+/// The fields of the line of a request stand in this order behind the verb and the id: the first of them is field 2.
 #[derive(Clone, Copy, PartialEq, Eq, Debug)]
 pub enum Request {
     Event { code: u8, mask: u8, allowed: u64 },
@@ -58,47 +60,53 @@ pub fn latency_words(types: u16) -> [u64; 2] {
     [types as u64 + OUTSTANDING, types as u64 + ANY_RESPONSE]
 }
 
-/// The first of the numbers 10, 9, 11 whose condition holds, in the order of the checks.
-fn first_of(ten: bool, nine: bool, eleven: bool) -> Option<u64> {
-    match (ten, nine, eleven) {
-        (true, ..) => Some(10),
-        (_, true, _) => Some(9),
-        (.., true) => Some(11),
+/// The refusal of an event, by the number that refuses its code and mask: 8 stands before 10, and that before 9.
+pub fn event_refusal(device: &Device, of_pair: Option<u64>, allowed: u64) -> Option<Refusal> {
+    match of_pair {
+        Some(8) => Some(Refusal::at(8, 2)),
+        Some(10) => Some(Refusal::at(10, 3)),
+        _ if allowed > device.all() => Some(Refusal::at(10, 4)),
+        Some(_) => Some(Refusal::at(9, 3)),
+        None => None,
+    }
+}
+
+/// The refusal with 10 at the leftmost field that is out of range; of each field from 2 on it is told whether it is.
+fn out_of_range(fields: [bool; 3]) -> Option<Refusal> {
+    match fields {
+        [true, ..] => Some(Refusal::at(10, 2)),
+        [_, true, _] => Some(Refusal::at(10, 3)),
+        [.., true] => Some(Refusal::at(10, 4)),
         _ => None,
     }
 }
 
-/// The number of an event, by the one that refuses its code and mask: 8 stands before the set's 10, and that before 9.
-pub fn event_refusal(device: &Device, of_pair: Option<u64>, allowed: u64) -> Option<u64> {
-    match of_pair {
-        Some(8) => Some(8),
-        _ if allowed > device.all() => Some(10),
-        number => number,
+/// Order 5: bits outside the fields of the registers are refused with 10, as a counter too many in the set is.
+fn packet_refusal(device: &Device, match_word: u64, mask_word: u64, allowed: u64) -> Option<Refusal> {
+    out_of_range([match_word & !MATCH_BITS != 0, mask_word & !MASK_BITS != 0, allowed > device.all()])
+}
+
+fn offcore_refusal(device: &Device, word: u64, allowed: u64) -> Option<Refusal> {
+    let (any, answered, outstanding) = (word & ANY_RESPONSE != 0, word & ANSWERS != 0, word & OUTSTANDING != 0);
+    let incomplete = word & TYPES == 0 || !(any || answered || outstanding);
+    let range = out_of_range([word & !PERMITTED != 0, allowed > device.all(), false]);
+    match (range, incomplete, outstanding || any && answered) {
+        (None, true, _) => Some(Refusal::at(9, 2)),
+        (None, _, true) => Some(Refusal::at(11, 2)),
+        _ => range,
     }
 }
 
-/// Order 5: bits outside the fields of the registers are refused with 10, as a counter too many in the set is.
-fn packet_refusal(device: &Device, match_word: u64, mask_word: u64, allowed: u64) -> Option<u64> {
-    let outside = match_word & !MATCH_BITS | mask_word & !MASK_BITS;
-    first_of(outside != 0 || allowed > device.all(), false, false)
+fn latency_refusal(device: &Device, types: u16, first: u64, second: u64) -> Option<Refusal> {
+    let (types, all) = (types as u64, device.all());
+    match out_of_range([types & !TYPES != 0, first > all, second > all]) {
+        None if types == 0 => Some(Refusal::at(9, 2)),
+        range => range,
+    }
 }
 
-fn offcore_refusal(device: &Device, word: u64, allowed: u64) -> Option<u64> {
-    let (any, answered, outstanding) = (word & ANY_RESPONSE != 0, word & ANSWERS != 0, word & OUTSTANDING != 0);
-    first_of(
-        word & !PERMITTED != 0 || allowed > device.all(),
-        word & TYPES == 0 || !(any || answered || outstanding),
-        outstanding || any && answered,
-    )
-}
-
-fn latency_refusal(device: &Device, types: u16, first: u64, second: u64) -> Option<u64> {
-    let types = types as u64;
-    first_of(types & !TYPES != 0 || first > device.all() || second > device.all(), types == 0, false)
-}
-
-/// The number of the checks 7, 8, 10, 9 and 11 that refuses a request on this device.
-pub fn refusal_of(device: &Device, request: Request) -> Option<u64> {
+/// The refusal of a request on this device by the checks 7, 8, 10, 9 and 11.
+pub fn refusal_of(device: &Device, request: Request) -> Option<Refusal> {
     match (request, device.filters) {
         (Request::Event { code, mask, allowed }, _) => event_refusal(device, device.event_refusal(code, mask), allowed),
         (Request::Packet { match_word, mask_word, allowed }, Filters::PacketMatch) => {
@@ -106,6 +114,6 @@ pub fn refusal_of(device: &Device, request: Request) -> Option<u64> {
         }
         (Request::Offcore { word, allowed }, Filters::OffcoreResponse) => offcore_refusal(device, word, allowed),
         (Request::Latency { types, first, second }, Filters::OffcoreResponse) => latency_refusal(device, types, first, second),
-        _ => Some(7),
+        _ => Some(Refusal::whole(7)),
     }
 }

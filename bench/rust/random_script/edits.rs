@@ -94,8 +94,8 @@ impl Script {
 
     /// A request that add would refuse, with each number as often as another where the device has it.
     fn ill_formed_request(&mut self) -> Request {
-        let number = 7 + self.below(5) as u64;
-        let refused = |setup: Setup, request| refusal_of(setup.device, request) == Some(number);
+        let number = 7 + self.below(5) as u8;
+        let refused = |setup: Setup, request| refusal_of(setup.device, request).is_some_and(|refusal| refusal.number == number);
         self.request_with(40, refused).unwrap_or(Request::Event { code: 0xFF, mask: 0xFF, allowed: 1 })
     }
 

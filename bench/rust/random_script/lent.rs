@@ -5,8 +5,8 @@ use crate::numbers::Numbers;
 use crate::planner::devices::DEVICES;
 use crate::planner::model::rules::front;
 use crate::planner::{LentCalls, LIST};
-use crate::transcript::bench_on;
 use crate::transcript::calls::Bench;
+use crate::transcript::{bench_on, faults, own_adds};
 
 /// How many rows are lent: mostly few; and those around the bounds of a queue, of what can be lent, and of the notation.
 const LENGTHS: [u64; 20] = [0, 1, 1, 2, 3, 3, 4, 5, 6, 8, 16, 17, 18, 64, 255, 256, 256, 257, 512, 513];
@@ -52,7 +52,9 @@ impl Script {
     }
 
     fn lent_add(&mut self) -> Vec<String> {
+        let odd = self.lent_bench.odd();
         let line = match self.lent_bench.numbers.chance(60) {
+            _ if odd => faults::add(&mut self.lent_bench),
             true => self.lent_bench.add(),
             false => {
                 let id = self.fresh_id();
@@ -183,5 +185,6 @@ impl Script {
         let dropped = self.lent_bench.numbers.below(count) + 1;
         self.put(&["rdrop".into(), dropped.to_string()]);
         (count + 1..count + 3).for_each(|id| self.put(&add(id)));
+        own_adds(&self.lent_bench).iter().for_each(|line| self.put(&lent(words_of(line))));
     }
 }

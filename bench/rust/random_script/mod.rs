@@ -16,7 +16,7 @@ use crate::planner::{Calls, LIST, SHIFT};
 use crate::script::words::LONGEST_SLICE;
 use crate::script::Host;
 use crate::transcript::calls::Bench;
-use crate::transcript::{bench_on, numbers_from};
+use crate::transcript::{bench_on, faults, numbers_from, own_adds};
 
 /// Words that are in no place of the notation, or in few.
 const ODD_WORDS: [&str; 12] =
@@ -46,7 +46,7 @@ fn words_of(line: &str) -> Vec<String> {
 /// The id and the request of an add's line.
 fn entry_of(line: &str) -> Option<Entry> {
     match call_of(line.as_bytes()) {
-        Some(Call::Add { id, request }) => Some(Entry { id, request }),
+        Ok(Call::Add { id, request }) => Some(Entry { id, request }),
         _ => None,
     }
 }
@@ -115,6 +115,7 @@ impl Script {
     fn call(&mut self) -> Vec<String> {
         match self.bench.numbers.below(20) {
             0 => openings::second(&mut self.bench),
+            1..=3 if self.bench.odd() => words_of(&faults::add(&mut self.bench)),
             1..=8 => words_of(&self.bench.add()),
             9 | 10 => words_of(&self.bench.drop()),
             11..=13 => self.turn(),
@@ -130,6 +131,7 @@ impl Script {
             let line = format!("event\t{id}\t{code:02X}\t{mask:02X}\t{}", self.bench.usable);
             self.put(&words_of(&line));
         }
+        own_adds(&self.bench).iter().for_each(|line| self.put(&words_of(line)));
     }
 
     /// So many calls, mostly after an open; so many of a hundred are of the lent session, or edits.

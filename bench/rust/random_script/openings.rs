@@ -3,7 +3,7 @@
 use super::words_of;
 use crate::planner::devices::Opening;
 use crate::transcript::calls::{open_line, Bench};
-use crate::transcript::refused_opening;
+use crate::transcript::{faults, refused_opening};
 
 /// An open of any device with numbers that it may not have.
 pub fn odd(bench: &mut Bench) -> Vec<String> {
@@ -24,11 +24,19 @@ pub fn other_asking(bench: &mut Bench) -> Vec<String> {
     words_of(&open_line(Opening { freeze, core, ..own }))
 }
 
+/// The bench's own open with numbers that it may not have, a box among them also where no line names it.
+fn faulty(bench: &mut Bench) -> Vec<String> {
+    let Opening { letter, usable, fixed, box_number, freeze, core } = faults::opening(bench);
+    let core = core.map_or("-".into(), |core| core.to_string());
+    words_of(&format!("open\t{}\t{usable}\t{fixed}\t{box_number}\t{freeze}\t{core}", letter as u8 as char))
+}
+
 /// Before the bench's own, mostly refused.
 pub fn first(bench: &mut Bench) -> Vec<String> {
-    match (bench.numbers.below(4), refused_opening(bench)) {
+    match (bench.numbers.below(6), refused_opening(bench)) {
         (0, _) => odd(bench),
         (1, _) => other_asking(bench),
+        (2 | 3, _) => faulty(bench),
         (_, Some(refused)) => words_of(&open_line(refused)),
         (_, None) => words_of(&bench.own_open()),
     }

@@ -2,13 +2,14 @@
 
 use super::words::KEPT;
 use crate::planner::model::reader::State;
+use crate::planner::refusal::Refusal;
 use crate::planner::requests::{Entry, Place, Request, VACANT};
 use crate::planner::Turn;
 
-pub fn answer<T>(result: &Result<T, u64>) -> String {
+pub fn answer<T>(result: &Result<T, Refusal>) -> String {
     match result {
         Ok(_) => "ok".into(),
-        Err(number) => format!("no {number}"),
+        Err(Refusal { number, field }) => format!("no {number} {field}"),
     }
 }
 
@@ -41,13 +42,13 @@ fn takes(turn: &Turn) -> String {
 }
 
 /// A turn's plan and its answer.
-pub fn taken(result: &Result<Turn, u64>) -> String {
+pub fn taken(result: &Result<Turn, Refusal>) -> String {
     let plan = result.as_ref().map_or(String::new(), takes);
     format!("{plan}{}", answer(result))
 }
 
 /// A turn's plan, its answer and the slice.
-pub fn turn(result: &Result<Turn, u64>, list: &[u64]) -> String {
+pub fn turn(result: &Result<Turn, Refusal>, list: &[u64]) -> String {
     format!("{}\n{}", taken(result), slice("list", list))
 }
 

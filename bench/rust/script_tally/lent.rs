@@ -24,14 +24,15 @@ pub struct LentCall<'a> {
 
 type Test = fn(&LentCall) -> bool;
 
-pub const KINDS: [(&str, Test); 28] = [
+pub const KINDS: [(&str, Test); 29] = [
     ("opened over rows that are not vacant", |call| call.is("ropen", "ok") && !call.all_vacant()),
-    ("a refused open, and rows that are not vacant", |call| call.is("ropen", "no 3") && !call.all_vacant()),
-    ("an open with no record", |call| call.is("ropen", "no 3") && call.rows.is_empty()),
-    ("an open with too many records", |call| call.is("ropen", "no 3") && call.rows.len() > RECORDS),
-    ("too few or many records, and an asking that is refused", |call| call.length_before_asking()),
+    ("a refused open, and rows that are not vacant", |call| call.opens() && call.answer.starts_with("no 3") && !call.all_vacant()),
+    ("an open with no record", |call| call.is("ropen", "no 3 0") && call.rows.is_empty()),
+    ("an open with too many records", |call| call.is("ropen", "no 3 0") && call.rows.len() > RECORDS),
+    ("too few or many records, and a field that is refused with 3", |call| call.length_before(&[3])),
+    ("too few or many records, and an asking that is refused", |call| call.length_before(&[7, 10])),
     ("not open, and rows that break a rule of their own", |call| {
-        call.answer == "no 2" && call.setup.is_none() && call.odd_vacant()
+        call.answer == "no 2 0" && call.setup.is_none() && call.odd_vacant()
     }),
     ("no record", |call| call.refused_rows() && call.rows.is_empty()),
     ("too many records", |call| call.refused_rows() && call.rows.len() > RECORDS),
@@ -50,8 +51,8 @@ pub const KINDS: [(&str, Test); 28] = [
     ("accepted on another number of rows", |call| call.accepted() && call.other_number),
     ("accepted beside an open session of another device", |call| call.accepted() && call.beside_another()),
     ("added behind more than a queue holds", |call| call.is("radd", "ok") && front(call.rows) >= LIMIT),
-    ("no room in one record", |call| call.is("radd", "no 13") && call.rows.len() == 1),
-    ("no room in as many as can be lent", |call| call.is("radd", "no 13") && call.rows.len() == RECORDS),
+    ("no room in one record", |call| call.is("radd", "no 13 0") && call.rows.len() == 1),
+    ("no room in as many as can be lent", |call| call.is("radd", "no 13 0") && call.rows.len() == RECORDS),
     ("dropped from more than a queue holds", |call| call.is("rdrop", "ok") && front(call.rows) > LIMIT),
     ("a turn of more than a queue holds", |call| call.is("rturn", "ok") && front(call.rows) > LIMIT),
     ("a turn of as many as can be lent", |call| call.is("rturn", "ok") && front(call.rows) == RECORDS),
@@ -86,7 +87,7 @@ impl LentCall<'_> {
     }
 
     fn refused_rows(&self) -> bool {
-        self.answer == "no 3" && !self.opens()
+        self.answer == "no 3 0" && !self.opens()
     }
 
     fn all_vacant(&self) -> bool {
@@ -107,10 +108,10 @@ impl LentCall<'_> {
         self.setup.is_some() && self.beside.is_some() && letter(self.setup) != letter(self.beside)
     }
 
-    /// An open with 3 for the number of rows alone, where the asking would get 7 or 10.
-    fn length_before_asking(&self) -> bool {
-        let opening = words::opening(&self.words[1..]);
-        self.is("ropen", "no 3") && opening.is_some_and(|opening| matches!(Setup::of(opening), Err(7 | 10)))
+    /// An open with 3 for the number of rows, where its words would get one of these numbers.
+    fn length_before(&self, numbers: &[u8]) -> bool {
+        let refused = |opening| Setup::of(opening).is_err_and(|refusal| numbers.contains(&refusal.number));
+        self.is("ropen", "no 3 0") && words::opening(&self.words[1..]).is_some_and(refused)
     }
 
     /// Whether the call is refused for this rule of the rows and for no other.
@@ -133,9 +134,9 @@ impl LentCall<'_> {
     }
 
     /// A request that add would refuse with this number.
-    fn refuses(&self, number: u64) -> bool {
+    fn refuses(&self, number: u8) -> bool {
         let Some(setup) = self.setup else { return false };
-        waiting(self.rows).any(|row| refusal_of(setup.device, row.request) == Some(number))
+        waiting(self.rows).any(|row| refusal_of(setup.device, row.request).is_some_and(|refusal| refusal.number == number))
     }
 
     /// The call has an id or a length that is refused on any rows.

@@ -1,8 +1,10 @@
-//! How often each call of a script got each answer, and how many shifts of turns and calls on lent rows there were of each kind.
+//! How often each call of a script got each answer, with its field, and how many shifts of turns and calls on lent rows there
+//! were of each kind.
 
 mod lent;
 mod shifts;
 
+use crate::answer_tally::{AnswerTally, Answers};
 use crate::planner::model::rules::RULES;
 use crate::planner::model::Session;
 use crate::script::Host;
@@ -10,26 +12,37 @@ use lent::{LentCall, KINDS};
 use shifts::{Shift, SHIFTS};
 use std::collections::BTreeMap;
 
-/// Every answer that a call can get; an edit gets none where it is done.
-const ANSWERS: [(&str, &str); 12] = [
-    ("open", "ok, no 2, no 3, no 7, no 10, ?"),
-    ("add", "ok, no 2, no 4, no 5, no 7, no 8, no 9, no 10, no 11, no 12, no 13, ?"),
-    ("drop", "ok, no 2, no 4, no 6, ?"),
-    ("turn", "ok, no 2, no 14, ?"),
-    ("turns", "ok, no 2, no 10, no 14, ?"),
+/// Every answer that a call can get, with the field at fault but for the reader's; an edit gets none where it is done. A call
+/// that is not in the notation is counted by its first word.
+const ANSWERS: [Answers; 22] = [
+    ("open", "ok, no 2 0, no 3 1, no 3 2, no 3 3, no 3 4, no 7 0, no 10 4, no 10 5, ?"),
+    ("open C", "ok, no 2 0, no 3 2, no 3 3, no 3 4, no 10 5, no 10 6"),
+    ("add", "?"),
+    ("add event", "ok, no 2 0, no 4 1, no 5 1, no 8 2, no 9 3, no 10 3, no 10 4, no 12 0, no 13 0"),
+    ("add packet", "ok, no 2 0, no 4 1, no 5 1, no 7 0, no 10 3, no 10 4, no 12 0, no 13 0"),
+    ("add offcore", "ok, no 2 0, no 4 1, no 5 1, no 7 0, no 9 2, no 10 2, no 10 3, no 11 2, no 12 0, no 13 0"),
+    ("add latency", "ok, no 2 0, no 4 1, no 5 1, no 7 0, no 9 2, no 10 2, no 10 3, no 10 4, no 12 0, no 13 0"),
+    ("drop", "ok, no 2 0, no 4 1, no 6 1, ?"),
+    ("turn", "ok, no 2 0, no 14 0, ?"),
+    ("turns", "ok, no 2 0, no 10 1, no 14 0, ?"),
     ("read", "ok, no 3, no 15, ?"),
     ("rows", "done, ?"),
     ("row", "done, ?"),
-    ("ropen", "ok, no 2, no 3, no 7, no 10, ?"),
-    ("radd", "ok, no 2, no 3, no 4, no 5, no 7, no 8, no 9, no 10, no 11, no 12, no 13, ?"),
-    ("rdrop", "ok, no 2, no 3, no 4, no 6, ?"),
-    ("rturn", "ok, no 2, no 3, no 14, ?"),
+    ("ropen", "ok, no 2 0, no 3 0, no 3 1, no 3 2, no 3 3, no 3 4, no 7 0, no 10 4, no 10 5, ?"),
+    ("ropen C", "ok, no 2 0, no 3 0, no 3 2, no 3 3, no 3 4, no 10 5, no 10 6"),
+    ("radd", "?"),
+    ("radd event", "ok, no 2 0, no 3 0, no 4 1, no 5 1, no 8 2, no 9 3, no 10 3, no 10 4, no 12 0, no 13 0"),
+    ("radd packet", "ok, no 2 0, no 3 0, no 4 1, no 5 1, no 7 0, no 10 3, no 10 4, no 12 0, no 13 0"),
+    ("radd offcore", "ok, no 2 0, no 3 0, no 4 1, no 5 1, no 7 0, no 9 2, no 10 2, no 10 3, no 11 2, no 12 0, no 13 0"),
+    ("radd latency", "ok, no 2 0, no 3 0, no 4 1, no 5 1, no 7 0, no 9 2, no 10 2, no 10 3, no 10 4, no 12 0, no 13 0"),
+    ("rdrop", "ok, no 2 0, no 3 0, no 4 1, no 6 1, ?"),
+    ("rturn", "ok, no 2 0, no 3 0, no 14 0, ?"),
 ];
 
 #[derive(Default)]
 pub struct Tally {
     pub calls: u64,
-    answers: BTreeMap<(String, String), u64>,
+    answers: AnswerTally,
     kinds: BTreeMap<&'static str, u64>,
     /// Whether the host has edited the rows since the last call on them, and how many there were then.
     edited: bool,
@@ -45,12 +58,24 @@ fn answer_in(printed: &str) -> &str {
     }
 }
 
+/// What a call is counted as: an open of C has fields of its own, and so has an add of each kind.
+fn kind_of(words: &[&str], answer: &str) -> Option<String> {
+    let verb = words[0];
+    match (words, answer) {
+        (["open" | "ropen", "C", ..], _) if answer != "?" => Some(format!("{verb} C")),
+        (["add" | "radd", _, kind, ..], _) if answer != "?" => Some(format!("{verb} {kind}")),
+        _ => ANSWERS.iter().any(|(row, _)| *row == verb).then(|| verb.into()),
+    }
+}
+
 impl Tally {
     /// One line of a script, with the host before it and what was printed for it.
     pub fn count(&mut self, before: &Host<Session>, words: &[&str], printed: &str) {
         let answer = answer_in(printed);
         self.calls += 1;
-        *self.answers.entry((words[0].into(), answer.into())).or_default() += 1;
+        if let Some(kind) = kind_of(words, answer) {
+            self.answers.count(&kind, answer);
+        }
         if let Some(shift) = Shift::of(words, printed) {
             SHIFTS.iter().filter(|(_, test)| test(&shift)).for_each(|(kind, _)| *self.kinds.entry(kind).or_default() += 1);
         }
@@ -68,10 +93,6 @@ impl Tally {
         (self.edited, self.last_number) = (false, number);
     }
 
-    fn of(&self, verb: &str, answer: &str) -> u64 {
-        self.answers.get(&(verb.into(), answer.into())).copied().unwrap_or(0)
-    }
-
     /// Each kind with its count, and last the rules of lent rows for which alone calls were refused.
     fn kinds(&self) -> impl Iterator<Item = (&str, u64)> {
         let shifts = SHIFTS.iter().map(|(kind, _)| *kind);
@@ -80,18 +101,18 @@ impl Tally {
     }
 
     pub fn print(&self) {
-        for (verb, answers) in ANSWERS {
-            let counts: Vec<String> = answers.split(", ").map(|answer| format!("{answer}: {}", self.of(verb, answer))).collect();
-            println!("{verb:6}{}", counts.join(", "));
-        }
+        self.answers.print(&ANSWERS);
         self.kinds().for_each(|(kind, count)| println!("{kind:58}{count:>8}"));
+    }
+
+    /// No call got an answer that is not its own.
+    pub fn nothing_else(&self) {
+        self.answers.nothing_else(&ANSWERS);
     }
 
     /// Every call got every answer and every kind came up, or the comparison says too little.
     pub fn nothing_missed(&self) {
-        for (verb, answers) in ANSWERS {
-            answers.split(", ").for_each(|answer| assert!(self.of(verb, answer) > 0, "{verb} was never answered {answer}"));
-        }
+        self.answers.nothing_missed(&ANSWERS);
         self.kinds().for_each(|(kind, count)| assert!(count > 0, "never: {kind}"));
     }
 }

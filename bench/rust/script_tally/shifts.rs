@@ -19,8 +19,8 @@ pub const SHIFTS: [(&str, Test); 7] = [
     ("both slices just fit", |shift| shift.accepted() && shift.count > 0 && !shift.keeps(shift.lists) && !shift.keeps(shift.ends)),
     ("room behind the lists and the ends", |shift| shift.accepted() && shift.keeps(shift.lists) && shift.keeps(shift.ends)),
     ("lists of different lengths", |shift| shift.accepted() && shift.lengths().windows(2).any(|pair| pair[0] != pair[1])),
-    ("too few ends", |shift| shift.answer == "no 14" && shift.room < shift.count),
-    ("too few numbers", |shift| shift.answer == "no 14" && shift.room >= shift.count),
+    ("too few ends", |shift| shift.answer == "no 14 0" && shift.room < shift.count),
+    ("too few numbers", |shift| shift.answer == "no 14 0" && shift.room >= shift.count),
 ];
 
 impl Shift<'_> {

@@ -3,6 +3,8 @@
 
 pub mod calls;
 mod damage;
+pub mod faults;
+mod field_damage;
 pub mod list_damage;
 pub mod lists;
 
@@ -10,7 +12,7 @@ use crate::answer::{answer, Output, LONGEST_ANSWER};
 use crate::names::road::EachTime;
 use crate::names::Texts;
 use crate::numbers::Numbers;
-use crate::planner::devices::{Device, Opening, DEVICES};
+use crate::planner::devices::{Device, Filters, Opening, DEVICES};
 use crate::planner::fast::session::Session;
 use crate::planner::{u_box, Calls};
 use calls::{open_line, Bench};
@@ -94,11 +96,29 @@ fn overflow(bench: &mut Bench, transcript: &mut Vec<u8>) {
         let (code, mask) = bench.device.pairs()[0];
         push(transcript, format!("event\t{id}\t{code:02X}\t{mask:02X}\t{}", bench.usable).as_bytes());
     }
+    for line in own_adds(bench) {
+        push(transcript, line.as_bytes());
+    }
+}
+
+/// An add of each kind that the device has, by ids of their own, for all usable counters.
+pub fn own_adds(bench: &Bench) -> Vec<String> {
+    let usable = bench.usable;
+    match bench.device.filters {
+        Filters::Absent => Vec::new(),
+        Filters::PacketMatch => vec![format!("packet\t201\t{:016X}\t{:016X}\t{usable}", 1, 1)],
+        Filters::OffcoreResponse => {
+            vec![format!("offcore\t202\t{:016X}\t{usable}", 0x10001), format!("latency\t203\t0001\t{usable}\t{usable}")]
+        }
+    }
 }
 
 fn call(bench: &mut Bench) -> String {
     if bench.named > 0 && bench.numbers.below(100) < bench.named {
         return lists::named(bench);
+    }
+    if bench.numbers.chance(bench.odd / 2) {
+        return faults::add(bench);
     }
     match bench.numbers.below(20) {
         0 => bench.open(),
@@ -108,12 +128,28 @@ fn call(bench: &mut Bench) -> String {
     }
 }
 
-/// The end of the input: after a newline, or inside a line, which may be overlong.
+/// A damaged line: its bytes or its fields.
+fn damaged(numbers: &mut Numbers, line: &[u8]) -> Vec<u8> {
+    match numbers.chance(50) {
+        true => damage::damaged(numbers, line),
+        false => field_damage::damaged(numbers, line),
+    }
+}
+
+/// The end of the input: after a newline, or inside a line, which may be damaged or overlong.
 fn ending(bench: &mut Bench, transcript: &mut Vec<u8>) {
     match bench.numbers.below(10) {
         0 => drop(transcript.pop()),
         1 => transcript.extend_from_slice(call(bench).as_bytes()),
         2 => transcript.extend_from_slice(&damage::noise(&mut bench.numbers)),
+        3 => {
+            let line = call(bench);
+            transcript.extend_from_slice(&field_damage::cut(&mut bench.numbers, line.as_bytes()));
+        }
+        4 => {
+            let line = call(bench);
+            transcript.extend_from_slice(&damaged(&mut bench.numbers, line.as_bytes()));
+        }
         _ => {}
     }
 }
@@ -128,7 +164,7 @@ struct Mix {
     noise: u64,
 }
 
-/// An opening that is refused, for one reason or for many; or none.
+/// An opening that is mostly refused, for one reason or for many; or none.
 pub fn refused_opening(bench: &mut Bench) -> Option<Opening> {
     let own = bench.opening();
     let usable = bench.numbers.pick(&[0, bench.device.all() + 1, 17, 99999]);
@@ -144,12 +180,17 @@ pub fn refused_opening(bench: &mut Bench) -> Option<Opening> {
         5 => Some(Opening { core, ..own }),
         6 => Some(Opening { freeze, core, ..own }),
         7 => Some(Opening { usable, freeze, ..own }),
+        8 | 9 => Some(faults::opening(bench)),
         _ => None,
     }
 }
 
-/// The open, sometimes after one that is refused.
-fn opening(bench: &mut Bench, transcript: &mut Vec<u8>) {
+/// The open, sometimes after one that is refused, and so many of a hundred after some whose fields are damaged.
+fn opening(bench: &mut Bench, transcript: &mut Vec<u8>, damage: u64) {
+    while bench.numbers.chance(damage) {
+        let line = bench.own_open();
+        push(transcript, &field_damage::damaged(&mut bench.numbers, line.as_bytes()));
+    }
     if let Some(refused) = refused_opening(bench) {
         push(transcript, open_line(refused).as_bytes());
     }
@@ -160,7 +201,7 @@ fn mixed_lines(bench: &mut Bench, mix: Mix) -> Vec<u8> {
     let mut transcript = Vec::new();
     for n in 0..mix.calls {
         if n == mix.opened_at {
-            opening(bench, &mut transcript);
+            opening(bench, &mut transcript, 2 * mix.damage);
         }
         if n == mix.overflow_at {
             overflow(bench, &mut transcript);
@@ -168,7 +209,7 @@ fn mixed_lines(bench: &mut Bench, mix: Mix) -> Vec<u8> {
         let line: Vec<u8> = call(bench).into();
         let line = match (bench.numbers.chance(mix.damage), bench.numbers.chance(mix.noise)) {
             (_, true) => damage::noise(&mut bench.numbers),
-            (true, _) => damage::damaged(&mut bench.numbers, &line),
+            (true, _) => damaged(&mut bench.numbers, &line),
             _ => line,
         };
         push(&mut transcript, &line);

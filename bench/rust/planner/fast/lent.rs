@@ -4,6 +4,7 @@ use super::road::{Fastest, Proved, Road};
 use super::rules::{lendable, waiting};
 use super::writes::write_list;
 use crate::planner::devices::{Opening, Setup};
+use crate::planner::refusal::Refusal;
 use crate::planner::requests::{refusal_of, Entry, Place, Request, VACANT};
 use crate::planner::{LentCalls, Turn, PLACES};
 use std::marker::PhantomData;
@@ -26,9 +27,9 @@ impl<R> Clone for LentOn<R> {
 
 impl<R: Road> LentOn<R> {
     /// The setup and the number of rows that wait, where the session is open and the rows break no rule.
-    fn judged(&self, rows: &[Entry]) -> Result<(Setup, usize), u64> {
-        let setup = self.setup.ok_or(2u64)?;
-        Ok((setup, waiting::<R>(setup, rows).ok_or(3u64)?))
+    fn judged(&self, rows: &[Entry]) -> Result<(Setup, usize), Refusal> {
+        let setup = self.setup.ok_or(Refusal::whole(2))?;
+        Ok((setup, waiting::<R>(setup, rows).ok_or(Refusal::whole(3))?))
     }
 }
 
@@ -51,48 +52,48 @@ impl<R: Road> LentCalls for LentOn<R> {
         LentOn { setup: None, road: PhantomData }
     }
 
-    fn open(&mut self, rows: &mut [Entry], opening: Opening) -> Result<(), u64> {
+    fn open(&mut self, rows: &mut [Entry], opening: Opening) -> Result<(), Refusal> {
         if self.setup.is_some() {
-            return Err(2);
+            return Err(Refusal::whole(2));
         }
         if !lendable(rows) {
-            return Err(3);
+            return Err(Refusal::whole(3));
         }
         self.setup = Some(Setup::of(opening)?);
         rows.fill(VACANT);
         Ok(())
     }
 
-    fn add(&self, rows: &mut [Entry], id: u64, request: Request) -> Result<(), u64> {
+    fn add(&self, rows: &mut [Entry], id: u64, request: Request) -> Result<(), Refusal> {
         let (setup, count) = self.judged(rows)?;
         if id == 0 || id > 65535 {
-            return Err(4);
+            return Err(Refusal::at(4, 1));
         }
         if position(&rows[..count], id).is_some() {
-            return Err(5);
+            return Err(Refusal::at(5, 1));
         }
-        if let Some(number) = refusal_of(setup.device, request) {
-            return Err(number);
+        if let Some(refusal) = refusal_of(setup.device, request) {
+            return Err(refusal);
         }
         if !R::plans_alone(setup, request) {
-            return Err(12);
+            return Err(Refusal::whole(12));
         }
-        *rows.get_mut(count).ok_or(13u64)? = Entry { id, request };
+        *rows.get_mut(count).ok_or(Refusal::whole(13))? = Entry { id, request };
         Ok(())
     }
 
-    fn drop(&self, rows: &mut [Entry], id: u64) -> Result<(), u64> {
+    fn drop(&self, rows: &mut [Entry], id: u64) -> Result<(), Refusal> {
         let (_, count) = self.judged(rows)?;
         if id == 0 || id > 65535 {
-            return Err(4);
+            return Err(Refusal::at(4, 1));
         }
-        let at = position(&rows[..count], id).ok_or(6u64)?;
+        let at = position(&rows[..count], id).ok_or(Refusal::at(6, 1))?;
         rows.copy_within(at + 1..count, at);
         rows[count - 1] = VACANT;
         Ok(())
     }
 
-    fn turn(&self, rows: &mut [Entry], list: &mut [u64]) -> Result<Turn, u64> {
+    fn turn(&self, rows: &mut [Entry], list: &mut [u64]) -> Result<Turn, Refusal> {
         let (setup, count) = self.judged(rows)?;
         let queue = &mut rows[..count];
         let mut turn = Turn { taken: [VACANT; PLACES], places: [Place::Counter(0); PLACES], count: 0, writes: 0 };
@@ -102,7 +103,7 @@ impl<R: Road> LentCalls for LentOn<R> {
             marked += 1;
         });
         let taken = &turn.taken[..turn.count];
-        turn.writes = write_list(setup, taken, &turn.places, list).ok_or(14u64)?;
+        turn.writes = write_list(setup, taken, &turn.places, list).ok_or(Refusal::whole(14))?;
         requeue(queue, &taken_at[..marked], taken);
         Ok(turn)
     }

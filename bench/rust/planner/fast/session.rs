@@ -4,6 +4,7 @@ use super::lent::LentOn;
 use super::road::{Fastest, Proved, Road};
 use super::writes::write_list;
 use crate::planner::devices::{Opening, Setup};
+use crate::planner::refusal::Refusal;
 use crate::planner::requests::{refusal_of, Entry, NamedEvent, Place, Request, VACANT};
 use crate::planner::{Calls, Turn, LIMIT, LIST, PLACES, SHIFT};
 use std::marker::PhantomData;
@@ -27,13 +28,13 @@ impl<R> SessionOn<R> {
     }
 
     /// What every add checks first: 2, 4 and 5.
-    fn setup_for(&self, id: u64) -> Result<Setup, u64> {
-        let setup = self.setup.ok_or(2u64)?;
+    fn setup_for(&self, id: u64) -> Result<Setup, Refusal> {
+        let setup = self.setup.ok_or(Refusal::whole(2))?;
         if id == 0 || id > 65535 {
-            return Err(4);
+            return Err(Refusal::at(4, 1));
         }
         match self.position(id) {
-            Some(_) => Err(5),
+            Some(_) => Err(Refusal::at(5, 1)),
             None => Ok(setup),
         }
     }
@@ -62,9 +63,9 @@ impl<R: Road> Calls for SessionOn<R> {
         &self.queue[..self.waiting]
     }
 
-    fn open(&mut self, opening: Opening) -> Result<(), u64> {
+    fn open(&mut self, opening: Opening) -> Result<(), Refusal> {
         if self.setup.is_some() {
-            return Err(2);
+            return Err(Refusal::whole(2));
         }
         self.setup = Some(Setup::of(opening)?);
         Ok(())
@@ -72,16 +73,16 @@ impl<R: Road> Calls for SessionOn<R> {
 
     /// Inlined in both of its places: with a call of its own every add would be slower.
     #[inline(always)]
-    fn add(&mut self, id: u64, request: Request) -> Result<(), u64> {
+    fn add(&mut self, id: u64, request: Request) -> Result<(), Refusal> {
         let setup = self.setup_for(id)?;
-        if let Some(number) = refusal_of(setup.device, request) {
-            return Err(number);
+        if let Some(refusal) = refusal_of(setup.device, request) {
+            return Err(refusal);
         }
         if !R::plans_alone(setup, request) {
-            return Err(12);
+            return Err(Refusal::whole(12));
         }
         if self.waiting == LIMIT {
-            return Err(13);
+            return Err(Refusal::whole(13));
         }
         self.queue[self.waiting] = Entry { id, request };
         self.waiting += 1;
@@ -89,40 +90,43 @@ impl<R: Road> Calls for SessionOn<R> {
     }
 
     /// A row of this device goes the way of every add; what the name is refused with comes behind the first checks.
-    fn add_named(&mut self, id: u64, row: Option<NamedEvent>, allowed: u64) -> Result<(), u64> {
+    fn add_named(&mut self, id: u64, row: Option<NamedEvent>, allowed: u64) -> Result<(), Refusal> {
         match (self.setup, row) {
-            (Some(setup), Some(row)) if row.letter == setup.device.letter => self.add(id, row.request(allowed)),
-            (_, row) => self.setup_for(id).and(Err(if row.is_some() { 7 } else { 8 })),
+            (Some(setup), Some(row)) if row.letter == setup.device.letter => {
+                self.add(id, row.request(allowed)).map_err(Refusal::by_name)
+            }
+            (_, Some(_)) => self.setup_for(id).and(Err(Refusal::whole(7))),
+            (_, None) => self.setup_for(id).and(Err(Refusal::at(8, 2))),
         }
     }
 
-    fn drop(&mut self, id: u64) -> Result<(), u64> {
-        self.setup.ok_or(2u64)?;
+    fn drop(&mut self, id: u64) -> Result<(), Refusal> {
+        self.setup.ok_or(Refusal::whole(2))?;
         if id == 0 || id > 65535 {
-            return Err(4);
+            return Err(Refusal::at(4, 1));
         }
-        let at = self.position(id).ok_or(6u64)?;
+        let at = self.position(id).ok_or(Refusal::at(6, 1))?;
         self.queue.copy_within(at + 1..self.waiting, at);
         self.waiting -= 1;
         Ok(())
     }
 
-    fn turn(&mut self, list: &mut [u64]) -> Result<Turn, u64> {
-        let setup = self.setup.ok_or(2u64)?;
+    fn turn(&mut self, list: &mut [u64]) -> Result<Turn, Refusal> {
+        let setup = self.setup.ok_or(Refusal::whole(2))?;
         let mut turn = Turn { taken: [VACANT; PLACES], places: [Place::Counter(0); PLACES], count: 0, writes: 0 };
         let mut at = 0;
         R::choose(setup, self.queue(), &mut turn, |place| at |= 1 << place);
         let taken = &turn.taken[..turn.count];
-        turn.writes = write_list(setup, taken, &turn.places, list).ok_or(14u64)?;
+        turn.writes = write_list(setup, taken, &turn.places, list).ok_or(Refusal::whole(14))?;
         self.requeue(at, taken);
         Ok(turn)
     }
 
     /// A copy makes the turns first, to tell how long their lists are; then each is written where the last one ended.
-    fn turns(&mut self, count: u64, lists: &mut [u64], ends: &mut [u64]) -> Result<(), u64> {
-        self.setup.ok_or(2u64)?;
+    fn turns(&mut self, count: u64, lists: &mut [u64], ends: &mut [u64]) -> Result<(), Refusal> {
+        self.setup.ok_or(Refusal::whole(2))?;
         if count > SHIFT {
-            return Err(10);
+            return Err(Refusal::at(10, 1));
         }
         let mut copy = SessionOn::<R> { road: PhantomData, ..*self };
         let mut needed = 0;
@@ -130,7 +134,7 @@ impl<R: Road> Calls for SessionOn<R> {
             needed += 2 * copy.turn(&mut [0; LIST])?.writes;
         }
         if lists.len() < needed || ends.len() < count as usize {
-            return Err(14);
+            return Err(Refusal::whole(14));
         }
         let mut end = 0;
         for place in &mut ends[..count as usize] {

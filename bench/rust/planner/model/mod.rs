@@ -3,15 +3,18 @@
 
 pub mod applied;
 pub mod c_box;
+mod checks;
 pub mod lent;
 pub mod plan;
 pub mod reader;
 pub mod rules;
 pub mod writes;
 
-use super::devices::{Device, Opening, Setup};
-use super::requests::{self, event_refusal, Entry, NamedEvent, Place, Request, VACANT};
+use super::devices::{Opening, Setup};
+use super::refusal::Refusal;
+use super::requests::{Entry, NamedEvent, Place, Request, VACANT};
 use super::{Calls, Turn, LIMIT, LIST, PLACES, SHIFT};
+pub use checks::{refusal_of, setup_of};
 use plan::first_plan;
 
 #[derive(Clone)]
@@ -26,19 +29,13 @@ pub fn requests_of(entries: &[Entry]) -> Vec<Request> {
     entries.iter().map(|entry| entry.request).collect()
 }
 
-/// The number that refuses an event's code and mask: by the printed pages on C, and elsewhere by the first row with the code.
-fn pair_refusal(device: &Device, code: u8, mask: u8) -> Option<u64> {
-    match device.letter {
-        b'C' => c_box::event_refusal(code, mask),
-        _ => device.row_refusal(device.events.iter().find(|event| event.code == code), mask),
-    }
-}
-
-/// The number of the checks 7, 8, 10, 9 and 11 that refuses a request.
-pub fn refusal_of(device: &Device, request: Request) -> Option<u64> {
-    match request {
-        Request::Event { code, mask, allowed } => event_refusal(device, pair_refusal(device, code, mask), allowed),
-        _ => requests::refusal_of(device, request),
+/// The refusal of an event where its name is typed (order 11): what is at its code or its mask is at the name, and the set
+/// stands one field before that of an event.
+fn in_named_line(Refusal { number, field }: Refusal) -> Refusal {
+    match field {
+        3 => Refusal { number, field: 2 },
+        4 => Refusal { number, field: 3 },
+        _ => Refusal { number, field },
     }
 }
 
@@ -64,13 +61,13 @@ fn turn_of(taken: &[Entry], plan: &[Place], writes: usize) -> Turn {
 
 impl Session {
     /// What every add checks first: 2, 4 and 5.
-    fn setup_for(&self, id: u64) -> Result<Setup, u64> {
-        let setup = self.setup.ok_or(2u64)?;
+    fn setup_for(&self, id: u64) -> Result<Setup, Refusal> {
+        let setup = self.setup.ok_or(Refusal::whole(2))?;
         if id == 0 || id > 65535 {
-            return Err(4);
+            return Err(Refusal::at(4, 1));
         }
         if self.queue.iter().any(|entry| entry.id == id) {
-            return Err(5);
+            return Err(Refusal::at(5, 1));
         }
         Ok(setup)
     }
@@ -87,58 +84,58 @@ impl Calls for Session {
         &self.queue
     }
 
-    fn open(&mut self, opening: Opening) -> Result<(), u64> {
+    fn open(&mut self, opening: Opening) -> Result<(), Refusal> {
         if self.setup.is_some() {
-            return Err(2);
+            return Err(Refusal::whole(2));
         }
-        self.setup = Some(Setup::of(opening)?);
+        self.setup = Some(setup_of(opening)?);
         Ok(())
     }
 
-    fn add(&mut self, id: u64, request: Request) -> Result<(), u64> {
+    fn add(&mut self, id: u64, request: Request) -> Result<(), Refusal> {
         let setup = self.setup_for(id)?;
-        if let Some(number) = refusal_of(setup.device, request) {
-            return Err(number);
+        if let Some(refusal) = refusal_of(setup.device, request) {
+            return Err(refusal);
         }
         if first_plan(setup, &[request]).is_none() {
-            return Err(12);
+            return Err(Refusal::whole(12));
         }
         if self.queue.len() >= self.limit {
-            return Err(13);
+            return Err(Refusal::whole(13));
         }
         self.queue.push(Entry { id, request });
         Ok(())
     }
 
-    fn add_named(&mut self, id: u64, row: Option<NamedEvent>, allowed: u64) -> Result<(), u64> {
+    fn add_named(&mut self, id: u64, row: Option<NamedEvent>, allowed: u64) -> Result<(), Refusal> {
         let setup = self.setup_for(id)?;
-        let row = row.ok_or(8u64)?;
+        let row = row.ok_or(Refusal::at(8, 2))?;
         if row.letter != setup.device.letter {
-            return Err(7);
+            return Err(Refusal::whole(7));
         }
-        self.add(id, row.request(allowed))
+        self.add(id, row.request(allowed)).map_err(in_named_line)
     }
 
-    fn drop(&mut self, id: u64) -> Result<(), u64> {
-        self.setup.ok_or(2u64)?;
+    fn drop(&mut self, id: u64) -> Result<(), Refusal> {
+        self.setup.ok_or(Refusal::whole(2))?;
         if id == 0 || id > 65535 {
-            return Err(4);
+            return Err(Refusal::at(4, 1));
         }
         if self.queue.iter().all(|entry| entry.id != id) {
-            return Err(6);
+            return Err(Refusal::at(6, 1));
         }
         self.queue.retain(|entry| entry.id != id);
         Ok(())
     }
 
-    fn turn(&mut self, list: &mut [u64]) -> Result<Turn, u64> {
-        let setup = self.setup.ok_or(2u64)?;
+    fn turn(&mut self, list: &mut [u64]) -> Result<Turn, Refusal> {
+        let setup = self.setup.ok_or(Refusal::whole(2))?;
         let (taken, passed) = select(setup, &self.queue);
         let requests = requests_of(&taken);
         let plan = first_plan(setup, &requests).expect("what is taken has a plan");
         let writes = writes::list_of(setup, &requests, &plan);
         if list.len() < 2 * writes.len() {
-            return Err(14);
+            return Err(Refusal::whole(14));
         }
         for (pair, (address, value)) in list.chunks_mut(2).zip(&writes) {
             pair.copy_from_slice(&[*address, *value]);
@@ -148,10 +145,10 @@ impl Calls for Session {
     }
 
     /// The single turns are made by a copy of the session, each into a slice of its own; only then are both lengths judged.
-    fn turns(&mut self, count: u64, lists: &mut [u64], ends: &mut [u64]) -> Result<(), u64> {
-        self.setup.ok_or(2u64)?;
+    fn turns(&mut self, count: u64, lists: &mut [u64], ends: &mut [u64]) -> Result<(), Refusal> {
+        self.setup.ok_or(Refusal::whole(2))?;
         if count > SHIFT {
-            return Err(10);
+            return Err(Refusal::at(10, 1));
         }
         let (mut after, mut written, mut places) = (self.clone(), Vec::new(), Vec::new());
         for _ in 0..count {
@@ -161,7 +158,7 @@ impl Calls for Session {
             places.push(written.len() as u64);
         }
         if lists.len() < written.len() || ends.len() < places.len() {
-            return Err(14);
+            return Err(Refusal::whole(14));
         }
         lists[..written.len()].copy_from_slice(&written);
         ends[..places.len()].copy_from_slice(&places);

@@ -1,6 +1,6 @@
 //! The reader: register values back to what each counter counts.
 
-use super::refusal_of;
+use super::{refusal_of, setup_of};
 use crate::planner::devices::{Filters, Opening, Setup};
 use crate::planner::requests::{latency_words, Request, OUTSTANDING};
 use crate::planner::PLACES;
@@ -80,10 +80,10 @@ fn filters_held(setup: Setup, r: &Registers, states: &[State]) -> bool {
     }
 }
 
-/// What the reader answers: the state of each counter, or the number of the refusal, 3 for every opening that is refused. The
-/// U-Box register is looked at only where something is asked of an overflow.
+/// What the reader answers: the state of each counter, or the number of the refusal, which is no check of a request and has no
+/// field: 3 for every opening that is refused. The U-Box register is looked at only where something is asked of an overflow.
 pub fn read(opening: Opening, r: &Registers) -> Result<Vec<State>, u64> {
-    let setup = Setup::of(opening).map_err(|_| 3u64)?;
+    let setup = setup_of(opening).map_err(|_| 3u64)?;
     let mut states = Vec::new();
     let mut used = 0;
     for k in 0..setup.device.counters {
