@@ -1,6 +1,7 @@
 // Calls with their answers printed.
 use crate::print;
 use checks::askings::unasked;
+use checks::fields::request_fields;
 use planner::add::add;
 use planner::turn::turn;
 use requests::CounterSet;
@@ -33,9 +34,11 @@ pub fn opening(device: u64, usable: u64) -> Opening {
 
 // The session after an add.
 pub fn added(session: Session, id: u64, request: Request) -> Session {
+    let setup = session.setup;
+    let device = setup.device;
     let answered = add(session, id, request);
     let answer = answered.answer;
-    print::answer(answer);
+    print::answer(answer, request_fields(device, request));
     let next = answered.session;
     next
 }

@@ -6,6 +6,8 @@ use crate::calls::opening;
 use crate::calls::turned;
 use crate::print;
 use checks::askings::unasked;
+use checks::fields::no_fields;
+use checks::fields::opening_fields;
 use planner::drop::drop_request;
 use planner::open::open;
 use requests::CounterSet;
@@ -59,15 +61,16 @@ fn nonsense() -> Session {
 pub fn run() {
     let session = nonsense();
     print::session(session);
-    let reopened = open(session, opening(G, 15));
+    let again = opening(G, 15);
+    let reopened = open(session, again);
     let answer = reopened.answer;
-    print::answer(answer);
+    print::answer(answer, opening_fields(again));
     let same = added(session, 8, event(0x52, 0x00, 1));
     let after = turned(same);
     print::session(after);
     let dropped = drop_request(after, 7);
     let taken_out = dropped.answer;
-    print::answer(taken_out);
+    print::answer(taken_out, no_fields());
     let left = dropped.session;
     print::session(left);
     turned(left);

@@ -1,4 +1,6 @@
 // Prints requests, sessions and answers, a line each.
+use checks::faults::field_of;
+use checks::fields::no_fields;
 use checks::refusals::number_of;
 use plans::Place;
 use prints::decimal;
@@ -7,6 +9,7 @@ use prints::text;
 use requests::Answer;
 use requests::Device;
 use requests::Entry;
+use requests::Fields;
 use requests::Request;
 use sessions::Session;
 use sessions::TurnAnswered;
@@ -23,13 +26,14 @@ fn hex_field(n: u64, width: usize) {
     hex(n, width);
 }
 
-// `ok`, or `no` and the number.
-pub fn answer(a: Answer) {
+// `ok`, or `no`, the number and the field at fault of a call with these fields.
+pub fn answer(a: Answer, fields: Fields) {
     match a {
         Answer::Accepted => text(b"ok\n"),
         Answer::Refused(refusal) => {
             text(b"no");
             field(number_of(refusal));
+            field(field_of(refusal, fields) as u64);
             text(b"\n");
         }
     }
@@ -184,5 +188,5 @@ pub fn turn(t: TurnAnswered, list: &[u64; 44]) {
     plan(t);
     writes(list, t.writes);
     let a = t.answer;
-    answer(a);
+    answer(a, no_fields());
 }
