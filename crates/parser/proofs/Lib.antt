@@ -3,3 +3,4 @@ pub mod VerbsRead
 pub mod LineTexts
 pub mod NamedReading
 pub mod ParsedLines
+pub mod LongLines

@@ -1,6 +1,5 @@
 -- What a line asks for, whatever its bytes and the lists, by the grammar of records and that of requests by name. Assumes nothing.
 use mathlib.Core.Path.{_≡_, refl, ap, sym, _∙_}
-use mathlib.Core.Logic.{_⊎_, inl, inr, ⊎-elim}
 use mathlib.Core.Bool.{Bool, true, false}
 use mathlib.Mathlib.Data.Bool.Basic.{eq-false-of-not-eq-true}
 use mathlib.Core.List.{List, [], _∷_, _++_}
@@ -21,16 +20,18 @@ use Rattle.records.specs.Text.{bytes, newline}
 use Rattle.records.specs.Fields.{fields, fieldAt}
 use Rattle.records.specs.Verbs.{hasVerb}
 use Rattle.records.specs.Parse.{longest, tooLong, parseText, isClosed, textLength, textOf, parseLine, parsedRefusal}
-use Rattle.records.specs.Records.{recordText, Fits}
+use Rattle.records.specs.Records.{recordText, Fits, AddFits}
 use Rattle.records.specs.Grammar.{IsText}
 use Rattle.records.specs.declared.Record.{Record}
 use Rattle.records.specs.declared.Record.the-variants.{Add}
 use Rattle.records.specs.declared.Parsed.{Parsed}
-use Rattle.records.specs.declared.Parsed.the-variants.{Line, Fault}
+use Rattle.records.specs.declared.Parsed.the-variants.{Line, Named, Fault}
 use Rattle.records.proofs.Closings.{Closed, closed-text, closed-only}
 use Rattle.records.proofs.GrammarHolds.{grammar}
 use Rattle.records.proofs.LineEnds.{text-within}
 use Rattle.records.proofs.Outcomes.{fault-not-line}
+use Rattle.records.proofs.Settled as settled
+use Rattle.records.proofs.Settled.{Settled, line-is}
 use Rattle.records.proofs.WordLoops.{same-bytes}
 use Rattle.names.specs.Lists.{NameLists, listsFormed}
 use Rattle.names.specs.LookUp.{rowNamed}
@@ -96,7 +97,7 @@ module _ (n : NameLists) (d : Device) (line : List ℕ) (id : ℕ) (name : List 
       rw (is .1, w .line, c .text, c .closed, c .short)
       (asked-named n d (w .text) true (said-verb n d (w .text) id name a says) ∙ said-line n d (w .text) id name a says)
 
-  named-line : AreLists n → parseLineWith n d line ≡ Line (Add id (requestNamed n name d a))
+  named-line : AreLists n → parseLineWith n d line ≡ Named id (requestNamed n name d a)
   named-line l = by-name ∙ add-formed n d name id a (list-grammar .both-formed n l)
 
   ill-formed : ¬ AreLists n → parseLineWith n d line ≡ Fault 0
@@ -150,6 +151,31 @@ other-lines line out = go (verb-of line)
     go (named e) = read e (named-read (textOf line) (isClosed line) e)
     go (other e) = let (k, f) = grammar .other line (out .no-record) in (k, λ n d. other-line n d line e ∙ f)
 
+-- a request by name asks for no record, and a line without the verb for nothing by name
+fault-not-named : (k id : ℕ) (r : Request) → Fault k ≡ Named id r → ⊥
+fault-not-named k id r e = let z : _≡_ {A = ℕ} 0 1 = cc in omega arith
+
+record-not-named : (line : List ℕ) (id : ℕ) (r : Request) → parseLine line ≡ Named id r → ⊥
+record-not-named line id r e = go (line-is line) e
+  where
+    go : {p : Parsed} → Settled p → p ≡ Named id r → ⊥
+    go (settled.asks q) f = let z : _≡_ {A = ℕ} 0 1 = cc in omega arith
+    go (settled.faulty k) f = fault-not-named k id r f
+
+named-asks : (n : NameLists) (d : Device) (line : List ℕ) (id : ℕ) (a : CounterSet) → IsNamed line id (fieldAt (textOf line) 2) a → (r : Record)
+    → parseLineWith n d line ≡ Line r → ⊥
+named-asks n d line id a is r e = go (listsFormed n) refl
+  where
+    name : List ℕ
+    name = fieldAt (textOf line) 2
+
+    go : (b : Bool) → listsFormed n ≡ b → ⊥
+    go true w =
+        let same : Named id (requestNamed n name d a) ≡ Line r = sym (by-name n d line id name a is ∙ add-formed n d name id a w) ∙ e in
+        let z : _≡_ {A = ℕ} 0 1 = cc in
+        omega arith
+    go false w = fault-not-line 0 r (sym (by-name n d line id name a is ∙ add-refused n d name id a w) ∙ e)
+
 module _ (n : NameLists) (d : Device) (line : List ℕ) (r : Record) where
   record-lines : IsText line r → parseLineWith n d line ≡ Line r
   record-lines is = go (verb-of line)
@@ -158,42 +184,51 @@ module _ (n : NameLists) (d : Device) (line : List ℕ) (r : Record) where
       go (named e) = absurd (fault-not-line 0 r (sym (named-not-record line e) ∙ grammar .parsed line r is))
       go (other e) = other-line n d line e ∙ grammar .parsed line r is
 
-  -- a request by name that asks for the record
-  asks-by-name : (id : ℕ) (a : CounterSet) → IsNamed line id (fieldAt (textOf line) 2) a → parseLineWith n d line ≡ Line r → ByName n d line r
-  asks-by-name id a is e = go (listsFormed n) refl
-    where
-      go : (b : Bool) → listsFormed n ≡ b → ByName n d line r
-      go true w =
-          let l : AreLists n = list-grammar .both-only n w in
-          let same : Line r ≡ Line (Add id (requestNamed n (fieldAt (textOf line) 2) d a)) = sym e ∙ named-line n d line id (fieldAt (textOf line) 2) a is l in
-          record { id = id; name = fieldAt (textOf line) 2; allowed = a; text = is; lists = l; is = cc }
-      go false w =
-          absurd (fault-not-line 0 r (sym (by-name n d line id (fieldAt (textOf line) 2) a is ∙ add-refused n d (fieldAt (textOf line) 2) id a w) ∙ e))
-
-  only : parseLineWith n d line ≡ Line r → IsText line r ⊎ ByName n d line r
+  -- a line that asks for a record is its text
+  only : parseLineWith n d line ≡ Line r → IsText line r
   only e = go (verb-of line)
     where
-      read : hasVerb (textOf line) "named" ≡ true → Read (textOf line) (isClosed line) → IsText line r ⊎ ByName n d line r
-      read verb (says id a shut s) = inr (asks-by-name id a (is-named line id a s shut) e)
+      read : hasVerb (textOf line) "named" ≡ true → Read (textOf line) (isClosed line) → IsText line r
+      read verb (says id a shut s) = absurd (named-asks n d line id a (is-named line id a s shut) r e)
       read verb (faulty k f) = absurd (fault-not-line k r (sym (faulty-line line verb k f n d) ∙ e))
 
-      go : Verb line → IsText line r ⊎ ByName n d line r
+      go : Verb line → IsText line r
       go (named v) = read v (named-read (textOf line) (isClosed line) v)
-      go (other v) = inl (grammar .only line r (sym (other-line n d line v) ∙ e))
+      go (other v) = grammar .only line r (sym (other-line n d line v) ∙ e)
 
-  record-fits : parseLineWith n d line ≡ Line r → Fits r
-  record-fits e =
-      ⊎-elim
-      (λ is. is .0)
-      (λ b. rw (b .is) (request-fits n (b .name) d (b .id) (b .allowed) (b .text .0 .0) (b .text .0 .2)))
-      (only e)
+module _ (n : NameLists) (d : Device) (line : List ℕ) (id : ℕ) (r : Request) where
+  -- a request by name that asks for this one
+  asks-by-name : (i : ℕ) (a : CounterSet) → IsNamed line i (fieldAt (textOf line) 2) a → parseLineWith n d line ≡ Named id r → ByName n d line id r
+  asks-by-name i a is e = go (listsFormed n) refl
+    where
+      go : (b : Bool) → listsFormed n ≡ b → ByName n d line id r
+      go true w =
+          let l : AreLists n = list-grammar .both-only n w in
+          let same : Named id r ≡ Named i (requestNamed n (fieldAt (textOf line) 2) d a) = sym e ∙ named-line n d line i (fieldAt (textOf line) 2) a is l in
+          let id-is : id ≡ i = cc in
+          record { name = fieldAt (textOf line) 2; allowed = a; text = rw id-is is; lists = l; is = cc }
+      go false w = absurd (fault-not-named 0 id r (sym (by-name n d line i (fieldAt (textOf line) 2) a is ∙ add-refused n d (fieldAt (textOf line) 2) i a w) ∙ e))
+
+  only-named : parseLineWith n d line ≡ Named id r → ByName n d line id r
+  only-named e = go (verb-of line)
+    where
+      read : hasVerb (textOf line) "named" ≡ true → Read (textOf line) (isClosed line) → ByName n d line id r
+      read verb (says i a shut s) = asks-by-name i a (is-named line i a s shut) e
+      read verb (faulty k f) = absurd (fault-not-named k id r (sym (faulty-line line verb k f n d) ∙ e))
+
+      go : Verb line → ByName n d line id r
+      go (named v) = read v (named-read (textOf line) (isClosed line) v)
+      go (other v) = absurd (record-not-named line id r (sym (other-line n d line v) ∙ e))
+
+  named-fits : parseLineWith n d line ≡ Named id r → AddFits id r
+  named-fits e = let b = only-named e in rw (b .is) (request-fits n (b .name) d id (b .allowed) (b .text .0 .0) (b .text .0 .2))
 
 -- ---- on another device
 
 -- a line asks for the same on two devices, or by name for two adds of one id
 pub data Both (x y : Parsed) : Type 0 where
   same : x ≡ y → Both x y
-  adds : (id : ℕ) (r q : Request) → x ≡ Line (Add id r) → y ≡ Line (Add id q) → Both x y
+  adds : (id : ℕ) (r q : Request) → x ≡ Named id r → y ≡ Named id q → Both x y
 
 module _ (n : NameLists) (d e : Device) where
   name-both : (name : List ℕ) (id : ℕ) (a : CounterSet) → Both (addNamed n d name id a) (addNamed n e name id a)
@@ -227,12 +262,13 @@ finding-lists n name row f = list-grammar .both-only n (go (listsFormed n) refl)
     go false w = absurd (Option·none-ne-some (f .text) (sym (lists-bad n name w) ∙ f .at))
 
 typed : (n : NameLists) (d : Device) (line : List ℕ) (id : ℕ) (name : List ℕ) (a : CounterSet) (row : Row) → IsNamed line id name a → Finds n name row
-    → letterOf (row .device) ≡ letterOf d → parseLineWith n d line ≡ parseLineWith n d (recordText (Add id (Event (row .code) (row .mask) a)))
+    → letterOf (row .device) ≡ letterOf d → (parseLineWith n d line ≡ Named id (Event (row .code) (row .mask) a))
+    × (parseLineWith n d (recordText (Add id (Event (row .code) (row .mask) a))) ≡ Line (Add id (Event (row .code) (row .mask) a)))
 typed n d line id name a row is f here =
-    let fit = row-grammar .only (f .text) row (f .says) .0 in
-    named-line n d line id name a is (finding-lists n name row f)
-    ∙ rw (named-requests .found n name row d a f here)
-    (sym (record-lines n d _ (Add id (Event (row .code) (row .mask) a)) ((is .0 .0, fit .code-fits, fit .mask-fits, is .0 .2), refl)))
+    let fit = row-grammar .only (f .text) row (f .says) .0 in (
+      named-line n d line id name a is (finding-lists n name row f) ∙ ap (Named id) (named-requests .found n name row d a f here),
+      record-lines n d _ (Add id (Event (row .code) (row .mask) a)) ((is .0 .0, fit .code-fits, fit .mask-fits, is .0 .2), refl),
+    )
 
 unnamed : (n : NameLists) (d : Device) (line : List ℕ) → ¬ (fieldAt (textOf line) 0 ≡ bytes "named") → parseLineWith n d line ≡ parseLine line
 unfolding hasVerb
@@ -245,13 +281,16 @@ module _ (n : NameLists) (d : Device) (line : List ℕ) where
   unfolding answerFor answerNumber parsedRefusal
   line-number r e = rw e
 
+  name-number : (id : ℕ) (r : Request) → parseLineWith n d line ≡ Named id r → numberFor n d line ≡ none
+  unfolding answerFor answerNumber parsedRefusal
+  name-number id r e = rw e
+
   fault-number : (k : ℕ) → parseLineWith n d line ≡ Fault k → numberFor n d line ≡ some 1
   unfolding numberOf answerFor answerNumber parsedRefusal
   fault-number k e = rw e
 
-  asked : (r : Record) → IsText line r ⊎ ByName n d line r → parseLineWith n d line ≡ Line r
-  asked r (inl is) = record-lines n d line r is
-  asked r (inr b) = named-line n d line (b .id) (b .name) (b .allowed) (b .text) (b .lists) ∙ ap Line (sym (b .is))
+  asked-by-name : (id : ℕ) (r : Request) → ByName n d line id r → parseLineWith n d line ≡ Named id r
+  asked-by-name id r b = named-line n d line id (b .name) (b .allowed) (b .text) (b .lists) ∙ ap (Named id) (sym (b .is))
 
 pub parsed-lines : ParsedLines
 parsed-lines =
@@ -262,8 +301,11 @@ parsed-lines =
       ill-formed = ill-formed;
       other = other-lines;
       only = only;
-      fits = record-fits;
-      in-grammar = λ n d line r h. line-number n d line r (asked n d line r h);
+      only-named = only-named;
+      fits = λ n d line r e. only n d line r e .0;
+      named-fits = named-fits;
+      in-grammar = λ n d line r h. line-number n d line r (record-lines n d line r h);
+      by-name = λ n d line id r h. name-number n d line id r (asked-by-name n d line id r h);
       outside = λ n d line out. let (k, f) = other-lines line out in fault-number n d line k (f n d);
       list-at-fault = λ n d line id name a is l. fault-number n d line 0 (ill-formed n d line id name a is l);
       typed = typed;

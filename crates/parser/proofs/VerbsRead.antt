@@ -11,9 +11,8 @@ use Rattle.requests.specs.declared.Device.{Device}
 use Rattle.records.specs.Text.{bytes}
 use Rattle.records.specs.Fields.{fieldAt, sameBytes}
 use Rattle.records.specs.Verbs.{hasVerb, verbs, recordOf}
-use Rattle.records.specs.declared.Record.the-variants.{Add}
 use Rattle.records.specs.declared.Parsed.{Parsed}
-use Rattle.records.specs.declared.Parsed.the-variants.{Line, Fault}
+use Rattle.records.specs.declared.Parsed.the-variants.{Named, Fault}
 use Rattle.records.proofs.VerbRows.{read-by, no-verb}
 use Rattle.records.proofs.WordLoops.{same-bytes}
 use Rattle.names.specs.Lists.{NameLists, listsFormed}
@@ -57,7 +56,7 @@ module _ (n : NameLists) (d : Device) (t : List ℕ) (closed : Bool) where
 
 -- a request by name beside well-formed lists, and beside others
 module _ (n : NameLists) (d : Device) (name : List ℕ) (id : ℕ) (a : CounterSet) where
-  pub add-formed : listsFormed n ≡ true → addNamed n d name id a ≡ Line (Add id (requestNamed n name d a))
+  pub add-formed : listsFormed n ≡ true → addNamed n d name id a ≡ Named id (requestNamed n name d a)
   unfolding addNamed
   add-formed w = rw w
 

@@ -11,7 +11,7 @@ use Rattle.records.specs.Text.{newline}
 use Rattle.records.specs.Examples.{tabbed, typed}
 use Rattle.records.specs.declared.Record.the-variants.{Add, Turn}
 use Rattle.records.specs.declared.Parsed.{Parsed}
-use Rattle.records.specs.declared.Parsed.the-variants.{Line, Fault}
+use Rattle.records.specs.declared.Parsed.the-variants.{Line, Named, Fault}
 use Rattle.names.specs.Lists.{NameLists}
 use Rattle.parser.specs.ParseWith.{parseLineWith}
 
@@ -52,22 +52,22 @@ house-off line p = record { lists = house-damaged; device = G; line = line; pars
 
 abbrev pub examples : List Example
 examples =
-    on G "named 1 CYCLES 15" (Line (Add 1 (Event 0x3C 0x00 (set 15))))
-    ∷ on G "named 2 INSTR 1" (Line (Add 2 (Event 0xC0 0x00 (set 1))))
-    ∷ on G "named 3 ODD 15" (Line (Add 3 (Event 0xC0 0x05 (set 15))))
+    on G "named 1 CYCLES 15" (Named 1 (Event 0x3C 0x00 (set 15)))
+    ∷ on G "named 2 INSTR 1" (Named 2 (Event 0xC0 0x00 (set 1)))
+    ∷ on G "named 3 ODD 15" (Named 3 (Event 0xC0 0x05 (set 15)))
     -- rows of other devices: packets on G and C, offcore on S, which they do not have
-    ∷ on G "named 3 STARVE 15" (Line (Add 3 (Packet 0 0 (set 15))))
-    ∷ on S "named 1 CYCLES 15" (Line (Add 1 (Offcore 0 (set 15))))
-    ∷ on (C 7) "named 1 CYCLES 63" (Line (Add 1 (Packet 0 0 (set 63))))
+    ∷ on G "named 3 STARVE 15" (Named 3 (Packet 0 0 (set 15)))
+    ∷ on S "named 1 CYCLES 15" (Named 1 (Offcore 0 (set 15)))
+    ∷ on (C 7) "named 1 CYCLES 63" (Named 1 (Packet 0 0 (set 63)))
     -- a row of the letter C serves every C-Box
-    ∷ on (C 7) "named 1 STARVE 63" (Line (Add 1 (Event 0x0B 0x18 (set 63))))
+    ∷ on (C 7) "named 1 STARVE 63" (Named 1 (Event 0x0B 0x18 (set 63)))
     -- in neither list, and the beginning of a name
-    ∷ on G "named 3 NOSUCH 15" (Line (Add 3 (Event 0xFF 0xFF (set 15))))
-    ∷ on G "named 3 CYC 15" (Line (Add 3 (Event 0xFF 0xFF (set 15))))
+    ∷ on G "named 3 NOSUCH 15" (Named 3 (Event 0xFF 0xFF (set 15)))
+    ∷ on G "named 3 CYC 15" (Named 3 (Event 0xFF 0xFF (set 15)))
     -- the numbers are not judged yet
-    ∷ on G "named 0 CYCLES 99999" (Line (Add 0 (Event 0x3C 0x00 (set 99999))))
+    ∷ on G "named 0 CYCLES 99999" (Named 0 (Event 0x3C 0x00 (set 99999)))
     -- names of 40 bytes and of 41, of none, of a lower-case letter and of a dot
-    ∷ on G "named 1 0123456789_ABCDEFGHIJKLMNOPQRSTUVWXYZ_89 15" (Line (Add 1 (Event 0xFF 0xFF (set 15))))
+    ∷ on G "named 1 0123456789_ABCDEFGHIJKLMNOPQRSTUVWXYZ_89 15" (Named 1 (Event 0xFF 0xFF (set 15)))
     ∷ on G "named 1 0123456789_ABCDEFGHIJKLMNOPQRSTUVWXYZ_890 15" (Fault 2)
     ∷ on G "named 1  15" (Fault 2)
     ∷ on G "named 1 cYCLES 15" (Fault 2)

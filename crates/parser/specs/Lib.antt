@@ -3,4 +3,5 @@ pub mod NamedText
 pub mod ParseWith
 -- Statements: what is claimed of it.
 pub mod ParsedLines
+pub mod LongLines
 pub mod Examples

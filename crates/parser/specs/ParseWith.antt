@@ -11,16 +11,15 @@ use Rattle.records.specs.Fields.{fields, fieldAt}
 use Rattle.records.specs.Numbers.{decimalOf}
 use Rattle.records.specs.Verbs.{withNumber, isWhole, setOf, hasVerb, recordOf}
 use Rattle.records.specs.Parse.{longest, tooLong, isClosed, textLength, textOf}
-use Rattle.records.specs.declared.Record.the-variants.{Add}
 use Rattle.records.specs.declared.Parsed.{Parsed}
-use Rattle.records.specs.declared.Parsed.the-variants.{Line, Fault}
+use Rattle.records.specs.declared.Parsed.the-variants.{Named, Fault}
 use Rattle.names.specs.EventNames.{isName}
 use Rattle.names.specs.Lists.{NameLists, listsFormed}
 use Rattle.names.specs.Named.{requestNamed}
 
 -- a request by name is one add; "an ill-formed row in either list is refused with 1 before any search", which is told as field 0
 unfoldable pub addNamed : NameLists → Device → List ℕ → ℕ → CounterSet → Parsed
-addNamed n d name id a = pick (listsFormed n) (Line (Add id (requestNamed n name d a))) (Fault 0)
+addNamed n d name id a = pick (listsFormed n) (Named id (requestNamed n name d a)) (Fault 0)
 
 -- what follows a name, or the field at fault
 abbrev pub withName : List ℕ → ℕ → Parsed → Parsed

@@ -6,7 +6,6 @@ use records::DECIMAL;
 use records::Number;
 use records::Parsed;
 use records::Parts;
-use records::Record;
 use records::fields::field;
 use records::fields::number_at;
 use records::verbs::is_whole;
@@ -30,7 +29,7 @@ fn add_named<'a>(
 {
     if lists_formed(site, house) {
         let request = request_named(name, site, house, device, allowed);
-        return Parsed::Line(Record::Add { id, request });
+        return Parsed::Named { id, request };
     }
     Parsed::Fault(0)
 }

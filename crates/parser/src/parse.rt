@@ -9,12 +9,13 @@ ghost use Rattle.records.specs.Parse.{tooLong, isClosed, textLength};
 ghost use Rattle.names.specs.Lists.{NameLists};
 ghost use Rattle.parser.specs.ParseWith.{parseTextWith, parseLineWith};
 
-// A record is none where the line is too long; at fault is then field n.
+// A record is none where the line is too long, nor is a request by name; at fault is then field n.
 fn too_long(parsed: Parsed, n: usize) -> Parsed
     ensures { λ r. ⌜ r ≡ tooLong parsed n ⌝ }
 {
     match parsed {
         Parsed::Line(_) => Parsed::Fault(n),
+        Parsed::Named { .. } => Parsed::Fault(n),
         Parsed::Fault(k) => Parsed::Fault(k),
     }
 }

@@ -14,7 +14,7 @@ use Rattle.records.specs.Verbs.{recordOf}
 use Rattle.records.specs.Parse.{longest, tooLong, parseText, isClosed, textLength, textOf, parseLine}
 use Rattle.records.specs.declared.Record.{Record}
 use Rattle.records.specs.declared.Parsed.{Parsed}
-use Rattle.records.specs.declared.Parsed.the-variants.{Line, Fault}
+use Rattle.records.specs.declared.Parsed.the-variants.{Line, Named, Fault}
 use Rattle.records.proofs.Outcomes.{fault-not-line}
 use Rattle.records.proofs.Numerals.{length-last}
 
@@ -55,6 +55,7 @@ closed-reads t h = let c = closed-text t h in rw (c .text, c .closed, c .short)
 too-long-none : (p : Parsed) (n : ℕ) (r : Record) → tooLong p n ≡ Line r → ⊥
 unfolding tooLong
 too-long-none (Line s) n r e = fault-not-line n r e
+too-long-none (Named id q) n r e = fault-not-line n r e
 too-long-none (Fault k) n r e = fault-not-line k r e
 
 -- so a line that is read as a record is not too long

@@ -15,6 +15,7 @@ use Rattle.records.proofs.Closings.{closed-reads, record-only, closed-o
 use Rattle.records.proofs.Reading.{fields-read}
 use Rattle.records.proofs.ReadBack.{Told, record-tells}
 use Rattle.records.proofs.Texts.{TextOf, record-written}
+use Rattle.records.proofs.Settled.{Settled, asks, faulty, line-is}
 
 -- a record's text is read as the record
 text-parsed : (line : List ℕ) (r : Record) → IsText line r → parseLine line ≡ Line r
@@ -32,11 +33,11 @@ text-only line r e =
 
 -- everything else has a field at fault
 text-not : (line : List ℕ) → ((r : Record) → ¬ IsText line r) → (k : ℕ) × (parseLine line ≡ Fault k)
-text-not line no-text = go (parseLine line) refl
+text-not line no-text = go (line-is line) refl
   where
-    go : (p : Parsed) → parseLine line ≡ p → (k : ℕ) × (parseLine line ≡ Fault k)
-    go (Line r) e = absurd (no-text r (text-only line r e))
-    go (Fault k) e = (k, e)
+    go : {p : Parsed} → Settled p → parseLine line ≡ p → (k : ℕ) × (parseLine line ≡ Fault k)
+    go (asks r) e = absurd (no-text r (text-only line r e))
+    go (faulty k) e = (k, e)
 
 -- the statement
 pub grammar : Grammar

@@ -12,6 +12,7 @@ pub mod LetterFields
 pub mod Texts
 pub mod Reading
 pub mod ReadBack
+pub mod Settled
 pub mod GrammarHolds
 pub mod LineBytes
 pub mod DigitLoops
@@ -21,3 +22,6 @@ pub mod WordLoops
 pub mod NumberLines
 pub mod LineEnds
 pub mod VerbRows
+pub mod CutFields
+pub mod LongLines
+pub mod Unclosed

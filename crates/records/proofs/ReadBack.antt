@@ -87,12 +87,12 @@ open-tells t verb closed r e =
     open-on-tells d t verb (lettered-only (fieldAt t 1) d letter) closed r rest
 
 -- what every row of a table has that holds
-data Rows {A : Type 0} (P : A → Type 0) : List (Row A) → Type 0 where
+pub data Rows {A : Type 0} (P : A → Type 0) : List (Row A) → Type 0 where
   last : Rows P []
   row : {b : Bool} {a : A} {rows : List (Row A)} → (b ≡ true → P a) → Rows P rows → Rows P ((b, a) ∷ rows)
 
 -- the first one has it
-first-row : {A : Type 0} {P : A → Type 0} {rows : List (Row A)} → Rows P rows → (a : A) → firstHolding rows ≡ some a → P a
+pub first-row : {A : Type 0} {P : A → Type 0} {rows : List (Row A)} → Rows P rows → (a : A) → firstHolding rows ≡ some a → P a
 unfolding firstHolding
 first-row last a e = let z : _≡_ {A = ℕ} 0 1 = cc in absurd (omega arith)
 first-row {P = P} (row {b = true} {a = b} p ps) a e = let is : b ≡ a = cc in rw is at (p refl)

@@ -96,6 +96,9 @@ examples =
     ∷ closed "drop  1" (Fault 1)
     -- "closed by a newline": none, and one with a carriage return before it
     ∷ record { line = tabbed "turn"; parsed = Fault 1 }
+    ∷ record { line = tabbed "event 2 C"; parsed = Fault 2 }
+    ∷ record { line = tabbed "event 2 C0"; parsed = Fault 3 }
+    ∷ record { line = tabbed "drop 5 6"; parsed = Fault 2 }
     ∷ record { line = tabbed "drop 1" ++ 13 ∷ newline ∷ []; parsed = Fault 1 }
     ∷ []
 

@@ -9,6 +9,7 @@ pub mod Parse
 -- Statements: what is claimed of it.
 pub mod Grammar
 pub mod LineBytes
+pub mod LongLines
 pub mod Examples
 -- The code's own: how it holds its values. No claim.
 pub mod Parts

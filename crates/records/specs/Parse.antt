@@ -12,7 +12,7 @@ use Rattle.records.specs.Text.{newline}
 use Rattle.records.specs.Fields.{fields}
 use Rattle.records.specs.Verbs.{recordOf}
 use Rattle.records.specs.declared.Parsed.{Parsed}
-use Rattle.records.specs.declared.Parsed.the-variants.{Line, Fault}
+use Rattle.records.specs.declared.Parsed.the-variants.{Line, Named, Fault}
 
 -- "at most 80 bytes"
 unfoldable pub longest : ℕ
@@ -21,6 +21,7 @@ longest = 80
 -- no record where the line is longer; at fault is then the field after the last
 unfoldable pub tooLong : Parsed → ℕ → Parsed
 tooLong (Line r) n = Fault n
+tooLong (Named id r) n = Fault n
 tooLong (Fault k) n = Fault k
 
 -- what a text is, closed by a newline or not, whole or the first 80 bytes of a longer one
@@ -43,8 +44,9 @@ textOf line = take longest (take (textLength line) line)
 unfoldable pub parseLine : List ℕ → Parsed
 parseLine line = parseText (textOf line) (isClosed line) (ltb longest (textLength line))
 
--- by which row of the refusal table a line is refused for what it is: by none where it is a record; by "1: the line is not in the grammar"
--- whichever field is at fault
+-- by which row of the refusal table a line is refused for what it is: by none where it is a record or a request by name; by "1: the line is not
+-- in the grammar" whichever field is at fault
 unfoldable pub parsedRefusal : Parsed → Option Refusal
 parsedRefusal (Line r) = none
+parsedRefusal (Named id r) = none
 parsedRefusal (Fault k) = some NotInGrammar

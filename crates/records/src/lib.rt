@@ -20,9 +20,11 @@ pub enum Record {
     Turn,
 }
 
-// What a line is: a record, or none, with the first field that breaks the grammar, counted from 0 at the verb.
+// What a line is: a record; the add of a request that is asked for by name, which has fields of its own; or neither, with the first field that
+// breaks the grammar, counted from 0 at the verb.
 pub enum Parsed {
     Line(Record),
+    Named { id: u64, request: Request },
     Fault(usize),
 }
 
