@@ -17,8 +17,10 @@ use Rattle.records.specs.Fields.{fields, fieldAt}
 use Rattle.records.specs.Numbers.{decimalOf}
 use Rattle.records.specs.Verbs.{withNumber, isWhole, setOf, hasVerb, recordOf}
 use Rattle.records.specs.Parse.{longest, tooLong, isClosed, textLength}
+use Rattle.records.specs.declared.Number.{Number}
+use Rattle.records.specs.declared.Number.the-variants.{Value, Bad}
 use Rattle.records.specs.declared.Parsed.{Parsed}
-use Rattle.records.specs.declared.Parsed.the-variants.{Fault}
+use Rattle.records.specs.declared.Parsed.the-variants.{Named, Fault}
 use Rattle.records.proofs.CutFields.{CutAt, cut-at, SameFault, Field, cut-field, cut-ends, First, endless, whole, first-field}
 use Rattle.records.proofs.LongLines.{decimal-field, no-word, verb-room, record-cut, text-size}
 use Rattle.records.proofs.ReadBack.{record-tells}
@@ -27,6 +29,7 @@ use Rattle.records.proofs.Settled.{Settled, record-settled}
 use Rattle.records.proofs.Unclosed.{number-unclosed, record-unclosed}
 use Rattle.names.specs.EventNames.{longestName, isName}
 use Rattle.names.specs.Lists.{NameLists, listsFormed}
+use Rattle.names.specs.Named.{requestNamed}
 use Rattle.parser.specs.ParseWith.{addNamed, withName, namedLine, recordWith, parseTextWith, parseLineWith}
 use Rattle.parser.specs.LongLines.{LongLines}
 use Rattle.parser.proofs.NamedReading.{Read, says, faulty, named-read}
@@ -118,7 +121,7 @@ unclosed-record t = go (record-settled t false) refl
   where
     go : {p : Parsed} → Settled p → recordOf t false ≡ p → (k : ℕ) × (recordOf t false ≡ Fault k)
     go (settled.asks r) e = absurd (false≢true (record-tells t false r e .newline-read))
-    go (settled.faulty k) e = (k, e)
+    go (settled.faulty k l) e = (k, e)
 
 unclosed-with : (t : List ℕ) → (k : ℕ) × ((n : NameLists) (d : Device) → recordWith n d t false ≡ Fault k)
 unclosed-with t = go (hasVerb t "named") refl
@@ -169,6 +172,45 @@ module _ (n : NameLists) (d : Device) (formed : listsFormed n ≡ true) (t : Lis
   as-too-long true = with-unclosed ∙ (let (k, f) = unclosed-with t in rw (f n d))
   as-too-long false = with-unclosed
 
+-- ---- no line has more than eight fields in the grammar
+
+within-record : (t : List ℕ) (closed : Bool) (k : ℕ) → recordOf t closed ≡ Fault k → k ≤ 7
+within-record t closed k e = go (record-settled t closed) e
+  where
+    go : {p : Parsed} → Settled p → p ≡ Fault k → k ≤ 7
+    go (settled.asks r) f = let z : _≡_ {A = ℕ} 0 1 = cc in absurd (omega arith)
+    go (settled.faulty j l) f = let is : j ≡ k = cc in omega arith
+
+within-named : (t : List ℕ) (closed : Bool) (n : NameLists) (d : Device) (k : ℕ) → namedLine n d t closed ≡ Fault k → k ≤ 7
+unfolding namedLine addNamed
+within-named t closed n d k e = go (decimalOf (fieldAt t 1)) (isName (fieldAt t 2)) (decimalOf (fieldAt t 3)) (isWhole t closed 4) (listsFormed n) e
+  where
+    at : (j : ℕ) → j ≤ 7 → Fault j ≡ Fault k → k ≤ 7
+    at j l f = let is : j ≡ k = cc in omega arith
+
+    go : (x : Number) (b : Bool) (y : Number) (w f : Bool)
+        → withNumber x 1 (λ id. pick b (withNumber y 3 (λ a. pick w (pick f (Named id (requestNamed n (fieldAt t 2) d (setOf a))) (Fault 0)) (Fault 4))) (Fault 2)) ≡ Fault k
+        → k ≤ 7
+    go Bad b y w f e = at 1 (omega arith) e
+    go (Value id) false y w f e = at 2 (omega arith) e
+    go (Value id) true Bad w f e = at 3 (omega arith) e
+    go (Value id) true (Value a) false f e = at 4 (omega arith) e
+    go (Value id) true (Value a) true false e = at 0 (omega arith) e
+    go (Value id) true (Value a) true true e = let z : _≡_ {A = ℕ} 0 1 = cc in absurd (omega arith)
+
+within : (n : NameLists) (d : Device) (line : List ℕ) (k : ℕ) → parseLineWith n d line ≡ Fault k → k ≤ 7
+within n d line k e = go (hasVerb t "named") refl
+  where
+    t : List ℕ
+    t = take (textLength line) line
+
+    read : recordWith n d t (isClosed line) ≡ Fault k
+    read = sym (whole-line n d line) ∙ e
+
+    go : (b : Bool) → hasVerb t "named" ≡ b → k ≤ 7
+    go true v = within-named t (isClosed line) n d k (sym (asked-named n d t (isClosed line) v) ∙ read)
+    go false v = within-record t (isClosed line) k (sym (asked-record n d t (isClosed line) v) ∙ read)
+
 pub long-lines : LongLines
 unfolding longest
-long-lines = record { cut = long-cut; whole = whole-line; unclosed = unclosed }
+long-lines = record { cut = long-cut; whole = whole-line; unclosed = unclosed; within = within }

@@ -160,7 +160,7 @@ record-not-named line id r e = go (line-is line) e
   where
     go : {p : Parsed} → Settled p → p ≡ Named id r → ⊥
     go (settled.asks q) f = let z : _≡_ {A = ℕ} 0 1 = cc in omega arith
-    go (settled.faulty k) f = fault-not-named k id r f
+    go (settled.faulty k l) f = fault-not-named k id r f
 
 named-asks : (n : NameLists) (d : Device) (line : List ℕ) (id : ℕ) (a : CounterSet) → IsNamed line id (fieldAt (textOf line) 2) a → (r : Record)
     → parseLineWith n d line ≡ Line r → ⊥

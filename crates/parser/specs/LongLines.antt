@@ -3,7 +3,7 @@
 use mathlib.Core.Path.{_≡_}
 use mathlib.Core.Bool.{Bool, true, false}
 use mathlib.Core.List.{List}
-use Prim.Native.Nat.{ℕ, _<_}
+use Prim.Native.Nat.{ℕ, _<_, _≤_}
 use lib.ListN.{length, take}
 use Rattle.requests.specs.declared.Device.{Device}
 use Rattle.records.specs.Parse.{longest, isClosed, textLength}
@@ -16,5 +16,7 @@ pub record LongLines : Type 0 where
   pub cut : (n : NameLists) (d : Device) (t : List ℕ) (closed : Bool) → longest < length t → parseTextWith n d (take longest t) closed true ≡ recordWith n d t closed
   -- .. so that every line, long or not, is read as its whole text
   pub whole : (n : NameLists) (d : Device) (line : List ℕ) → parseLineWith n d line ≡ recordWith n d (take (textLength line) line) (isClosed line)
+  -- the field at fault is 0 to 7: the longest record has seven fields, and one too many is the eighth
+  pub within : (n : NameLists) (d : Device) (line : List ℕ) (k : ℕ) → parseLineWith n d line ≡ Fault k → k ≤ 7
   -- a text without its newline has the same field at fault, whatever the lists and the device
   pub unclosed : (t : List ℕ) (long : Bool) → (k : ℕ) × ((n : NameLists) (d : Device) → parseTextWith n d t false long ≡ Fault k)

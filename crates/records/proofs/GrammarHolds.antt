@@ -37,7 +37,7 @@ text-not line no-text = go (line-is line) refl
   where
     go : {p : Parsed} → Settled p → parseLine line ≡ p → (k : ℕ) × (parseLine line ≡ Fault k)
     go (asks r) e = absurd (no-text r (text-only line r e))
-    go (faulty k) e = (k, e)
+    go (faulty k l) e = (k, e)
 
 -- the statement
 pub grammar : Grammar

@@ -12,7 +12,6 @@ pub mod LetterFields
 pub mod Texts
 pub mod Reading
 pub mod ReadBack
-pub mod Settled
 pub mod GrammarHolds
 pub mod LineBytes
 pub mod DigitLoops
@@ -24,4 +23,5 @@ pub mod LineEnds
 pub mod VerbRows
 pub mod CutFields
 pub mod LongLines
+pub mod Settled
 pub mod Unclosed
