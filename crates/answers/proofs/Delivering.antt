@@ -31,7 +31,7 @@ delivered x d e n p = record { answered = let q : n ≡ length (x .text) = omega
 -- the `take` lines, the `set` lines and the answer deliver the reply to a turn
 pub turn-delivered : (t : TurnAnswered) (list : List ℕ) (plan : List Assigned) (writes : ℕ) (a : Answer) (s : Session)
     → plan ≡ planOf t → writes ≡ t .writes → a ≡ t .answer → s ≡ t .session → {d e f g : List ℕ} {n m k : ℕ}
-    → Put d 0 (flatMap takeLines plan) e n → Put e n (setLines (take (2 * writes) list)) f m → Put f m (answerText a) g k
+    → Put d 0 (flatMap takeLines plan) e n → Put e n (setLines (take (2 * writes) list)) f m → Put f m (answerText a 0) g k
     → Delivered (turnReply t list) d g (record { session = s; written = k })
 unfolding turnReply
 turn-delivered t list plan writes a s plan-is writes-are answer-is session-is {d} {e} {f} {g} {n} {m} {k} u v w =
@@ -55,11 +55,11 @@ module _ (s : Session) (p : Parsed) (out : List ℕ) where
 -- ---- the reply to a line
 
 -- an array of zeros
-abbrev zeros : ℕ → List ℕ
+abbrev pub zeros : ℕ → List ℕ
 zeros n = replicate n 0
 
 -- what is left of it
-drop-zeros : (n m : ℕ) → n ≤ m → drop n (zeros m) ≡ zeros (m - n)
+pub drop-zeros : (n m : ℕ) → n ≤ m → drop n (zeros m) ≡ zeros (m - n)
 drop-zeros n m h =
     let e : m ≡ n + (m - n) = omega arith in
     ap (λ (k : ℕ). drop n (zeros k)) e ∙ ap (drop n) (sym (replicate-append-replicate n (m - n) 0)) ∙ drop-at (zeros n) (zeros (m - n)) n (length-replicate n 0)

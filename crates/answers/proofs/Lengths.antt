@@ -72,7 +72,7 @@ set-lines-length [] = omega arith
 set-lines-length (a ∷ []) = omega arith
 set-lines-length (a ∷ v ∷ rest) = simp (length-append, hex-length) (omega (arith, set-lines-length rest))
 
-pub answer-length : (a : Answer) → length (answerText a) ≤ 24
+pub answer-length : (a : Answer) (k : ℕ) → length (answerText a k) ≤ 45
 unfolding answerText lineOf bytes
-answer-length Accepted = omega arith
-answer-length (Refused x) = simp length-append (omega (arith, decimal-length (numberOf x)))
+answer-length Accepted k = omega arith
+answer-length (Refused x) k = simp length-append (omega (arith, decimal-length (numberOf x), decimal-length k))

@@ -1,4 +1,6 @@
 pub mod AcceptanceTests
+pub mod FieldWidths
+pub mod FaultTexts
 pub mod ReadLines
 pub mod DeviceWidths
 pub mod WriteWidths
@@ -18,5 +20,6 @@ pub mod TurnLimits
 pub mod ReplyLength
 pub mod Putting
 pub mod Numerals
+pub mod AskedReplies
 pub mod LineTexts
 pub mod Delivering

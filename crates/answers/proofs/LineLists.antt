@@ -5,7 +5,6 @@
 --     calls-fit        their calls are ones that lines make
 --     askable-after    each request that lines leave waiting is one that a line can add
 use mathlib.Core.Path.{_≡_, refl, ap, sym, subst, _∙_}
-use mathlib.Core.Logic.{⊎-elim}
 use mathlib.Core.Bool.{false}
 use mathlib.Core.List.{List, [], _∷_, _++_, append-assoc}
 use mathlib.Core.Option.{Option, none, some}
@@ -20,6 +19,7 @@ use Rattle.requests.specs.declared.Refusal.{Refusal}
 use Rattle.requests.specs.declared.Refusal.the-variants.{CallOrder}
 use Rattle.requests.specs.declared.Answer.the-variants.{Refused}
 use Rattle.requests.specs.Refusals.{answerFor}
+use Rattle.requests.specs.Faults.{fieldOf, answerField}
 use Rattle.requests.specs.Devices.{setupOf}
 use Rattle.plans.specs.Lists.{All, nil, cons}
 use Rattle.plans.proofs.Sets.{all-append}
@@ -40,12 +40,12 @@ use Rattle.records.specs.Records.{recordText, AddFits, Fits}
 use Rattle.records.specs.declared.Record.{Record}
 use Rattle.records.specs.declared.Record.the-variants.{Open, Add, Drop, Turn}
 use Rattle.records.specs.declared.Parsed.{Parsed}
-use Rattle.records.specs.declared.Parsed.the-variants.{Line, Fault}
-use Rattle.records.specs.Grammar.{IsText}
+use Rattle.records.specs.declared.Parsed.the-variants.{Line, Named, Fault}
 use Rattle.names.specs.Lists.{NameLists}
+use Rattle.names.specs.Named.{namedField}
 use Rattle.parser.specs.ParseWith.{parseLineWith}
 use Rattle.parser.proofs.ParsedLines.{Both, same, adds, on-both, parsed-lines}
-use Rattle.answers.specs.Replies.{Reply, replyOf, recordReply, parsedReply, answerLine}
+use Rattle.answers.specs.Replies.{Reply, replyAt, namedReply, parsedReply, answerLine}
 use Rattle.answers.specs.LinesAreCalls.{callOf, callsIn, Askable}
 use Rattle.answers.specs.LineLists.{deviceAt, callsAt, callsFrom, callsBy, sessionBy}
 use Rattle.answers.proofs.LinesAreCalls.{lines-are-calls}
@@ -56,17 +56,19 @@ use Rattle.answers.proofs.LinesAreCalls.{lines-are-calls}
 line-session : (s : Session) (p : Parsed) (cs : List Call) → sessionAfter s (callsIn p ++ cs) ≡ sessionAfter (parsedReply s p .session) cs
 unfolding callsIn parsedReply sessionAfter
 line-session s (Line r) cs = ap (λ (x : Session). sessionAfter x cs) (sym (lines-are-calls .session s r))
+line-session s (Named id r) cs = ap (λ (x : Session). sessionAfter x cs) (sym (lines-are-calls .named-session s id r))
 line-session s (Fault k) cs = refl
 
 -- which stands for the plain queue after it
 line-stands : (s : Session) (p : Parsed) → plainOf (parsedReply s p .session) ≡ run queueLimit (plainOf s) (callsIn p)
 unfolding callsIn parsedReply run
 line-stands s (Line r) = ap plainOf (lines-are-calls .session s r) ∙ next-is s (callOf r)
+line-stands s (Named id r) = ap plainOf (lines-are-calls .named-session s id r) ∙ next-is s (calls.Add id r)
 line-stands s (Fault k) = refl
 
 -- before open an add is refused with 2, whatever it asks for
-add-closed-reply : (s : Session) (id : ℕ) (r : Request) → plainOf s ≡ notOpen → recordReply s (Add id r) ≡ replyOf (record { answer = Refused CallOrder; session = s })
-unfolding recordReply addOf answered refusedBy answerFor
+add-closed-reply : (s : Session) (id : ℕ) (r : Request) → plainOf s ≡ notOpen → namedReply s id r ≡ replyAt (record { answer = Refused CallOrder; session = s }) 0
+unfolding namedReply addOf answered refusedBy answerFor answerField fieldOf namedField
 add-closed-reply s id r closed = rw (closed, add-closed queueLimit id r)
 
 -- so the reply to a line there does not hang on the device
@@ -150,11 +152,6 @@ more-lines n p line lines xs ys c m l =
       fits-fields = l .fits-fields;
     }
 
--- a record that is asked for by name makes an add
-record-text : (n : NameLists) (d : Device) (line : List ℕ) (r : Record) → NotAdd (callOf r) → parseLineWith n d line ≡ Line r → IsText line r
-unfolding callOf
-record-text n d line r other e = ⊎-elim (λ is. is) (λ b. absurd (rw (b .is) at other)) (parsed-lines .only n d line r e)
-
 pub line-of : (n : NameLists) (p : Plain) (lines : List (List ℕ)) (before : List Call) (c : Call) (after : List Call) → NotAdd c
     → callsFrom n p lines ≡ before ++ c ∷ after → LineOf n p lines before c
 unfolding callsFrom callsIn run
@@ -168,8 +165,18 @@ line-of n p (line ∷ lines) before c after other e =
     go (Line r) q [] h below =
         let same : callOf r ∷ callsFrom n (run queueLimit p (callOf r ∷ [])) lines ≡ c ∷ after = h in
         let is : callOf r ≡ c = cc in
-        let (fits, text) = record-text n (deviceAt p) line r (subst NotAdd (sym is) other) q in
+        let (fits, text) = parsed-lines .only n (deviceAt p) line r q in
         record { since = []; asked = r; rest = lines; split = ap (λ (x : List ℕ). x ∷ lines) text; made = refl; is = is; fits-fields = fits }
+    -- a request by name makes an add
+    go (Named id r) q [] h below =
+        let same : calls.Add id r ∷ callsFrom n (run queueLimit p (calls.Add id r ∷ [])) lines ≡ c ∷ after = h in
+        let is : calls.Add id r ≡ c = cc in
+        absurd (subst NotAdd (sym is) other)
+    go (Named id r) q (x ∷ xs) h below =
+        let same : calls.Add id r ∷ callsFrom n (run queueLimit p (calls.Add id r ∷ [])) lines ≡ x ∷ (xs ++ c ∷ after) = h in
+        let first : calls.Add id r ≡ x = cc in
+        let rest : callsFrom n (run queueLimit p (calls.Add id r ∷ [])) lines ≡ xs ++ c ∷ after = cc in
+        more-lines n p line lines xs (x ∷ []) c (rw q (cc)) (below (run queueLimit p (x ∷ [])) xs after (rw first at rest))
     go (Line r) q (x ∷ xs) h below =
         let same : callOf r ∷ callsFrom n (run queueLimit p (callOf r ∷ [])) lines ≡ x ∷ (xs ++ c ∷ after) = h in
         let first : callOf r ≡ x = cc in
@@ -197,6 +204,7 @@ call-fits Turn h = tt
 line-fits : (n : NameLists) (d : Device) (line : List ℕ) (p : Parsed) → parseLineWith n d line ≡ p → All CallFits (callsIn p)
 unfolding callsIn
 line-fits n d line (Line r) e = cons (call-fits r (parsed-lines .fits n d line r e)) nil
+line-fits n d line (Named id r) e = cons (parsed-lines .named-fits n d line id r e) nil
 line-fits n d line (Fault k) e = nil
 
 pub calls-fit : (n : NameLists) (p : Plain) (lines : List (List ℕ)) → All CallFits (callsFrom n p lines)

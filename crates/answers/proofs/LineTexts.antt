@@ -17,7 +17,7 @@ use Rattle.sessions.specs.declared.Assigned.{Assigned}
 use Rattle.sessions.specs.Sessions.{vacant}
 use Rattle.planner.specs.Selections.{planned}
 use Rattle.planner.proofs.Assigning.{planned-next, planned-length}
-use Rattle.records.specs.Text.{bytes, newline, hexText, decimalDigits, decimalText, lineOf}
+use Rattle.records.specs.Text.{bytes, tab, newline, hexText, decimalDigits, decimalText, lineOf}
 use Rattle.records.proofs.Hexes.{hex-length}
 use Rattle.answers.specs.Replies.{registerText, takeLines, setLines}
 use Rattle.answers.specs.Texts.{Put, takeStart}
@@ -30,6 +30,10 @@ number-end number p = omega (arith, p .place, decimal-length number)
 -- where hex of a width ends
 pub hex-end : (width number : ℕ) {d e : List ℕ} {at n : ℕ} → Put d at (hexText width number) e n → n ≡ at + width
 hex-end width number p = omega (arith, p .place, hex-length width number)
+
+-- where a field ends
+pub field-end : (number : ℕ) {d e : List ℕ} {at n : ℕ} → Put d at (tab ∷ decimalText number) e n → n ≤ at + 21
+field-end number p = omega (arith, p .place, decimal-length number)
 
 -- ---- `take` lines
 

@@ -12,7 +12,12 @@ unfolding answerLine parsedReply answerText numberOf answerFor parsedRefusal dec
 lines-answered =
     record {
       record-line = λ n s line r h. ap (parsedReply s) (parsed-lines .record-line n (s .setup .device) line r h);
-      other = λ n s line h.
-          let f = ap (parsedReply s) (parsed-lines .other line h .1 n (s .setup .device)) in
-          (ap (λ (x : Reply). x .text) f, ap (λ (x : Reply). x .session) f);
+      other = λ line h.
+          let (k, at-fault) = parsed-lines .other line h in (
+            k,
+            at-fault,
+            λ n s.
+                let f = ap (parsedReply s) (at-fault n (s .setup .device)) in
+                (ap (λ (x : Reply). x .text) f, ap (λ (x : Reply). x .session) f),
+          );
     }

@@ -9,12 +9,15 @@ use Prim.Native.Nat.{ℕ}
 use Rattle.requests.specs.Choice as choice
 use Rattle.requests.specs.Choice.{firstHolding}
 use Rattle.requests.specs.Refusals.{answerFor}
+use Rattle.requests.specs.Faults.{requestFields, fieldOf, answerField}
+use Rattle.requests.specs.declared.Fields.{Fields}
 use Rattle.requests.specs.Checks.{requestRows, requestRefusal}
 use Rattle.requests.specs.declared.CounterSet.{CounterSet}
 use Rattle.requests.specs.declared.Answer.the-variants.{Refused}
 use Rattle.requests.specs.declared.Refusal.{Refusal}
 use Rattle.requests.specs.declared.Refusal.the-variants.{NotInGrammar, CallOrder, BadId, IdWaiting, KindNotOnDevice, NotListed}
 use Rattle.requests.specs.declared.Request.{Request}
+use Rattle.requests.specs.declared.Request.the-variants.{Event}
 use Rattle.requests.proofs.FirstHolding.{holds, skips}
 use Rattle.sessions.specs.declared.Session.{Session}
 use Rattle.sessions.specs.Calls.{Plain, notOpen, opened, waits}
@@ -28,14 +31,15 @@ use Rattle.records.specs.Fields.{fieldAt}
 use Rattle.records.specs.Parse.{parseLine, parsedRefusal}
 use Rattle.records.proofs.GrammarHolds.{grammar}
 use Rattle.records.proofs.Outcomes.{fault-not-line}
+use Rattle.records.proofs.Settled.{Settled, asks, faulty, line-is}
 use Rattle.records.specs.Grammar.{IsText}
 use Rattle.records.specs.declared.Record.{Record}
 use Rattle.records.specs.declared.Record.the-variants.{Add}
 use Rattle.records.specs.declared.Parsed.{Parsed}
-use Rattle.records.specs.declared.Parsed.the-variants.{Line, Fault}
+use Rattle.records.specs.declared.Parsed.the-variants.{Line}
 use Rattle.names.specs.Lists.{NameLists}
 use Rattle.names.specs.LookUp.{rowNamed}
-use Rattle.names.specs.Named.{requestNamed}
+use Rattle.names.specs.Named.{requestNamed, namedField}
 use Rattle.names.specs.NamedRequests.{Finds}
 use Rattle.names.specs.Rows.{rowOf, isFormed}
 use Rattle.names.specs.RowGrammar.{AreLists}
@@ -49,8 +53,8 @@ use Rattle.names.proofs.RowsFound.{rows-found}
 use Rattle.parser.specs.NamedText.{IsNamed, Outside}
 use Rattle.parser.specs.ParseWith.{parseLineWith}
 use Rattle.parser.proofs.ParsedLines.{parsed-lines}
-use Rattle.answers.specs.Replies.{Reply, answerText, replyOf, recordReply, parsedReply, answerLine}
-use Rattle.answers.specs.NamedLines.{RowOfName, RefusedWith, NamedLines, NamesAnswered}
+use Rattle.answers.specs.Replies.{Reply, answerText, replyAt, replyOf, recordReply, namedReply, parsedReply, answerLine}
+use Rattle.answers.specs.NamedLines.{RowOfName, RefusedWith, AsEvent, NamedLines, NamesAnswered}
 
 -- a row that holds, before others
 first-before : {A : Type 0} (rows more : List (choice.Row A)) (x : A) → firstHolding rows ≡ some x → firstHolding (rows ++ more) ≡ some x
@@ -62,8 +66,8 @@ first-before ((false, a) ∷ rows) more x e = first-before rows more x e
 -- ---- an add that the table refuses
 
 add-refused : (s : Session) (id : ℕ) (r : Request) (x : Refusal) → refusal queueLimit (plainOf s) (calls.Add id r) ≡ some x
-    → recordReply s (Add id r) ≡ record { text = answerText (Refused x); session = s }
-unfolding recordReply replyOf addOf answered refusedBy answerFor
+    → namedReply s id r ≡ record { text = answerText (Refused x) (namedField (fieldOf x (requestFields (s .setup .device) r))); session = s }
+unfolding namedReply replyAt addOf answered refusedBy answerFor answerField
 add-refused s id r x e = rw e
 
 -- the rows of an open queue, from the first on
@@ -124,46 +128,65 @@ module _ (n : NameLists) (s : Session) (line : List ℕ) (id : ℕ) (name : List
   request = requestNamed n name (s .setup .device) a
 
   -- the reply is that of the add
-  line-adds : AreLists n → answerLine n s line ≡ recordReply s (Add id request)
+  line-adds : AreLists n → answerLine n s line ≡ namedReply s id request
   unfolding answerLine parsedReply request
   line-adds l = rw (parsed-lines .named-line n (s .setup .device) line id name a is l)
 
-  refused-with : AreLists n → (x : Refusal) → refusal queueLimit (plainOf s) (calls.Add id request) ≡ some x → RefusedWith n s line x
-  refused-with l x e =
-      let reply : answerLine n s line ≡ record { text = answerText (Refused x); session = s } = line-adds l ∙ add-refused s id request x e in
+  -- at a field that does not hang on the request
+  refused-with : AreLists n → (x : Refusal) (k : ℕ) → ((f : Fields) → namedField (fieldOf x f) ≡ k) → refusal queueLimit (plainOf s) (calls.Add id request) ≡ some x
+      → RefusedWith n s line x k
+  refused-with l x k at e =
+      let reply : answerLine n s line ≡ record { text = answerText (Refused x) k; session = s } =
+      line-adds l ∙ rw (← at (requestFields (s .setup .device) request)) (add-refused s id request x e) in
       (ap (λ (y : Reply). y .text) reply, ap (λ (y : Reply). y .session) reply)
 
+  -- the answer and the field of an event in numbers
+  as-numbers : AreLists n → (r : Request) → request ≡ r → (numbers : List ℕ) → parseLineWith n (s .setup .device) numbers ≡ Line (Add id r) → AsEvent n s line numbers
+  unfolding answerLine parsedReply recordReply replyOf replyAt namedReply
+  as-numbers l r same numbers e =
+      let named = line-adds l in
+      let in-numbers : answerLine n s numbers ≡ recordReply s (Add id r) = rw e in
+      record {
+        answer = addOf s id r .answer;
+        field = answerField (addOf s id r .answer) (requestFields (s .setup .device) r);
+        numbers-text = ap (λ (y : Reply). y .text) in-numbers;
+        text = ap (λ (y : Reply). y .text) named ∙ rw same;
+        session = ap (λ (y : Reply). y .session) named ∙ rw same (sym (ap (λ (y : Reply). y .session) in-numbers));
+      }
+
   named-line : NamedLines n s line id name a
-  unfolding request answerLine parsedReply parsedRefusal answerFor
+  unfolding request answerLine parsedReply parsedRefusal answerFor fieldOf namedField
   named-line =
       record {
         ill-formed = λ l.
-            let reply : answerLine n s line ≡ record { text = answerText (Refused NotInGrammar); session = s } =
+            let reply : answerLine n s line ≡ record { text = answerText (Refused NotInGrammar) 0; session = s } =
             rw (parsed-lines .ill-formed n (s .setup .device) line id name a is l) in
             (ap (λ (y : Reply). y .text) reply, ap (λ (y : Reply). y .session) reply);
-        not-open = λ l closed. refused-with l CallOrder (rw (plain-closed s closed) (add-closed queueLimit id request));
-        bad-id = λ l open-now bad. refused-with l BadId (refused-id s id request open-now bad);
-        waiting = λ l open-now good w. refused-with l IdWaiting (refused-waiting s id request open-now good w);
+        not-open = λ l closed. refused-with l CallOrder 0 (λ f. refl) (rw (plain-closed s closed) (add-closed queueLimit id request));
+        bad-id = λ l open-now bad. refused-with l BadId 1 (λ f. refl) (refused-id s id request open-now bad);
+        waiting = λ l open-now good w. refused-with l IdWaiting 1 (λ f. refl) (refused-waiting s id request open-now good w);
         missing = λ l open-now good free site house.
-            refused-with l NotListed (refused-request s id request open-now good free NotListed
+            refused-with l NotListed 2 (λ f. refl) (refused-request s id request open-now good free NotListed
             (named-requests .missing n name (s .setup) a (rows-found .absent n name site house)));
         elsewhere = λ l open-now good free row f other.
-            refused-with l KindNotOnDevice (refused-request s id request open-now good free KindNotOnDevice
+            refused-with l KindNotOnDevice 0 (λ f. refl) (refused-request s id request open-now good free KindNotOnDevice
             (named-requests .elsewhere n name row (s .setup) a (finds n name l row f) other));
-        as-numbers = λ l row f here. ap (parsedReply s) (parsed-lines .typed n (s .setup .device) line id name a row is (finds n name l row f) here);
+        as-numbers = λ l row f here.
+            as-numbers l (Event (row .code) (row .mask) a) (named-requests .found n name row (s .setup .device) a (finds n name l row f) here) _
+            (parsed-lines .typed n (s .setup .device) line id name a row is (finds n name l row f) here .1);
       }
 
 -- ---- every other line
 
 others : (n m : NameLists) (s : Session) (line : List ℕ) → ((id : ℕ) (name : List ℕ) (a : CounterSet) → ¬ IsNamed line id name a) → answerLine n s line ≡ answerLine m s line
 unfolding answerLine
-others n m s line unnamed = go (parseLine line) refl
+others n m s line unnamed = go (line-is line) refl
   where
-    go : (p : Parsed) → parseLine line ≡ p → parsedReply s (parseLineWith n (s .setup .device) line) ≡ parsedReply s (parseLineWith m (s .setup .device) line)
-    go (Line r) e =
+    go : {p : Parsed} → Settled p → parseLine line ≡ p → parsedReply s (parseLineWith n (s .setup .device) line) ≡ parsedReply s (parseLineWith m (s .setup .device) line)
+    go (asks r) e =
         let is : IsText line r = grammar .only line r e in
         rw (parsed-lines .record-line n (s .setup .device) line r is, parsed-lines .record-line m (s .setup .device) line r is)
-    go (Fault k) e =
+    go (faulty k l) e =
         let out : Outside line = record { no-record = λ r is. fault-not-line k r (sym e ∙ grammar .parsed line r is); no-name = unnamed } in
         let at-fault = parsed-lines .other line out in
         rw (at-fault .1 n (s .setup .device), at-fault .1 m (s .setup .device))

@@ -2,11 +2,12 @@
 --     says-append                             texts one after another say what each says
 --     Reads, nothing-reads, then-reads, joined-reads    the same as a type
 --     take-reads, set-reads, answer-reads     the lines of a reply
+--     fault-reads, named-reads                the last one, by the fault
 use mathlib.Core.Path.{_≡_, refl}
 use mathlib.Core.Bool.{Bool, true, false}
 use mathlib.Core.List.{List, [], _∷_, _++_, flatMap}
 use mathlib.Core.Option.{Option, none, some}
-use Prim.Native.Nat.{ℕ}
+use Prim.Native.Nat.{ℕ, _≤_}
 use native.Mathlib.Omega.{arith}
 use lib.Dec.{eqb}
 use Rattle.requests.specs.declared.Refusal.{Refusal}
@@ -14,7 +15,8 @@ use Rattle.requests.specs.declared.Refusal.the-variants.{NotInGrammar, CallOrde
 use Rattle.requests.specs.declared.Answer.{Answer}
 use Rattle.requests.specs.declared.Answer.the-variants.{Accepted, Refused}
 use Rattle.requests.specs.Choice.{pick, both}
-use Rattle.requests.specs.Refusals.{numberOf, answerNumber}
+use Rattle.requests.specs.Refusals.{numberOf}
+use Rattle.requests.specs.declared.Fault.{Fault}
 use Rattle.plans.specs.Lists.{All, nil, cons}
 use Rattle.records.specs.Text.{bytes, tab, newline, hexText, decimalText, lineOf}
 use Rattle.records.specs.Records.{Decimal, Hex}
@@ -24,8 +26,12 @@ use Rattle.records.proofs.Decimals.{decimal-reads}
 use Rattle.records.proofs.Hexes.{hex-reads}
 use Rattle.records.proofs.Tabs.{lacks, Lacking, lacks-parts, oneField, Plain, Plains, none, more, Written, written}
 use Rattle.records.proofs.Texts.{decimal-plain, hex-plain}
+use Rattle.names.specs.Named.{namedField}
 use Rattle.answers.specs.Replies.{answerText, registerText}
 use Rattle.answers.specs.Reader.{Said, Takes, Sets, Answers, takeSays, setSays, noSays, fieldsSay, linesOf, endSays, saidBefore, linesSay, replySays}
+use Rattle.answers.specs.LinesAreCalls.{faultText, faultSaid, byName}
+use Rattle.answers.proofs.FieldWidths.{OneDigit, named-small}
+use Rattle.answers.proofs.FaultTexts.{answerSaid}
 
 -- ---- lines of a text
 
@@ -177,7 +183,19 @@ number-fits QueueFull = omega arith
 number-fits SliceTooShort = omega arith
 number-fits NotLeftByPlan = omega arith
 
-pub answer-reads : (a : Answer) → Reads (answerText a) (Answers (answerNumber a) ∷ [])
-unfolding answerText answerNumber fieldsSay noSays sameBytes bytes oneField both lacks tab newline
-answer-reads Accepted = line-reads _ _ _ _ refl none refl
-answer-reads (Refused x) = line-reads _ _ _ _ refl (more (decimal-plain (numberOf x) (number-fits x)) none) (rw (decimal-reads (numberOf x) (number-fits x)))
+pub answer-reads : (a : Answer) (k : ℕ) → k ≤ 7 → Reads (answerText a k) (Answers (answerSaid a k) ∷ [])
+unfolding answerText fieldsSay noSays sameBytes bytes oneField both lacks tab newline
+answer-reads Accepted k h = line-reads _ _ _ _ refl none refl
+answer-reads (Refused x) k h =
+    line-reads _ _ _ _ refl (more (decimal-plain (numberOf x) (number-fits x)) (more (decimal-plain k (omega arith)) none))
+    (rw (decimal-reads (numberOf x) (number-fits x), decimal-reads k (omega arith)))
+
+pub fault-reads : (f : Option Fault) → OneDigit f → Reads (faultText f) (Answers (faultSaid f) ∷ [])
+unfolding faultText faultSaid
+fault-reads none h = answer-reads Accepted 0 (omega arith)
+fault-reads (some f) h = answer-reads (Refused (f .refusal)) (f .field) h
+
+pub named-reads : (f : Option Fault) → OneDigit f → Reads (faultText (byName f)) (Answers (faultSaid (byName f)) ∷ [])
+unfolding faultText faultSaid byName
+named-reads none h = answer-reads Accepted 0 (omega arith)
+named-reads (some f) h = answer-reads (Refused (f .refusal)) (namedField (f .field)) (named-small (f .field) h)

@@ -9,18 +9,18 @@ use Rattle.sessions.specs.declared.Session.{Session}
 use Rattle.sessions.specs.declared.TurnAnswered.{TurnAnswered}
 use Rattle.records.specs.declared.Record.{Record}
 use Rattle.records.specs.declared.Record.the-variants.{Open, Add, Drop, Turn}
-use Rattle.records.specs.declared.Parsed.the-variants.{Line, Fault}
+use Rattle.records.specs.declared.Parsed.the-variants.{Line, Named, Fault}
 use Rattle.requests.specs.declared.Answer.{Answer}
-use Rattle.answers.specs.Replies.{turnRoom, answerText, takeLines, replyOf, turnReply, recordReply, parsedReply}
+use Rattle.answers.specs.Replies.{turnRoom, answerText, takeLines, replyAt, replyOf, turnReply, recordReply, namedReply, parsedReply}
 use Rattle.answers.specs.Written.{replyRoom}
 use Rattle.answers.specs.ReplyLength.{ReplyLength}
 use Rattle.answers.proofs.Lengths.{joined-length, take-lines-length, set-lines-length, answer-length}
 use Rattle.answers.proofs.TurnLimits.{turn-at-most}
 
 -- an answer alone
-answer-short : (a : Answer) → length (answerText a) ≤ replyRoom
+answer-short : (a : Answer) (k : ℕ) → length (answerText a k) ≤ replyRoom
 unfolding replyRoom
-answer-short a = omega (arith, answer-length a)
+answer-short a k = omega (arith, answer-length a k)
 
 -- the reply to a turn whose plan has at most 8 requests and whose writes fit the slice that a line lends
 turn-short : (a : TurnAnswered) (slice : List ℕ) → length (planOf a) ≤ 8 → 2 * a .writes ≤ turnRoom → length (turnReply a slice .text) ≤ replyRoom
@@ -32,17 +32,18 @@ turn-short a slice few room =
       joined-length takeLines 136 take-lines-length (planOf a),
       set-lines-length (take (2 * a .writes) slice),
       length-take (2 * a .writes) slice,
-      answer-length (a .answer),
+      answer-length (a .answer) 0,
     ))
 
 record-short : (s : Session) (r : Record) → length (recordReply s r .text) ≤ replyRoom
-unfolding recordReply replyOf
-record-short s (Open given) = answer-short (openOf s (openingOf given) .answer)
-record-short s (Add id r) = answer-short (addOf s id r .answer)
-record-short s (Drop id) = answer-short (dropOf s id .answer)
+unfolding recordReply replyOf replyAt
+record-short s (Open given) = answer-short (openOf s (openingOf given) .answer) _
+record-short s (Add id r) = answer-short (addOf s id r .answer) _
+record-short s (Drop id) = answer-short (dropOf s id .answer) _
 record-short s Turn = let l = turn-at-most s turnRoom in turn-short (turnOf s turnRoom) (turnSlice s (replicate turnRoom 0)) (l .plan) (l .writes)
 
 pub reply-length : ReplyLength
-unfolding parsedReply
+unfolding parsedReply namedReply replyAt
 reply-length s (Line r) = record-short s r
-reply-length s (Fault k) = answer-short _
+reply-length s (Named id r) = answer-short (addOf s id r .answer) _
+reply-length s (Fault k) = answer-short _ k

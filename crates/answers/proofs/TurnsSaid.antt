@@ -15,7 +15,7 @@ use Rattle.requests.specs.declared.Request.the-variants.{Event, Packet, Offcore
 use Rattle.requests.specs.declared.Refusal.the-variants.{CallOrder}
 use Rattle.requests.specs.declared.Answer.the-variants.{Accepted, Refused}
 use Rattle.requests.specs.Devices.{capacity}
-use Rattle.requests.specs.Refusals.{numberOf, answerFor, answerNumber}
+use Rattle.requests.specs.Refusals.{numberOf, answerFor}
 use Rattle.plans.specs.declared.Place.{Place}
 use Rattle.plans.specs.Lists.{All, nil, cons, Each, and}
 use Rattle.plans.specs.Lists as lists
@@ -44,8 +44,9 @@ use Rattle.records.specs.Records.{Decimal, AddFits}
 use Rattle.records.specs.declared.Record.the-variants.{Turn}
 use Rattle.answers.specs.Replies.{registerText, takeLines, setLines, turnRoom, turnReply, recordReply}
 use Rattle.answers.specs.Reader.{Takes, Answers, replySays}
-use Rattle.answers.specs.LinesAreCalls.{takesOf, setsOf, Askable, TurnSays}
+use Rattle.answers.specs.LinesAreCalls.{faultSaid, faultOf, takesOf, setsOf, Askable, TurnSays}
 use Rattle.answers.proofs.ReadLines.{Reads, nothing-reads, then-reads, joined-reads, RegisterFits, take-reads, set-reads, answer-reads}
+use Rattle.answers.proofs.FaultTexts.{answerSaid, table-said, turn-field}
 use Rattle.answers.proofs.WriteWidths.{WordsFit, words-fit, WriteFits, writes-fit}
 use Rattle.answers.proofs.SliceFits.{turn-goes}
 
@@ -114,10 +115,15 @@ listed (w ∷ ws) rest =
 
 -- plan, list and answer are read back from the reply that is made of them
 turn-reads : (a : TurnAnswered) (slice : List ℕ) (ws : List Write) → All AssignedFits (planOf a) → All WriteFits ws → flat ws ≡ take (2 * a .writes) slice
-    → replySays (turnReply a slice .text) ≡ some (takesOf (planOf a) ++ setsOf ws ++ Answers (answerNumber (a .answer)) ∷ [])
+    → replySays (turnReply a slice .text) ≡ some (takesOf (planOf a) ++ setsOf ws ++ Answers (answerSaid (a .answer) 0) ∷ [])
 unfolding turnReply
 turn-reads a slice ws plan list is =
-    rw (← is) (then-reads (then-reads (plan-read (planOf a) plan) (sets-read list)) (answer-reads (a .answer)) .says)
+    rw (← is) (then-reads (then-reads (plan-read (planOf a) plan) (sets-read list)) (answer-reads (a .answer) 0 (omega arith)) .says)
+
+-- what the table says of a turn
+turn-fault : (s : Session) → answerSaid (turnOf s turnRoom .answer) 0 ≡ faultSaid (faultOf s (calls.Turn turnRoom))
+unfolding answerTo
+turn-fault s = rw (← turn-field s) (table-said s (calls.Turn turnRoom))
 
 -- what is taken of a queue can be asked for as the queue can
 taken-askable : (s : Setup) (q : List Entry) → Askable q → Askable (taken s q)
@@ -142,12 +148,12 @@ module _ (s : Session) (same : plainOf s ≡ notOpen) where
   unfolding recordReply lent flat
   closed-said =
       let empty : flat [] ≡ take (2 * turnOf s turnRoom .writes) (turnSlice s lent) = rw (unchanged .writes s turnRoom CallOrder refused) in
-      record { list = []; left = empty; says = turn-reads (turnOf s turnRoom) (turnSlice s lent) [] (rw (unchanged .plan s turnRoom CallOrder refused) nil) nil empty }
+      record { list = []; left = empty; says = rw (← turn-fault s) (turn-reads (turnOf s turnRoom) (turnSlice s lent) [] (rw (unchanged .plan s turnRoom CallOrder refused) nil) nil empty) }
 
-  pub closed-says : replySays (recordReply s Turn .text) ≡ some (Answers (some (numberOf CallOrder)) ∷ [])
-  unfolding recordReply turnReply takesOf flatMap setLines answerNumber
+  pub closed-says : replySays (recordReply s Turn .text) ≡ some (Answers (some (numberOf CallOrder, 0)) ∷ [])
+  unfolding recordReply turnReply takesOf flatMap setLines
   closed-says =
-      rw (unchanged .plan s turnRoom CallOrder refused, unchanged .writes s turnRoom CallOrder refused, refused) (answer-reads (Refused CallOrder) .says)
+      rw (unchanged .plan s turnRoom CallOrder refused, unchanged .writes s turnRoom CallOrder refused, refused) (answer-reads (Refused CallOrder) 0 (omega arith) .says)
 
 -- afterwards they are those of the requests taken
 module _ (s : Session) (t : Setup) (q : List Entry) (same : plainOf s ≡ opened t q) (askable : Askable q) where
@@ -175,16 +181,17 @@ module _ (s : Session) (t : Setup) (q : List Entry) (same : plainOf s ≡ opened
         list = writesOf t es;
         left = list-left;
         says =
-            turn-reads (turnOf s turnRoom) (turnSlice s lent) (writesOf t es) plan-fits
-            (writes-fit (requestsOf es) (placesOf t es) (requests-fit (taken-askable t q askable)) t) list-left;
+            rw (← turn-fault s)
+            (turn-reads (turnOf s turnRoom) (turnSlice s lent) (writesOf t es) plan-fits
+            (writes-fit (requestsOf es) (placesOf t es) (requests-fit (taken-askable t q askable)) t) list-left);
       }
 
   pub opened-says : replySays (recordReply s Turn .text)
       ≡ some (takesOf (assign (taken t q) (placesOf t (taken t q))) ++ setsOf (writes t (requestsOf (taken t q)) (placesOf t (taken t q))) ++ Answers none ∷ [])
-  unfolding es opened-said writesOf answerTo refusedBy answerFor answerNumber
+  unfolding es opened-said writesOf answerTo refusedBy answerFor
   opened-says =
       let accepted : turnOf s turnRoom .answer ≡ Accepted = answer-is s (calls.Turn turnRoom) ∙ rw (same, turn-goes t q) in
-      opened-said .says ∙ rw (plan-is, accepted)
+      opened-said .says ∙ rw (plan-is, ← turn-fault s, accepted)
 
 pub turn-said : (s : Session) → Askable (waiting (plainOf s)) → TurnSays s
 unfolding waiting

@@ -25,22 +25,22 @@ taken = record { id = 2; place = Pair 1 2 } ∷ record { id = 1; place = Counter
 -- the answers with their numbers, `take` lines, and whole replies to turns
 abbrev pub examples : List Example
 examples =
-    record { text = answerText Accepted; lines = "ok" ∷ [] }
-    ∷ record { text = answerText (Refused NotInGrammar); lines = "no 1" ∷ [] }
-    ∷ record { text = answerText (Refused CallOrder); lines = "no 2" ∷ [] }
-    ∷ record { text = answerText (Refused BadOpening); lines = "no 3" ∷ [] }
-    ∷ record { text = answerText (Refused BadId); lines = "no 4" ∷ [] }
-    ∷ record { text = answerText (Refused IdWaiting); lines = "no 5" ∷ [] }
-    ∷ record { text = answerText (Refused IdNotWaiting); lines = "no 6" ∷ [] }
-    ∷ record { text = answerText (Refused KindNotOnDevice); lines = "no 7" ∷ [] }
-    ∷ record { text = answerText (Refused NotListed); lines = "no 8" ∷ [] }
-    ∷ record { text = answerText (Refused Incomplete); lines = "no 9" ∷ [] }
-    ∷ record { text = answerText (Refused OutOfRange); lines = "no 10" ∷ [] }
-    ∷ record { text = answerText (Refused Conflicting); lines = "no 11" ∷ [] }
-    ∷ record { text = answerText (Refused NoPlanAlone); lines = "no 12" ∷ [] }
-    ∷ record { text = answerText (Refused QueueFull); lines = "no 13" ∷ [] }
-    ∷ record { text = answerText (Refused SliceTooShort); lines = "no 14" ∷ [] }
-    ∷ record { text = answerText (Refused NotLeftByPlan); lines = "no 15" ∷ [] }
+    record { text = answerText Accepted 0; lines = "ok" ∷ [] }
+    ∷ record { text = answerText (Refused NotInGrammar) 2; lines = "no 1 2" ∷ [] }
+    ∷ record { text = answerText (Refused CallOrder) 0; lines = "no 2 0" ∷ [] }
+    ∷ record { text = answerText (Refused BadOpening) 3; lines = "no 3 3" ∷ [] }
+    ∷ record { text = answerText (Refused BadId) 1; lines = "no 4 1" ∷ [] }
+    ∷ record { text = answerText (Refused IdWaiting) 1; lines = "no 5 1" ∷ [] }
+    ∷ record { text = answerText (Refused IdNotWaiting) 1; lines = "no 6 1" ∷ [] }
+    ∷ record { text = answerText (Refused KindNotOnDevice) 0; lines = "no 7 0" ∷ [] }
+    ∷ record { text = answerText (Refused NotListed) 2; lines = "no 8 2" ∷ [] }
+    ∷ record { text = answerText (Refused Incomplete) 3; lines = "no 9 3" ∷ [] }
+    ∷ record { text = answerText (Refused OutOfRange) 4; lines = "no 10 4" ∷ [] }
+    ∷ record { text = answerText (Refused Conflicting) 2; lines = "no 11 2" ∷ [] }
+    ∷ record { text = answerText (Refused NoPlanAlone) 0; lines = "no 12 0" ∷ [] }
+    ∷ record { text = answerText (Refused QueueFull) 0; lines = "no 13 0" ∷ [] }
+    ∷ record { text = answerText (Refused SliceTooShort) 0; lines = "no 14 0" ∷ [] }
+    ∷ record { text = answerText (Refused NotLeftByPlan) 0; lines = "no 15 0" ∷ [] }
     ∷ record { text = takeLines (record { id = 1; place = Counter 0 }); lines = "take 1 0 -" ∷ [] }
     ∷ record { text = takeLines (record { id = 65535; place = WithRsp 3 1 }); lines = "take 65535 3 1" ∷ [] }
     ∷ record { text = takeLines (record { id = 2; place = Pair 1 2 }); lines = "take 2 1 0" ∷ "take 2 2 1" ∷ [] }
@@ -49,7 +49,7 @@ examples =
       text = turnReply (turnAnswer Accepted newSession taken 2) (0x038F ∷ 0 ∷ 0x01A6 ∷ 0x4000000001 ∷ 7 ∷ 8 ∷ []) .text;
       lines = "take 2 1 0" ∷ "take 2 2 1" ∷ "take 1 0 -" ∷ "take 3 3 0" ∷ "set 038F 0000000000000000" ∷ "set 01A6 0000004000000001" ∷ "ok" ∷ [];
     }
-    ∷ record { text = turnReply (turnAnswer (Refused CallOrder) newSession [] 0) (0x038F ∷ 0 ∷ []) .text; lines = "no 2" ∷ [] }
+    ∷ record { text = turnReply (turnAnswer (Refused CallOrder) newSession [] 0) (0x038F ∷ 0 ∷ []) .text; lines = "no 2 0" ∷ [] }
     ∷ []
 
 -- each is typed so
@@ -67,10 +67,12 @@ readings =
       reply = typed ("take 2 1 0" ∷ "take 2 2 1" ∷ "take 65535 0 -" ∷ "set 01A6 0000004000000001" ∷ "ok" ∷ []);
       said = some (Takes 2 1 (some 0) ∷ Takes 2 2 (some 1) ∷ Takes 65535 0 none ∷ Sets 0x01A6 0x4000000001 ∷ Answers none ∷ []);
     }
-    ∷ record { reply = typed ("no 12" ∷ []); said = some (Answers (some 12) ∷ []) }
+    ∷ record { reply = typed ("no 10 4" ∷ []); said = some (Answers (some (10, 4)) ∷ []) }
+    ∷ record { reply = typed ("no 12 0" ∷ []); said = some (Answers (some (12, 0)) ∷ []) }
     -- a leading zero, a field too few, lower case, a verb that no reply has, an empty line, and a line that is not closed
     ∷ record { reply = typed ("take 02 1 0" ∷ "ok" ∷ []); said = none }
     ∷ record { reply = typed ("take 2 1" ∷ "ok" ∷ []); said = none }
+    ∷ record { reply = typed ("no 12" ∷ []); said = none }
     ∷ record { reply = typed ("set 01a6 0000004000000001" ∷ "ok" ∷ []); said = none }
     ∷ record { reply = typed ("turn" ∷ []); said = none }
     ∷ record { reply = typed ("ok" ∷ "" ∷ []); said = none }

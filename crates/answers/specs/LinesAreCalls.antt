@@ -2,26 +2,31 @@
 use mathlib.Core.Path.{_≡_}
 use mathlib.Core.Logic.{_≢_}
 use mathlib.Core.List.{List, [], _∷_, _++_, map, flatMap}
-use mathlib.Core.Option.{some}
+use mathlib.Core.Option.{Option, none, some}
 use Prim.Native.Nat.{ℕ, _*_}
 use lib.ListN.{take, replicate}
 use Rattle.requests.specs.declared.Entry.{Entry}
 use Rattle.requests.specs.Devices.{openingOf}
-use Rattle.requests.specs.Refusals.{answerNumber}
+use Rattle.requests.specs.Refusals.{numberOf}
+use Rattle.requests.specs.declared.Answer.the-variants.{Accepted, Refused}
+use Rattle.requests.specs.declared.Fault.{Fault}
+use Rattle.requests.specs.declared.Request.{Request}
 use Rattle.plans.specs.Lists.{All}
 use Rattle.plans.specs.Places.{Counted, countedOf}
 use Rattle.layouts.specs.Writes.{Write, flat}
 use Rattle.sessions.specs.declared.Session.{Session}
 use Rattle.sessions.specs.declared.Assigned.{Assigned}
 use Rattle.sessions.specs.Calls.{Call, waiting}
-use Rattle.sessions.specs.Sessions.{plainOf, turnOf, turnSlice, planOf, answerTo, nextSession}
+use Rattle.sessions.specs.FaultTable.{fault}
+use Rattle.sessions.specs.Sessions.{queueLimit, plainOf, turnOf, turnSlice, planOf, nextSession}
 use Rattle.records.specs.Records.{AddFits}
 use Rattle.records.specs.declared.Record.{Record}
 use Rattle.records.specs.declared.Record.the-variants.{Open, Add, Drop, Turn}
 use Rattle.records.specs.declared.Parsed.{Parsed}
-use Rattle.records.specs.declared.Parsed.the-variants.{Line, Fault}
-use Rattle.answers.specs.Replies.{answerText, turnRoom, recordReply}
-use Rattle.answers.specs.Reader.{Said, Takes, Sets, Answers, replySays}
+use Rattle.records.specs.declared.Parsed.the-variants as parsed
+use Rattle.names.specs.Named.{namedField}
+use Rattle.answers.specs.Replies.{answerText, turnRoom, recordReply, namedReply}
+use Rattle.answers.specs.Reader.{Refusing, Said, Takes, Sets, Answers, replySays}
 
 -- the call that a record makes
 unfoldable pub callOf : Record → Call
@@ -32,8 +37,28 @@ callOf Turn = Rattle.sessions.specs.Calls.Turn turnRoom
 
 -- the calls of a line: one, or none where it is refused for what it is
 unfoldable pub callsIn : Parsed → List Call
-callsIn (Line r) = callOf r ∷ []
-callsIn (Fault k) = []
+callsIn (parsed.Line r) = callOf r ∷ []
+callsIn (parsed.Named id r) = Rattle.sessions.specs.Calls.Add id r ∷ []
+callsIn (parsed.Fault k) = []
+
+-- the last line of a reply: `ok`, or the number and the field of the fault
+unfoldable pub faultText : Option Fault → List ℕ
+faultText none = answerText Accepted 0
+faultText (some f) = answerText (Refused (f .refusal)) (f .field)
+
+-- what it says
+unfoldable pub faultSaid : Option Fault → Option Refusing
+faultSaid none = none
+faultSaid (some f) = some (numberOf (f .refusal), f .field)
+
+-- the fault of a request by name, given that of the add which it stands for
+unfoldable pub byName : Option Fault → Option Fault
+byName none = none
+byName (some f) = some (record { refusal = f .refusal; field = namedField (f .field) })
+
+-- the fault of a call in a session: what the table says of it
+abbrev pub faultOf : Session → Call → Option Fault
+faultOf s c = fault queueLimit (plainOf s) c
 
 -- what a plan says, "in the order taken": of each request its counter and register, or both counters with theirs
 unfoldable pub takesOf : List Assigned → List Said
@@ -52,14 +77,17 @@ pub record TurnSays (s : Session) : Type 0 where
   pub list : List Write
   pub left : flat list ≡ take (2 * turnOf s turnRoom .writes) (turnSlice s (replicate turnRoom 0))
   pub says : replySays (recordReply s Turn .text)
-      ≡ some (takesOf (planOf (turnOf s turnRoom)) ++ setsOf list ++ Answers (answerNumber (turnOf s turnRoom .answer)) ∷ [])
+      ≡ some (takesOf (planOf (turnOf s turnRoom)) ++ setsOf list ++ Answers (faultSaid (faultOf s (Rattle.sessions.specs.Calls.Turn turnRoom))) ∷ [])
 
 pub record LinesAreCalls : Type 0 where
   -- the session that a record leaves is the call's ..
   pub session : (s : Session) (r : Record) → recordReply s r .session ≡ nextSession s (callOf r)
-  -- .. and its reply ends with the call's answer
-  pub answer : (s : Session) (r : Record) → (before : List ℕ) × (recordReply s r .text ≡ before ++ answerText (answerTo s (callOf r)))
+  -- .. and its reply ends with what the table says of the call, number and field
+  pub answer : (s : Session) (r : Record) → (before : List ℕ) × (recordReply s r .text ≡ before ++ faultText (faultOf s (callOf r)))
   -- the reply to an open, add or drop says nothing else
-  pub alone : (s : Session) (r : Record) → r ≢ Turn → replySays (recordReply s r .text) ≡ some (Answers (answerNumber (answerTo s (callOf r))) ∷ [])
+  pub alone : (s : Session) (r : Record) → r ≢ Turn → replySays (recordReply s r .text) ≡ some (Answers (faultSaid (faultOf s (callOf r))) ∷ [])
   -- the reply to a turn says its plan and its list besides
   pub turn : (s : Session) → Askable (waiting (plainOf s)) → TurnSays s
+  -- a request by name is the add that it stands for: the session, and the answer, number and the line's own field
+  pub named-session : (s : Session) (id : ℕ) (r : Request) → namedReply s id r .session ≡ nextSession s (Rattle.sessions.specs.Calls.Add id r)
+  pub named-answer : (s : Session) (id : ℕ) (r : Request) → namedReply s id r .text ≡ faultText (byName (faultOf s (Rattle.sessions.specs.Calls.Add id r)))

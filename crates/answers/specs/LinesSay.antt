@@ -9,7 +9,7 @@ use Prim.Native.Nat.{ℕ}
 use Rattle.requests.specs.declared.CounterSet.{CounterSet}
 use Rattle.requests.specs.declared.Setup.{Setup}
 use Rattle.requests.specs.declared.Entry.{Entry}
-use Rattle.requests.specs.declared.Refusal.{Refusal}
+use Rattle.requests.specs.declared.Fault.{Fault}
 use Rattle.requests.specs.Refusals.{numberOf}
 use Rattle.requests.specs.Devices.{letterOf}
 use Rattle.plans.specs.declared.Place.{Place}
@@ -18,12 +18,14 @@ use Rattle.layouts.specs.Writes.{writes}
 use Rattle.sessions.specs.declared.Session.{Session}
 use Rattle.sessions.specs.Turns.{requestsOf, taken, assign}
 use Rattle.sessions.specs.Calls.{opened}
+use Rattle.sessions.specs.Calls as calls
 use Rattle.sessions.specs.Table.{refusal}
+use Rattle.sessions.specs.FaultTable.{fault}
 use Rattle.sessions.specs.RefusalTable.{IsId, Waits}
 use Rattle.sessions.specs.Sessions.{queueLimit, sessionAfter, queueAfter}
 use Rattle.records.specs.Records.{recordText, Fits}
 use Rattle.records.specs.declared.Record.{Record}
-use Rattle.records.specs.declared.Record.the-variants.{Add, Turn}
+use Rattle.records.specs.declared.Record.the-variants.{Turn}
 use Rattle.names.specs.Lists.{NameLists}
 use Rattle.names.specs.Named.{requestNamed}
 use Rattle.parser.specs.NamedText.{IsNamed}
@@ -31,7 +33,7 @@ use Rattle.names.specs.RowGrammar.{AreLists}
 use Rattle.names.specs.RowsFound.{NoRow}
 use Rattle.names.specs.declared.Row.{Row}
 use Rattle.answers.specs.Reader.{Answers, replySays}
-use Rattle.answers.specs.LinesAreCalls.{callOf, takesOf, setsOf}
+use Rattle.answers.specs.LinesAreCalls.{callOf, faultSaid, byName, takesOf, setsOf}
 use Rattle.answers.specs.NamedLines.{RowOfName}
 use Rattle.answers.specs.LineLists.{deviceAt, callsBy, sessionBy, replyAfter}
 
@@ -45,29 +47,30 @@ pub record TurnTold (s : Setup) (q : List Entry) (text : List ℕ) : Type 0 wher
 pub record SaidAfter (n : NameLists) (start : Session) (lines : List (List ℕ)) : Type 0 where
   -- the session is the one that their calls leave
   pub session : sessionBy n start lines ≡ sessionAfter start (callsBy n lines)
-  -- a record that the table refuses there is answered with the number alone
-  pub refused : (r : Record) → Fits r → (x : Refusal) → refusal queueLimit (queueAfter (callsBy n lines)) (callOf r) ≡ some x
-      → replySays (replyAfter n start lines (recordText r)) ≡ some (Answers (some (numberOf x)) ∷ [])
+  -- a record that the table refuses there is answered with the number and the field alone
+  pub refused : (r : Record) → Fits r → (f : Fault) → fault queueLimit (queueAfter (callsBy n lines)) (callOf r) ≡ some f
+      → replySays (replyAfter n start lines (recordText r)) ≡ some (Answers (some (numberOf (f .refusal), f .field)) ∷ [])
   -- any other open, add or drop with `ok` alone
   pub accepted : (r : Record) → Fits r → r ≢ Turn → refusal queueLimit (queueAfter (callsBy n lines)) (callOf r) ≡ none
       → replySays (replyAfter n start lines (recordText r)) ≡ some (Answers none ∷ [])
   -- every turn once it is open with the plan and its writes
   pub turn : (s : Setup) (q : List Entry) → queueAfter (callsBy n lines) ≡ opened s q → TurnTold s q (replyAfter n start lines (recordText Turn))
-  -- and a request by name as the record that it stands for, on the device of the queue there
+  -- and a request by name as the add that it stands for, on the device of the queue there: where it is refused, at the field of its own line
   pub named : (line : List ℕ) (id : ℕ) (name : List ℕ) (a : CounterSet) → IsNamed line id name a → AreLists n
-      → replyAfter n start lines line ≡ replyAfter n start lines (recordText (Add id (requestNamed n name (deviceAt (queueAfter (callsBy n lines))) a)))
-  -- it is answered 1 alone beside an ill-formed list ..
+      → replySays (replyAfter n start lines line)
+      ≡ some (Answers (faultSaid (byName (fault queueLimit (queueAfter (callsBy n lines)) (calls.Add id (requestNamed n name (deviceAt (queueAfter (callsBy n lines))) a))))) ∷ [])
+  -- it is answered 1 at field 0 beside an ill-formed list ..
   pub ill-formed : (line : List ℕ) (id : ℕ) (name : List ℕ) (a : CounterSet) → IsNamed line id name a → ¬ AreLists n
-      → replySays (replyAfter n start lines line) ≡ some (Answers (some 1) ∷ [])
-  -- .. 8 where neither list has the name, and 7 where its row is for another device
+      → replySays (replyAfter n start lines line) ≡ some (Answers (some (1, 0)) ∷ [])
+  -- .. 8 at the name where neither list has it, and 7 where its row is for another device
   pub missing : (s : Setup) (q : List Entry) → queueAfter (callsBy n lines) ≡ opened s q
       → (line : List ℕ) (id : ℕ) (name : List ℕ) (a : CounterSet) → IsNamed line id name a → AreLists n → IsId id → ¬ Waits id q
       → NoRow name (n .site) → NoRow name (n .house)
-      → replySays (replyAfter n start lines line) ≡ some (Answers (some 8) ∷ [])
+      → replySays (replyAfter n start lines line) ≡ some (Answers (some (8, 2)) ∷ [])
   pub elsewhere : (s : Setup) (q : List Entry) → queueAfter (callsBy n lines) ≡ opened s q
       → (line : List ℕ) (id : ℕ) (name : List ℕ) (a : CounterSet) → IsNamed line id name a → AreLists n → IsId id → ¬ Waits id q
       → (row : Row) → RowOfName n name row → ¬ (letterOf (row .device) ≡ letterOf (s .device))
-      → replySays (replyAfter n start lines line) ≡ some (Answers (some 7) ∷ [])
+      → replySays (replyAfter n start lines line) ≡ some (Answers (some (7, 0)) ∷ [])
 
 abbrev pub LinesSay : Type 0
 LinesSay = (n : NameLists) (start : Session) → start .opened ≡ false → (lines : List (List ℕ)) → SaidAfter n start lines

@@ -12,5 +12,5 @@ use Rattle.answers.specs.Replies.{turnRoom, answerText, answerLine}
 pub record NeverShort : Type 0 where
   -- a turn with that slice is not refused by row 14 ..
   pub turn : (s : Session) → ¬ (turnOf s turnRoom .answer ≡ Refused SliceTooShort)
-  -- .. and no line, whatever its bytes, has that row's text for an answer
-  pub line : (n : NameLists) (s : Session) (line : List ℕ) → ¬ (answerLine n s line .text ≡ answerText (Refused SliceTooShort))
+  -- .. and no line, whatever its bytes, has that row's text for an answer, at any field
+  pub line : (n : NameLists) (s : Session) (line : List ℕ) (k : ℕ) → ¬ (answerLine n s line .text ≡ answerText (Refused SliceTooShort) k)

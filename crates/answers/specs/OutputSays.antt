@@ -8,20 +8,20 @@ use Prim.Native.Nat.{ℕ}
 use Rattle.plans.specs.Lists.{All}
 use Rattle.sessions.specs.declared.Session.{Session}
 use Rattle.names.specs.Lists.{NameLists}
-use Rattle.answers.specs.Reader.{Said, Takes, Sets, Answers, replySays}
+use Rattle.answers.specs.Reader.{Refusing, Said, Takes, Sets, Answers, replySays}
 use Rattle.answers.specs.LineLists.{replyAfter}
 
 -- a line that is not the answer
 abbrev pub NoAnswer : Said → Type 0
 NoAnswer (Takes id counter register) = Unit {0}
 NoAnswer (Sets address value) = Unit {0}
-NoAnswer (Answers number) = ⊥
+NoAnswer (Answers refused) = ⊥
 
 -- a text that says one answer, at its end
 pub record OneReply (text : List ℕ) : Type 0 where
   pub details : List Said
-  pub number : Option ℕ
-  pub says : replySays text ≡ some (details ++ Answers number ∷ [])
+  pub refused : Option Refusing
+  pub says : replySays text ≡ some (details ++ Answers refused ∷ [])
   pub no-answer : All NoAnswer details
 
 pub record OutputSays : Type 0 where

@@ -10,11 +10,16 @@ use Rattle.records.specs.Numbers.{decimalOf, hexOf}
 use Rattle.records.specs.declared.Number.{Number}
 use Rattle.records.specs.declared.Number.the-variants.{Value, Bad}
 
--- what a line says: "`take` id counter register", "`set` address(4) value(16)", or the answer: "`ok`, or `no` and the number"
+-- a refusal as it is said: its number, and the field at fault
+abbrev pub Refusing : Type 0
+Refusing = ℕ × ℕ
+
+-- what a line says: "`take` id counter register", "`set` address(4) value(16)", or the answer: "`ok`, or `no` and the number", with order 11's
+-- "third field after the number"
 pub data Said : Type 0 where
   Takes : (id counter : ℕ) (register : Option ℕ) → Said
   Sets : (address value : ℕ) → Said
-  Answers : (number : Option ℕ) → Said
+  Answers : (refused : Option Refusing) → Said
 
 -- what follows a number; nothing where there is none
 abbrev pub withNumber : {A : Type 0} → Number → (ℕ → Option A) → Option A
@@ -46,16 +51,19 @@ setSays a b =
     withNumber (hexOf 16 b) (λ value.
     some (Sets address value)))
 
--- what the one behind `no` says
-unfoldable pub noSays : List ℕ → Option Said
-noSays a = withNumber (decimalOf a) (λ number. some (Answers (some number)))
+-- what the two behind `no` say
+unfoldable pub noSays : List ℕ → List ℕ → Option Said
+noSays a b =
+    withNumber (decimalOf a) (λ number.
+    withNumber (decimalOf b) (λ field.
+    some (Answers (some (number, field)))))
 
 -- what the fields of a line say
 unfoldable pub fieldsSay : List (List ℕ) → Option Said
 fieldsSay [] = none
 fieldsSay (verb ∷ []) = pick (sameBytes verb (bytes "ok")) (some (Answers none)) none
-fieldsSay (verb ∷ a ∷ []) = pick (sameBytes verb (bytes "no")) (noSays a) none
-fieldsSay (verb ∷ a ∷ b ∷ []) = pick (sameBytes verb (bytes "set")) (setSays a b) none
+fieldsSay (verb ∷ a ∷ []) = none
+fieldsSay (verb ∷ a ∷ b ∷ []) = pick (sameBytes verb (bytes "set")) (setSays a b) (pick (sameBytes verb (bytes "no")) (noSays a b) none)
 fieldsSay (verb ∷ a ∷ b ∷ c ∷ []) = pick (sameBytes verb (bytes "take")) (takeSays a b c) none
 fieldsSay (verb ∷ a ∷ b ∷ c ∷ d ∷ more) = none
 

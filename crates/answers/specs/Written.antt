@@ -1,13 +1,17 @@
 -- A reply in an array of its own, and a reply in a lent slice.
-use mathlib.Core.Bool.{true, false}
+use mathlib.Core.Bool.{Bool, true, false}
 use mathlib.Core.List.{List, _++_}
 use Prim.Native.Nat.{ℕ, _-_}
 use lib.ListN.{length, drop, replicate}
 use lib.Dec.{ltb}
+use Rattle.requests.specs.Choice.{pick}
 use Rattle.sessions.specs.declared.Session.{Session}
+use Rattle.records.specs.declared.Record.{Record}
+use Rattle.records.specs.declared.Record.the-variants.{Open, Add, Drop, Turn}
 use Rattle.records.specs.declared.Parsed.{Parsed}
+use Rattle.names.specs.Named.{namedField}
 use Rattle.queue_rows.specs.Heads.{sessionIn}
-use Rattle.answers.specs.Replies.{Reply, parsedReply}
+use Rattle.answers.specs.Replies.{Reply, recordReply, namedReply, parsedReply}
 use Rattle.answers.specs.declared.LineReply.{LineReply}
 use Rattle.answers.specs.declared.Replied.{Replied}
 
@@ -43,3 +47,14 @@ repliedIn s p room =
 -- what the slice holds afterwards
 unfoldable pub repliedOut : Session → Parsed → List ℕ → List ℕ
 repliedOut s p out = elim (ltb (length out) replyRoom) [ true ↦ out | false ↦ atStart (parsedReply s p .text) out ]
+
+-- the field of a line, given that of the add: a request by name has its own
+unfoldable pub lineField : Bool → ℕ → ℕ
+lineField named k = pick named (namedField k) k
+
+-- the reply to a record that a line asks for, by name or not
+unfoldable pub askedReply : Session → Record → Bool → Reply
+askedReply s (Open given) named = recordReply s (Open given)
+askedReply s (Add id r) named = elim named [ true ↦ namedReply s id r | false ↦ recordReply s (Add id r) ]
+askedReply s (Drop id) named = recordReply s (Drop id)
+askedReply s Turn named = recordReply s Turn

@@ -6,6 +6,7 @@ use sessions::Session;
 mod answer_lines;
 pub mod line;
 pub mod replies;
+mod reply_fields;
 mod set_lines;
 mod take_lines;
 mod texts;

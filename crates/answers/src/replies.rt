@@ -1,6 +1,9 @@
 // The reply to what a line is, in a lent slice.
 use crate::Replied;
 use crate::answer_lines::put_answer;
+use crate::reply_fields::add_field;
+use crate::reply_fields::drop_field;
+use crate::reply_fields::open_field;
 use crate::set_lines::put_sets;
 use crate::take_lines::put_takes;
 use checks::devices::opening_of;
@@ -23,7 +26,7 @@ ghost use lib.ListN.{length, replicate};
 ghost use Rattle.sessions.specs.Sessions.{turnOf, turnSlice};
 ghost use Rattle.queue_rows.specs.Rows.{Sized};
 ghost use Rattle.queue_rows.specs.Heads.{sessionIn, answeredIn};
-ghost use Rattle.answers.specs.Replies.{replyOf, turnReply, turnRoom};
+ghost use Rattle.answers.specs.Replies.{replyAt, turnReply, turnRoom};
 ghost use Rattle.answers.specs.Written.{replyRoom, leftIn, repliedIn, repliedOut};
 ghost use Rattle.answers.specs.Texts.{Delivered};
 
@@ -33,13 +36,13 @@ const TURN_ROOM: usize = 44;
 // The room for any reply, in bytes.
 pub const REPLY_ROOM: usize = 2048;
 
-// The reply to an open, add or drop.
-fn call_reply(answered: HeadAnswered, out: &mut [u8]) -> Replied
+// The reply to an open, add or drop, or to a line that is none, given the field at fault.
+fn call_reply(answered: HeadAnswered, field: usize, out: &mut [u8]) -> Replied
     requires { ⌜ replyRoom ≤ length (now out) ⌝ }
-    ensures { λ r. ⌜ ((ids rows : List ℕ) → Delivered (replyOf (answeredIn answered ids rows)) (now (out .entry)) (now (out .exit)) (leftIn r ids rows)) ⌝ }
+    ensures { λ r. ⌜ ((ids rows : List ℕ) → Delivered (replyAt (answeredIn answered ids rows) field) (now (out .entry)) (now (out .exit)) (leftIn r ids rows)) ⌝ }
 {
     let answer = answered.answer;
-    let written = put_answer(out, 0, answer);
+    let written = put_answer(out, 0, answer, field);
     let head = answered.head;
     Replied { head, written }
 }
@@ -61,7 +64,7 @@ fn turn_reply(
     let answer = turned.answer;
     let takes = put_takes(out, 0, turned.code, ids, rows, turned.front, turned.taken);
     let sets = put_sets(out, takes, &list, turned.writes);
-    let written = put_answer(out, sets, answer);
+    let written = put_answer(out, sets, answer, 0);
     let next = turned.head;
     Replied {
         head: next,
@@ -70,7 +73,8 @@ fn turn_reply(
 }
 
 // The reply to what a line is, at the start of a slice that has room for any reply; in a shorter one nothing is done.
-// What the calls answer meets before it is written, so that it is written in one place.
+// A request by name is made the add that it stands for, and what the calls answer meets before it is written, so that each call and the text of
+// its answer stand in one place.
 pub fn reply(
     head: Head,
     ids: &mut [u64; QUEUE_LIMIT],
@@ -86,17 +90,46 @@ pub fn reply(
     if out.len() < REPLY_ROOM {
         return Replied { head, written: 0 };
     }
-    let answered = match parsed {
-        Parsed::Fault(_) => HeadAnswered {
-            answer: Answer::Refused(Refusal::NotInGrammar),
-            head,
-        },
-        Parsed::Line(record) => match record {
-            Record::Turn => return turn_reply(head, ids, rows, out),
-            Record::Open(setup) => open(head, opening_of(setup)),
-            Record::Drop { id } => drop_request(head, ids, rows, id),
-            Record::Add { id, request } => add(head, ids, rows, id, request),
-        },
+    let mut named = false;
+    let asked = match parsed {
+        Parsed::Fault(k) => {
+            let answered = HeadAnswered {
+                answer: Answer::Refused(Refusal::NotInGrammar),
+                head,
+            };
+            return call_reply(answered, k, out);
+        }
+        Parsed::Named { id, request } => {
+            named = true;
+            Record::Add { id, request }
+        }
+        Parsed::Line(record) => record,
     };
-    call_reply(answered, out)
+    let mut field = 0;
+    let answered = match asked {
+        Record::Turn => return turn_reply(head, ids, rows, out),
+        Record::Open(setup) => {
+            let opening = opening_of(setup);
+            let opened = open(head, opening);
+            let answer = opened.answer;
+            field = open_field(answer, opening);
+            opened
+        }
+        Record::Drop { id } => {
+            let dropped = drop_request(head, ids, rows, id);
+            let answer = dropped.answer;
+            field = drop_field(answer);
+            dropped
+        }
+        Record::Add { id, request } => {
+            let added = add(head, ids, rows, id, request);
+            let answer = added.answer;
+            let left = added.head;
+            let setup = left.setup;
+            let device = setup.device;
+            field = add_field(answer, device, request, named);
+            added
+        }
+    };
+    call_reply(answered, field, out)
 }

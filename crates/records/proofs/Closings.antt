@@ -56,7 +56,7 @@ too-long-none : (p : Parsed) (n : ℕ) (r : Record) → tooLong p n ≡ Line r �
 unfolding tooLong
 too-long-none (Line s) n r e = fault-not-line n r e
 too-long-none (Named id q) n r e = fault-not-line n r e
-too-long-none (Fault k) n r e = fault-not-line k r e
+too-long-none (Fault k) n r e = fault-not-line _ r e
 
 -- so a line that is read as a record is not too long
 pub record-only : (line : List ℕ) (r : Record) → parseLine line ≡ Line r → (textLength line ≤ 80) × (recordOf (textOf line) (isClosed line) ≡ Line r)

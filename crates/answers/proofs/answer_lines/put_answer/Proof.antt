@@ -4,7 +4,7 @@ use native.Mathlib.Omega.{arith}
 use Rattle.records.specs.Text.{bytes, tab, newline, lineOf}
 use Rattle.answers.specs.Replies.{answerText}
 use Rattle.answers.proofs.Putting.{then}
-use Rattle.answers.proofs.LineTexts.{number-end}
+use Rattle.answers.proofs.LineTexts.{field-end}
 use Rattle.answers.proofs.answer_lines.put_answer.Statement.{statement}
 use Rattle.answers.proofs.answer_lines.put_answer.Tie as tie
 
@@ -29,11 +29,16 @@ slice-aggregate-put-bytes-2 c = search needs
 put-bytes-requires-2 : tie.Need-put-bytes-requires-2
 put-bytes-requires-2 c κs = search needs
 
-put-decimal-requires : tie.Need-put-decimal-requires
-put-decimal-requires c κs = search needs
+put-field-requires : tie.Need-put-field-requires
+put-field-requires c κs = search needs
+
+put-field-requires-2 : tie.Need-put-field-requires-2
+put-field-requires-2 c κs = omega (arith, field-end _ (c .before .before .before .put-field .ensures))
 
 put-byte-requires : tie.Need-put-byte-requires
-put-byte-requires c κs = omega (arith, number-end _ (c .before .before .before .put-decimal .ensures))
+put-byte-requires c κs =
+    let field = c .before .before .before in
+    omega (arith, field-end _ (field .put-field2 .ensures), field-end _ (field .before .before .before .before .put-field .ensures))
 
 same-length : tie.Need-same-length
 same-length c = search needs
@@ -49,10 +54,12 @@ returns-2 : tie.Need-returns-2
 unfolding answerText lineOf bytes tab newline
 returns-2 c =
     let newline = c .before .before in
-    let number = newline .before .before .before .before in
+    let field = newline .before .before .before .before in
+    let number = field .before .before .before .before in
     let verb = number .before .before .before .before in
     let told = verb .before .before .before in
-    rw (told .before .before .answer .given .1, ← told .number-of .ensures) (then (verb .put-bytes2 .ensures) (then (number .put-decimal .ensures) (newline .put-byte .ensures)))
+    rw (told .before .before .answer .given .1, ← told .number-of .ensures)
+    (then (verb .put-bytes2 .ensures) (then (number .put-field .ensures) (then (field .put-field2 .ensures) (newline .put-byte .ensures))))
 
 pub put-answer-spec : {M : Type 1} → statement M
 put-answer-spec =
@@ -65,7 +72,8 @@ put-answer-spec =
     number-of-requires
     slice-aggregate-put-bytes-2
     put-bytes-requires-2
-    put-decimal-requires
+    put-field-requires
+    put-field-requires-2
     put-byte-requires
     same-length
     returns

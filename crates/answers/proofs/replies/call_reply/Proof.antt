@@ -1,7 +1,7 @@
--- `answers::replies::call_reply` delivers `replyOf`: its text is the answer's line.
+-- `answers::replies::call_reply` delivers `replyAt`: its text is the answer's line.
 use native.Mathlib.Omega.{arith}
 use Rattle.queue_rows.specs.Heads.{answeredIn}
-use Rattle.answers.specs.Replies.{replyOf}
+use Rattle.answers.specs.Replies.{replyAt}
 use Rattle.answers.specs.Written.{replyRoom, leftIn}
 use Rattle.answers.proofs.Delivering.{delivered}
 use borrow.Author.Needs.{needs}
@@ -13,8 +13,8 @@ unfolding replyRoom
 put-answer-requires c κs = omega arith
 
 returns : tie.Need-returns
-unfolding replyOf answeredIn leftIn
-returns c ids rows = delivered (replyOf (answeredIn (c .before .before .before .before .before .before .args .answered) ids rows)) _ _ _ (c .before .before .before .put-answer .ensures)
+unfolding replyAt answeredIn leftIn
+returns c ids rows = delivered (replyAt (answeredIn (c .before .before .before .before .before .before .args .answered) ids rows) (c .before .before .before .before .before .before .args .field)) _ _ _ (c .before .before .before .put-answer .ensures)
 
 pub call-reply-spec : {M : Type 1} → statement M
 call-reply-spec =
