@@ -8,6 +8,7 @@ use Rattle.requests.specs.Catalogue.{eventsOf, codeIn, pairIn, maskNotListed}
 use Rattle.requests.specs.Checks.{kindNotOn, notListed, tooWide, outOfRange, incomplete, conflicting, requestRows}
 use Rattle.requests.specs.Choice.{both, either, every, firstHolding}
 use Rattle.requests.specs.Devices.{has, capacity, counterCount, allCounters, fixedCount, allFixed, letterOf, boxCount, boxOf, devices, named, deviceOf, packetsOn, offcoreOn, pairsJudged, usableSet, opens, rowsWhere, openingRows, onDevice, openingTable, setupOn, openedOn, openedBy, openedSetup, setupOf, openingOf}
+use Rattle.requests.specs.Faults.{freezeField, rangeField, lackField, requestFields, openingField, askingField, fieldsOn, openingFields, noFields, fieldOf, answerField}
 use Rattle.requests.specs.MaskRules.{allows}
 use Rattle.requests.specs.Refusals.{numberOf, answerFor}
 use Rattle.plans.specs.Legal.{wordsOf, packetsOf, ofAll, counters}
@@ -32,23 +33,23 @@ use Rattle.records.specs.Verbs.{lineFrom, openFormats, openAs, openWith, openOn
 use Rattle.names.specs.EventNames.{nameByte, nameBytes, longestName, isName}
 use Rattle.names.specs.Lists.{rowTexts, isEnded, allFormed, wellFormed, listsFormed}
 use Rattle.names.specs.LookUp.{topRow, rowNamed}
-use Rattle.names.specs.Named.{unlisted, foreign, requestFor, requestNamed}
+use Rattle.names.specs.Named.{unlisted, foreign, requestFor, requestNamed, namedField}
 use Rattle.names.specs.Rows.{numbersOn, rowOf, hasName}
 use Rattle.parser.specs.ParseWith.{addNamed, namedLine, recordWith, parseTextWith}
-use Rattle.answers.specs.Replies.{answerText, registerText, takeLines, setLines, turnRoom, replyOf, turnReply, recordReply, parsedReply}
-use Rattle.lines.specs.Stream.{lineStart, feedStart, lineReply, keepByte, byteState, byteText, feedState, feedText, unfinished, endText, transcript}
+use Rattle.answers.specs.Replies.{answerText, registerText, takeLines, setLines, turnRoom, replyAt, replyOf, turnReply, recordReply, namedReply, parsedReply}
+use Rattle.lines.specs.Stream.{lineStart, feedStart, lineReply, keepByte, byteState, byteText, feedState, feedText, unfinished, unclosed, faultAt, endText, transcript}
 use Rattle.lines.specs.Tries.{outcomeWith, outcome, expected, Tries}
 use Rattle.lines.specs.NameTries.{NameTries}
 use Rattle.lines.specs.OrderTries.{OrderTries}
 
 pub tries-hold : Tries
-unfolding flatMap overflowOn coreCount unasked coreGiven asks asked overflowNotOn coreFits overflowFits bit inList anyBit onlyBits typeBits anyResponse answerBits outstanding rsp1Bits rsp0Bits rising field matchBits maskBits latencyWord sinkMasks ringMasks starvedMasks bypassMasks cboxEvents eventsOf codeIn pairIn maskNotListed kindNotOn notListed tooWide outOfRange incomplete conflicting requestRows both either every firstHolding has capacity counterCount allCounters fixedCount allFixed letterOf boxCount boxOf devices named deviceOf packetsOn offcoreOn pairsJudged usableSet opens rowsWhere openingRows onDevice openingTable setupOn openedOn openedBy openedSetup setupOf openingOf allows numberOf answerFor wordsOf packetsOf ofAll counters countedOf countersOf first second takeCounter takeWord takePacket placeOf admit width firstFrom putFirst thenRest tryNumber planIn firstPlan hasPlan tabulate cboxGlobals cboxGlobal layoutOf rsp0At rsp1At mmCfgAt matchAt maskAt uboxAt mmEnable frzAll enAll coreSel enabledOn pmiEnable enabled eventWord offcoreCode rspMask rspWord packetWord usesOf wordAt setFrom settingsOf rows zeros unusable fixedAt fixedEnables firstGlobal lastGlobal offcoreWrites packetWrites filterWrites coreBit uboxValue boxWrites writesFor writes flat filled waits takenAfter passedAfter removed queueLimit vacant queued padded sessionOf newSession plainOf refusedBy answered openOf addOf dropOf unassigned turnAnswer turnOf turnSlice planOf outsideIds addRows dropRows turnRows turnsLimit turnsRows beforeOpen onceOpen table refusal requestsOf fits taken passed turned placesOf assign writesOf listsOf joined tabbed typed fields sameBytes lettered digitOf numberFrom decimalOf hexOf coreNumberOf coreOf longest tooLong parsedRefusal bytes tab newline hexDigit hexText decimalDigits decimalText lineOf lineFrom openFormats openAs openWith openOn openLine eventLine packetLine offcoreLine latencyLine dropLine turnLine hasVerb verbs recordOf nameByte nameBytes longestName isName rowTexts isEnded allFormed wellFormed listsFormed topRow rowNamed unlisted foreign requestFor requestNamed numbersOn rowOf hasName addNamed namedLine recordWith parseTextWith answerText registerText takeLines setLines turnRoom replyOf turnReply recordReply parsedReply lineStart feedStart lineReply keepByte byteState byteText feedState feedText unfinished endText transcript outcomeWith outcome expected
+unfolding flatMap overflowOn coreCount unasked coreGiven asks asked overflowNotOn coreFits overflowFits bit inList anyBit onlyBits typeBits anyResponse answerBits outstanding rsp1Bits rsp0Bits rising field matchBits maskBits latencyWord sinkMasks ringMasks starvedMasks bypassMasks cboxEvents eventsOf codeIn pairIn maskNotListed kindNotOn notListed tooWide outOfRange incomplete conflicting requestRows both either every firstHolding has capacity counterCount allCounters fixedCount allFixed letterOf boxCount boxOf devices named deviceOf packetsOn offcoreOn pairsJudged usableSet opens rowsWhere openingRows onDevice openingTable setupOn openedOn openedBy openedSetup setupOf openingOf freezeField rangeField lackField requestFields openingField askingField fieldsOn openingFields noFields fieldOf answerField allows numberOf answerFor wordsOf packetsOf ofAll counters countedOf countersOf first second takeCounter takeWord takePacket placeOf admit width firstFrom putFirst thenRest tryNumber planIn firstPlan hasPlan tabulate cboxGlobals cboxGlobal layoutOf rsp0At rsp1At mmCfgAt matchAt maskAt uboxAt mmEnable frzAll enAll coreSel enabledOn pmiEnable enabled eventWord offcoreCode rspMask rspWord packetWord usesOf wordAt setFrom settingsOf rows zeros unusable fixedAt fixedEnables firstGlobal lastGlobal offcoreWrites packetWrites filterWrites coreBit uboxValue boxWrites writesFor writes flat filled waits takenAfter passedAfter removed queueLimit vacant queued padded sessionOf newSession plainOf refusedBy answered openOf addOf dropOf unassigned turnAnswer turnOf turnSlice planOf outsideIds addRows dropRows turnRows turnsLimit turnsRows beforeOpen onceOpen table refusal requestsOf fits taken passed turned placesOf assign writesOf listsOf joined tabbed typed fields sameBytes lettered digitOf numberFrom decimalOf hexOf coreNumberOf coreOf longest tooLong parsedRefusal bytes tab newline hexDigit hexText decimalDigits decimalText lineOf lineFrom openFormats openAs openWith openOn openLine eventLine packetLine offcoreLine latencyLine dropLine turnLine hasVerb verbs recordOf nameByte nameBytes longestName isName rowTexts isEnded allFormed wellFormed listsFormed topRow rowNamed unlisted foreign requestFor requestNamed namedField numbersOn rowOf hasName addNamed namedLine recordWith parseTextWith answerText registerText takeLines setLines turnRoom replyAt replyOf turnReply recordReply namedReply parsedReply lineStart feedStart lineReply keepByte byteState byteText feedState feedText unfinished unclosed faultAt endText transcript outcomeWith outcome expected
 tries-hold = refl
 
 pub order-tries-hold : OrderTries
-unfolding flatMap overflowOn coreCount unasked coreGiven asks asked overflowNotOn coreFits overflowFits bit inList anyBit onlyBits typeBits anyResponse answerBits outstanding rsp1Bits rsp0Bits rising field matchBits maskBits latencyWord sinkMasks ringMasks starvedMasks bypassMasks cboxEvents eventsOf codeIn pairIn maskNotListed kindNotOn notListed tooWide outOfRange incomplete conflicting requestRows both either every firstHolding has capacity counterCount allCounters fixedCount allFixed letterOf boxCount boxOf devices named deviceOf packetsOn offcoreOn pairsJudged usableSet opens rowsWhere openingRows onDevice openingTable setupOn openedOn openedBy openedSetup setupOf openingOf allows numberOf answerFor wordsOf packetsOf ofAll counters countedOf countersOf first second takeCounter takeWord takePacket placeOf admit width firstFrom putFirst thenRest tryNumber planIn firstPlan hasPlan tabulate cboxGlobals cboxGlobal layoutOf rsp0At rsp1At mmCfgAt matchAt maskAt uboxAt mmEnable frzAll enAll coreSel enabledOn pmiEnable enabled eventWord offcoreCode rspMask rspWord packetWord usesOf wordAt setFrom settingsOf rows zeros unusable fixedAt fixedEnables firstGlobal lastGlobal offcoreWrites packetWrites filterWrites coreBit uboxValue boxWrites writesFor writes flat filled waits takenAfter passedAfter removed queueLimit vacant queued padded sessionOf newSession plainOf refusedBy answered openOf addOf dropOf unassigned turnAnswer turnOf turnSlice planOf outsideIds addRows dropRows turnRows turnsLimit turnsRows beforeOpen onceOpen table refusal requestsOf fits taken passed turned placesOf assign writesOf listsOf joined tabbed typed fields sameBytes lettered digitOf numberFrom decimalOf hexOf coreNumberOf coreOf longest tooLong parsedRefusal bytes tab newline hexDigit hexText decimalDigits decimalText lineOf lineFrom openFormats openAs openWith openOn openLine eventLine packetLine offcoreLine latencyLine dropLine turnLine hasVerb verbs recordOf nameByte nameBytes longestName isName rowTexts isEnded allFormed wellFormed listsFormed topRow rowNamed unlisted foreign requestFor requestNamed numbersOn rowOf hasName addNamed namedLine recordWith parseTextWith answerText registerText takeLines setLines turnRoom replyOf turnReply recordReply parsedReply lineStart feedStart lineReply keepByte byteState byteText feedState feedText unfinished endText transcript outcomeWith outcome expected
+unfolding flatMap overflowOn coreCount unasked coreGiven asks asked overflowNotOn coreFits overflowFits bit inList anyBit onlyBits typeBits anyResponse answerBits outstanding rsp1Bits rsp0Bits rising field matchBits maskBits latencyWord sinkMasks ringMasks starvedMasks bypassMasks cboxEvents eventsOf codeIn pairIn maskNotListed kindNotOn notListed tooWide outOfRange incomplete conflicting requestRows both either every firstHolding has capacity counterCount allCounters fixedCount allFixed letterOf boxCount boxOf devices named deviceOf packetsOn offcoreOn pairsJudged usableSet opens rowsWhere openingRows onDevice openingTable setupOn openedOn openedBy openedSetup setupOf openingOf freezeField rangeField lackField requestFields openingField askingField fieldsOn openingFields noFields fieldOf answerField allows numberOf answerFor wordsOf packetsOf ofAll counters countedOf countersOf first second takeCounter takeWord takePacket placeOf admit width firstFrom putFirst thenRest tryNumber planIn firstPlan hasPlan tabulate cboxGlobals cboxGlobal layoutOf rsp0At rsp1At mmCfgAt matchAt maskAt uboxAt mmEnable frzAll enAll coreSel enabledOn pmiEnable enabled eventWord offcoreCode rspMask rspWord packetWord usesOf wordAt setFrom settingsOf rows zeros unusable fixedAt fixedEnables firstGlobal lastGlobal offcoreWrites packetWrites filterWrites coreBit uboxValue boxWrites writesFor writes flat filled waits takenAfter passedAfter removed queueLimit vacant queued padded sessionOf newSession plainOf refusedBy answered openOf addOf dropOf unassigned turnAnswer turnOf turnSlice planOf outsideIds addRows dropRows turnRows turnsLimit turnsRows beforeOpen onceOpen table refusal requestsOf fits taken passed turned placesOf assign writesOf listsOf joined tabbed typed fields sameBytes lettered digitOf numberFrom decimalOf hexOf coreNumberOf coreOf longest tooLong parsedRefusal bytes tab newline hexDigit hexText decimalDigits decimalText lineOf lineFrom openFormats openAs openWith openOn openLine eventLine packetLine offcoreLine latencyLine dropLine turnLine hasVerb verbs recordOf nameByte nameBytes longestName isName rowTexts isEnded allFormed wellFormed listsFormed topRow rowNamed unlisted foreign requestFor requestNamed namedField numbersOn rowOf hasName addNamed namedLine recordWith parseTextWith answerText registerText takeLines setLines turnRoom replyAt replyOf turnReply recordReply namedReply parsedReply lineStart feedStart lineReply keepByte byteState byteText feedState feedText unfinished unclosed faultAt endText transcript outcomeWith outcome expected
 order-tries-hold = refl
 
 pub name-tries-hold : NameTries
-unfolding flatMap overflowOn coreCount unasked coreGiven asks asked overflowNotOn coreFits overflowFits bit inList anyBit onlyBits typeBits anyResponse answerBits outstanding rsp1Bits rsp0Bits rising field matchBits maskBits latencyWord sinkMasks ringMasks starvedMasks bypassMasks cboxEvents eventsOf codeIn pairIn maskNotListed kindNotOn notListed tooWide outOfRange incomplete conflicting requestRows both either every firstHolding has capacity counterCount allCounters fixedCount allFixed letterOf boxCount boxOf devices named deviceOf packetsOn offcoreOn pairsJudged usableSet opens rowsWhere openingRows onDevice openingTable setupOn openedOn openedBy openedSetup setupOf openingOf allows numberOf answerFor wordsOf packetsOf ofAll counters countedOf countersOf first second takeCounter takeWord takePacket placeOf admit width firstFrom putFirst thenRest tryNumber planIn firstPlan hasPlan tabulate cboxGlobals cboxGlobal layoutOf rsp0At rsp1At mmCfgAt matchAt maskAt uboxAt mmEnable frzAll enAll coreSel enabledOn pmiEnable enabled eventWord offcoreCode rspMask rspWord packetWord usesOf wordAt setFrom settingsOf rows zeros unusable fixedAt fixedEnables firstGlobal lastGlobal offcoreWrites packetWrites filterWrites coreBit uboxValue boxWrites writesFor writes flat filled waits takenAfter passedAfter removed queueLimit vacant queued padded sessionOf newSession plainOf refusedBy answered openOf addOf dropOf unassigned turnAnswer turnOf turnSlice planOf outsideIds addRows dropRows turnRows turnsLimit turnsRows beforeOpen onceOpen table refusal requestsOf fits taken passed turned placesOf assign writesOf listsOf joined tabbed typed fields sameBytes lettered digitOf numberFrom decimalOf hexOf coreNumberOf coreOf longest tooLong parsedRefusal bytes tab newline hexDigit hexText decimalDigits decimalText lineOf lineFrom openFormats openAs openWith openOn openLine eventLine packetLine offcoreLine latencyLine dropLine turnLine hasVerb verbs recordOf nameByte nameBytes longestName isName rowTexts isEnded allFormed wellFormed listsFormed topRow rowNamed unlisted foreign requestFor requestNamed numbersOn rowOf hasName addNamed namedLine recordWith parseTextWith answerText registerText takeLines setLines turnRoom replyOf turnReply recordReply parsedReply lineStart feedStart lineReply keepByte byteState byteText feedState feedText unfinished endText transcript outcomeWith expected
+unfolding flatMap overflowOn coreCount unasked coreGiven asks asked overflowNotOn coreFits overflowFits bit inList anyBit onlyBits typeBits anyResponse answerBits outstanding rsp1Bits rsp0Bits rising field matchBits maskBits latencyWord sinkMasks ringMasks starvedMasks bypassMasks cboxEvents eventsOf codeIn pairIn maskNotListed kindNotOn notListed tooWide outOfRange incomplete conflicting requestRows both either every firstHolding has capacity counterCount allCounters fixedCount allFixed letterOf boxCount boxOf devices named deviceOf packetsOn offcoreOn pairsJudged usableSet opens rowsWhere openingRows onDevice openingTable setupOn openedOn openedBy openedSetup setupOf openingOf freezeField rangeField lackField requestFields openingField askingField fieldsOn openingFields noFields fieldOf answerField allows numberOf answerFor wordsOf packetsOf ofAll counters countedOf countersOf first second takeCounter takeWord takePacket placeOf admit width firstFrom putFirst thenRest tryNumber planIn firstPlan hasPlan tabulate cboxGlobals cboxGlobal layoutOf rsp0At rsp1At mmCfgAt matchAt maskAt uboxAt mmEnable frzAll enAll coreSel enabledOn pmiEnable enabled eventWord offcoreCode rspMask rspWord packetWord usesOf wordAt setFrom settingsOf rows zeros unusable fixedAt fixedEnables firstGlobal lastGlobal offcoreWrites packetWrites filterWrites coreBit uboxValue boxWrites writesFor writes flat filled waits takenAfter passedAfter removed queueLimit vacant queued padded sessionOf newSession plainOf refusedBy answered openOf addOf dropOf unassigned turnAnswer turnOf turnSlice planOf outsideIds addRows dropRows turnRows turnsLimit turnsRows beforeOpen onceOpen table refusal requestsOf fits taken passed turned placesOf assign writesOf listsOf joined tabbed typed fields sameBytes lettered digitOf numberFrom decimalOf hexOf coreNumberOf coreOf longest tooLong parsedRefusal bytes tab newline hexDigit hexText decimalDigits decimalText lineOf lineFrom openFormats openAs openWith openOn openLine eventLine packetLine offcoreLine latencyLine dropLine turnLine hasVerb verbs recordOf nameByte nameBytes longestName isName rowTexts isEnded allFormed wellFormed listsFormed topRow rowNamed unlisted foreign requestFor requestNamed namedField numbersOn rowOf hasName addNamed namedLine recordWith parseTextWith answerText registerText takeLines setLines turnRoom replyAt replyOf turnReply recordReply namedReply parsedReply lineStart feedStart lineReply keepByte byteState byteText feedState feedText unfinished unclosed faultAt endText transcript outcomeWith expected
 name-tries-hold = refl

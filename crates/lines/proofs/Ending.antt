@@ -1,26 +1,25 @@
--- The reply to the end of the input: a line that has begun is answered as one that is too long, and otherwise there is nothing.
+-- The reply to the end of the input: a line that has begun is answered as one that is closed and too long, which has the same field at fault, and
+-- otherwise there is nothing.
 use mathlib.Core.Bool.{true, false}
 use mathlib.Core.List.{List, [], _∷_}
 use mathlib.Core.Path.{_≡_, refl, _∙_}
-use Prim.Native.Nat.{ℕ}
+use Prim.Native.Nat.{ℕ, _≤_}
 use native.Mathlib.Omega.{arith}
 use lib.ListN.{length, take, replicate, length-replicate}
-use Rattle.requests.specs.Refusals.{numberOf, answerFor}
+use Rattle.requests.specs.Choice.{both}
+use Rattle.requests.specs.Refusals.{answerFor}
 use Rattle.requests.specs.declared.Refusal.the-variants.{NotInGrammar}
 use Rattle.requests.specs.declared.Answer.the-variants.{Refused}
-use Rattle.sessions.specs.declared.Session.{Session}
-use Rattle.records.specs.Fields.{fields}
-use Rattle.requests.specs.declared.Device.{Device}
-use Rattle.records.specs.Parse.{tooLong, parsedRefusal}
-use Rattle.parser.specs.ParseWith.{recordWith, parseTextWith}
-use Rattle.records.specs.Text.{bytes, tab, newline, decimalDigits, decimalText, lineOf}
-use Rattle.records.specs.declared.Parsed.{Parsed}
-use Rattle.records.specs.declared.Parsed.the-variants.{Line, Fault}
+use Rattle.records.specs.Parse.{parsedRefusal}
+use Rattle.records.specs.Text.{newline}
+use Rattle.names.specs.Lists.{NameLists, rowTexts, isEnded, allFormed, wellFormed, listsFormed}
+use Rattle.parser.proofs.LongLines.{long-lines, as-too-long}
 use Rattle.answers.specs.Replies.{Reply, answerText, parsedReply}
 use Rattle.answers.specs.Written.{replyRoom, inArray, atStart}
-use Rattle.names.specs.Lists.{NameLists}
+use Rattle.answers.proofs.Lengths.{answer-length}
+use Rattle.answers.proofs.Delivering.{drop-zeros}
 use Rattle.lines.specs.Blocks.{takenOf, takenFrom, fedOf, fedOut}
-use Rattle.lines.specs.Stream.{lineStart, lineReply, unfinished, endText, endReply}
+use Rattle.lines.specs.Stream.{lineStart, lineReply, unfinished, noNames, unclosed, faultAt, endText, endReply}
 use Rattle.lines.specs.declared.Feed.{Feed}
 use Rattle.lines.specs.declared.Fed.{Fed}
 use Rattle.lines.proofs.LineByLine.{newline-state, newline-text}
@@ -29,15 +28,6 @@ use Rattle.lines.proofs.Taking.{taken-newline}
 -- the state where the line is longer than what is kept of it
 abbrev pub longer : Feed → Feed
 longer f = record { session = f .session; kept = f .kept; used = f .used; long = true }
-
--- a line that is too long is not in the grammar
-long-fault : (n : NameLists) (d : Device) (s : Session) (t : List ℕ) → _≡_ {A = Reply} (parsedReply s (parseTextWith n d t true true)) (record { text = answerText (Refused NotInGrammar); session = s })
-unfolding parseTextWith parsedReply parsedRefusal answerFor tooLong
-long-fault n d s t = go (recordWith n d t true)
-  where
-    go : (p : Parsed) → _≡_ {A = Reply} (parsedReply s (tooLong p (length (fields t)))) (record { text = answerText (Refused NotInGrammar); session = s })
-    go (Line r) = refl
-    go (Fault k) = refl
 
 -- the array that the reply goes into
 abbrev zeros : List ℕ
@@ -48,28 +38,42 @@ newline-taken : (n : NameLists) (f : Feed) → takenOf n (length zeros) f (newli
 unfolding takenOf
 newline-taken n f = taken-newline n (length zeros) f [] (omega (arith, length-replicate {A = ℕ} replyRoom 0))
 
-module _ (n : NameLists) (f : Feed) where
-  -- the line as one that is too long: its reply ..
-  longer-reply : _≡_ {A = Reply} (lineReply n (longer f)) (record { text = answerText (Refused NotInGrammar); session = f .session })
-  unfolding lineReply
-  longer-reply = long-fault n (f .session .setup .device) (f .session) (take (f .used) (f .kept))
+-- no list is a well-formed one
+none-formed : listsFormed noNames ≡ true
+unfolding listsFormed wellFormed isEnded rowTexts allFormed both
+none-formed = refl
+
+module _ (f : Feed) where
+  -- the text at the end
+  abbrev last : List ℕ
+  last = answerText (Refused NotInGrammar) (faultAt (unclosed f))
+
+  -- the line as one that is closed and too long: its reply ..
+  longer-reply : _≡_ {A = Reply} (lineReply noNames (longer f)) (record { text = last; session = f .session })
+  unfolding lineReply unclosed faultAt parsedReply parsedRefusal answerFor
+  longer-reply =
+      let t = take (f .used) (f .kept) in
+      let d = f .session .setup .device in
+      let (k, at-fault) = long-lines .unclosed t (f .long) in
+      rw (as-too-long noNames d none-formed t (f .long), at-fault noNames d)
 
   -- .. and what a newline leaves of it
-  longer-fed : fedOf n (longer f) (newline ∷ []) (length zeros)
-      ≡ record { feed = lineStart (f .session); taken = 1; written = length (answerText (Refused NotInGrammar)) }
+  longer-fed : fedOf noNames (longer f) (newline ∷ []) (length zeros) ≡ record { feed = lineStart (f .session); taken = 1; written = length last }
   unfolding fedOf takenFrom
-  longer-fed = rw (newline-taken n (longer f), newline-state n (longer f), newline-text n (longer f), longer-reply)
+  longer-fed = rw (newline-taken noNames (longer f), newline-state noNames (longer f), newline-text noNames (longer f), longer-reply)
 
-  longer-out : fedOut n (longer f) (newline ∷ []) zeros ≡ atStart (answerText (Refused NotInGrammar)) zeros
+  longer-out : fedOut noNames (longer f) (newline ∷ []) zeros ≡ atStart last zeros
   unfolding fedOut takenFrom
-  longer-out = rw (newline-taken n (longer f), newline-text n (longer f), longer-reply)
+  longer-out = rw (newline-taken noNames (longer f), newline-text noNames (longer f), longer-reply)
 
   -- the reply to the end where a line has begun
   pub ended-begun : unfinished f ≡ true → {fed : Fed} {text : List ℕ}
-      → fed ≡ fedOf n (longer f) (newline ∷ []) (length zeros) → text ≡ fedOut n (longer f) (newline ∷ []) zeros
+      → fed ≡ fedOf noNames (longer f) (newline ∷ []) (length zeros) → text ≡ fedOut noNames (longer f) (newline ∷ []) zeros
       → record { text = text; length = fed .written; session = fed .feed .session } ≡ inArray (endReply f)
-  unfolding inArray atStart endReply endText lineStart answerText lineOf bytes decimalText decimalDigits numberOf tab newline replyRoom
-  ended-begun e a b = rw (a ∙ longer-fed, b ∙ longer-out, e, endText)
+  unfolding inArray atStart endReply endText lineStart replyRoom
+  ended-begun e a b =
+      let short : length last ≤ replyRoom = omega (arith, answer-length (Refused NotInGrammar) (faultAt (unclosed f))) in
+      rw (a ∙ longer-fed, b ∙ longer-out, e, endText, drop-zeros (length last) replyRoom short)
 
 -- and where none has
 pub ended-none : (f : Feed) → unfinished f ≡ false → inArray (endReply f) ≡ record { text = zeros; length = 0; session = f .session }

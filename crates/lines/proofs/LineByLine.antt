@@ -1,16 +1,16 @@
 -- The stream answers each line as `answerLine` does: the bytes that it keeps of a line are those that are read of a line.
 --     line-reply     the reply to bytes without a newline, once they are closed by one
-use mathlib.Core.Path.{_≡_, refl, ap, sym, _∙_}
+use mathlib.Core.Path.{_≡_, refl, ap, sym, subst, _∙_}
 use mathlib.Core.Logic.{_≢_}
-use mathlib.Core.Bool.{true}
-use mathlib.Core.List.{List, [], _∷_, _++_, append-nil}
+use mathlib.Core.Bool.{true, false}
+use mathlib.Core.List.{List, [], _∷_, _++_, append-nil, List·Memᴰ, List·Memᴰ·head, List·Memᴰ·tail}
 use Prim.Native.Nat.{ℕ, _+_, _-_, _≤_, _<_}
 use native.Mathlib.Omega.{arith}
-use native.Mathlib.Nat.{zero-add}
+use native.Mathlib.Nat.{zero-add, le-refl}
 use lib.Dec.{ltb}
-use lib.ListN.{length, take, drop, replicate, length-append, length-take, length-replicate}
-use lib.Seq.{take-at, getD-at, sets, sets-eq}
-use borrow.Author.Tests.{lt-ltb, eq-eqb}
+use lib.ListN.{length, getD, take, drop, replicate, length-append, length-take, length-replicate}
+use lib.Seq.{take-all, take-at, getD-at, sets, sets-eq}
+use borrow.Author.Tests.{lt-ltb, eq-eqb, ne-eqb}
 use Rattle.requests.specs.declared.Refusal.the-variants.{NotInGrammar}
 use Rattle.requests.specs.declared.Answer.the-variants.{Refused}
 use Rattle.requests.specs.declared.Device.{Device}
@@ -19,10 +19,12 @@ use Rattle.requests.proofs.Tests.{either-true}
 use Rattle.sessions.specs.declared.Session.{Session}
 use Rattle.records.specs.Text.{newline}
 use Rattle.records.specs.Parse.{longest, isClosed, textLength}
+use Rattle.records.specs.declared.Parsed.{Parsed}
 use Rattle.parser.specs.ParseWith.{parseTextWith, parseLineWith}
+use Rattle.parser.proofs.LongLines.{long-lines}
 use Rattle.answers.specs.Replies.{Reply, answerText, parsedReply, answerLine}
 use Rattle.names.specs.Lists.{NameLists}
-use Rattle.lines.specs.Stream.{lineStart, lineReply, byteState, byteText, feedState, feedText, unfinished, endText}
+use Rattle.lines.specs.Stream.{lineStart, lineReply, byteState, byteText, feedState, feedText, unfinished, noNames, unclosed, faultAt, endText}
 use Rattle.lines.specs.Pieces.{NewlineFree}
 use Rattle.lines.specs.LineByLine.{LineByLine}
 use Rattle.lines.specs.declared.Feed.{Feed}
@@ -83,6 +85,31 @@ module _ (text : List ℕ) where
   unfolding parseLineWith
   parsed n d = rw (closed, text-length, take-at text (newline ∷ []) (length text) refl)
 
+-- the last of bytes is one of them
+last-member : (b : ℕ) (bs : List ℕ) → List·Memᴰ (getD (b ∷ bs) (length bs) 0) (b ∷ bs)
+last-member b [] = List·Memᴰ·head refl
+last-member b (c ∷ cs) = List·Memᴰ·tail (last-member c cs)
+
+-- bytes without a newline are not closed
+not-closed : (text : List ℕ) → NewlineFree text → isClosed text ≡ false
+unfolding isClosed newline
+not-closed [] free = refl
+not-closed (b ∷ bs) free =
+    let size : length (b ∷ bs) - 1 ≡ length bs = omega arith in
+    ne-eqb _ newline (λ e. free (subst (λ (n : ℕ). List·Memᴰ n (b ∷ bs)) (ap (λ (k : ℕ). getD (b ∷ bs) k 0) (sym size) ∙ e) (last-member b bs)))
+
+open-parsed : (text : List ℕ) → NewlineFree text → (n : NameLists) (d : Device)
+    → parseLineWith n d text ≡ parseTextWith n d (take longest text) false (ltb longest (length text))
+unfolding parseLineWith textLength
+open-parsed text free n d = rw (not-closed text free, take-all (length text) text (le-refl (length text)))
+
+-- its field is the same whatever the lists and the device
+open-fault : (text : List ℕ) → NewlineFree text → (n m : NameLists) (d e : Device)
+    → parseTextWith n d (take longest text) false (ltb longest (length text)) ≡ parseLineWith m e text
+open-fault text free n m d e =
+    let (k, f) = long-lines .unclosed (take longest text) (ltb longest (length text)) in
+    f n d ∙ sym (open-parsed text free m e ∙ f m e)
+
 -- ---- the line
 
 module _ (n : NameLists) where
@@ -125,10 +152,15 @@ module _ (n : NameLists) (s : Session) (text : List ℕ) (free : NewlineFree tex
   unfolding afterRun lineStart longest
   begun some = omega (arith, some-length text some, length-take 80 text)
 
-  ended : text ≢ [] → endText (feedState n (lineStart s) text) ≡ answerText (Refused NotInGrammar)
+  kept-open : unclosed (afterRun (lineStart s) text) ≡ parseTextWith noNames (s .setup .device) (take longest text) false (ltb longest (length text))
+  unfolding unclosed
+  kept-open = rw (kept-session s text, kept-front s text, kept-long s text)
+
+  ended : text ≢ [] → (m : NameLists) (d : Device) → endText (feedState n (lineStart s) text) ≡ answerText (Refused NotInGrammar) (faultAt (parseLineWith m d text))
   unfolding endText unfinished
-  ended some =
+  ended some m d =
       rw (kept-run n (lineStart s) text free, lt-ltb 0 (afterRun (lineStart s) text .used) (begun some), either-true (afterRun (lineStart s) text .long))
+      (ap (λ (p : Parsed). answerText (Refused NotInGrammar) (faultAt p)) (kept-open ∙ open-fault text free noNames m (s .setup .device) d))
 
 pub line-by-line : LineByLine
 line-by-line n s text free =

@@ -8,6 +8,7 @@ use native.Mathlib.Omega.{arith}
 use lib.Dec.{eqb}
 use borrow.Author.Tests.{eqb-true, eqb-false}
 use Rattle.plans.specs.Lists.{All, nil, cons}
+use Rattle.requests.specs.declared.Device.the-variants.{G}
 use Rattle.sessions.specs.declared.Session.{Session}
 use Rattle.sessions.specs.Sessions.{newSession}
 use Rattle.records.specs.Text.{newline}
@@ -15,7 +16,7 @@ use Rattle.answers.specs.Replies.{answerLine}
 use Rattle.answers.specs.LineLists.{sessionBy}
 use Rattle.answers.proofs.LineLists.{session-by}
 use Rattle.names.specs.Lists.{NameLists}
-use Rattle.lines.specs.Stream.{lineStart, feedStart, feedState, feedText, endText, transcript}
+use Rattle.lines.specs.Stream.{lineStart, feedStart, feedState, feedText, noNames, endText, transcript}
 use Rattle.lines.specs.Pieces.{NewlineFree}
 use Rattle.lines.specs.Transcript.{closed, repliesTo, atEnd, callsOf, Transcript}
 use Rattle.lines.specs.declared.Feed.{Feed}
@@ -94,7 +95,7 @@ module _ (n : NameLists) where
   rest-output s (b ∷ bs) free =
       let line = line-by-line n s (b ∷ bs) free in
       let some : (b ∷ bs) ≢ [] = λ e. let z : _≡_ {A = ℕ} 0 1 = cc in absurd (omega arith) in
-      rw (line .silent) (line .ended some)
+      rw (line .silent) (line .ended some noNames G)
 
   module _ (s : Session) (text : List ℕ) (free : NewlineFree text) (input : List ℕ) where
     -- the output of a line before more input

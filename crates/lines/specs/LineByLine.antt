@@ -7,10 +7,12 @@ use Rattle.requests.specs.declared.Refusal.the-variants.{NotInGrammar}
 use Rattle.requests.specs.declared.Answer.the-variants.{Refused}
 use Rattle.sessions.specs.declared.Session.{Session}
 use Rattle.records.specs.Text.{newline}
+use Rattle.requests.specs.declared.Device.{Device}
 use Rattle.names.specs.Lists.{NameLists}
+use Rattle.parser.specs.ParseWith.{parseLineWith}
 use Rattle.answers.specs.Replies.{answerText, answerLine}
 use Rattle.lines.specs.Pieces.{NewlineFree}
-use Rattle.lines.specs.Stream.{lineStart, feedState, feedText, endText}
+use Rattle.lines.specs.Stream.{lineStart, feedState, feedText, faultAt, endText}
 
 -- bytes without a newline, from the beginning of a line
 pub record LineAnswered (n : NameLists) (s : Session) (text : List ℕ) : Type 0 where
@@ -20,8 +22,9 @@ pub record LineAnswered (n : NameLists) (s : Session) (text : List ℕ) : Type 0
   pub next : feedState n (lineStart s) (text ++ newline ∷ []) ≡ lineStart (answerLine n s (text ++ newline ∷ []) .session)
   -- before the newline nothing is answered
   pub silent : feedText n (lineStart s) text ≡ []
-  -- where the input ends without it, they are answered 1, unless there are none
-  pub ended : text ≢ [] → endText (feedState n (lineStart s) text) ≡ answerText (Refused NotInGrammar)
+  -- where the input ends without it, they are answered 1, at the field where they break the grammar as a line without its newline, whatever the
+  -- lists and the device, unless there are none
+  pub ended : text ≢ [] → (m : NameLists) (d : Device) → endText (feedState n (lineStart s) text) ≡ answerText (Refused NotInGrammar) (faultAt (parseLineWith m d text))
   pub empty : endText (lineStart s) ≡ []
 
 abbrev pub LineByLine : Type 0

@@ -60,20 +60,20 @@ nameTries =
     ∷ "named 3 cycles 15"
     ∷ "named 3  15"
     ∷ [])
-    ("ok" ∷ "ok" ∷ "ok" ∷ "no 7" ∷ "no 8" ∷ "no 8" ∷ "no 8" ∷ "no 4" ∷ "no 5" ∷ "no 4" ∷ "no 5" ∷ "no 10" ∷ "no 12" ∷ "no 1" ∷ "no 1" ∷ [])
+    ("ok" ∷ "ok" ∷ "ok" ∷ "no 7 0" ∷ "no 8 2" ∷ "no 8 2" ∷ "no 8 2" ∷ "no 4 1" ∷ "no 5 1" ∷ "no 4 1" ∷ "no 5 1" ∷ "no 10 3" ∷ "no 12 0" ∷ "no 1 2" ∷ "no 1 2" ∷ [])
     (1 ∷ 2 ∷ [])
     -- the site's topmost row decides on S, and a row of the letter C serves every C-Box
-    ∷ with-lists good ("open S 15 0 0 -" ∷ "named 1 CYCLES 15" ∷ []) ("ok" ∷ "no 7" ∷ []) []
-    ∷ with-lists good ("open C 63 0 7 0 -" ∷ "named 1 STARVE 63" ∷ "named 2 CYCLES 63" ∷ []) ("ok" ∷ "ok" ∷ "no 7" ∷ []) (1 ∷ [])
+    ∷ with-lists good ("open S 15 0 0 -" ∷ "named 1 CYCLES 15" ∷ []) ("ok" ∷ "no 7 0" ∷ []) []
+    ∷ with-lists good ("open C 63 0 7 0 -" ∷ "named 1 STARVE 63" ∷ "named 2 CYCLES 63" ∷ []) ("ok" ∷ "ok" ∷ "no 7 0" ∷ []) (1 ∷ [])
     -- before open 2, with a damaged list 1 before that, and other verbs do not look
-    ∷ with-lists good ("named 1 CYCLES 15" ∷ "named 0 NOSUCH 99" ∷ []) ("no 2" ∷ "no 2" ∷ []) []
+    ∷ with-lists good ("named 1 CYCLES 15" ∷ "named 0 NOSUCH 99" ∷ []) ("no 2 0" ∷ "no 2 0" ∷ []) []
     ∷ with-lists unended
     ("named 1 CYCLES 15" ∷ "open G 15 0 0 -" ∷ "named 1 CYCLES 15" ∷ "event 1 3C 00 15" ∷ [])
-    ("no 1" ∷ "ok" ∷ "no 1" ∷ "ok" ∷ [])
+    ("no 1 0" ∷ "ok" ∷ "no 1 0" ∷ "ok" ∷ [])
     (1 ∷ [])
     ∷ with-lists no-row
     ("named 0 CYCLES 99" ∷ "open G 15 0 0 -" ∷ "named 1 INSTR 15" ∷ "named 1 CYCLES 15" ∷ "event 1 3C 00 15" ∷ [])
-    ("no 1" ∷ "ok" ∷ "no 1" ∷ "no 1" ∷ "ok" ∷ [])
+    ("no 1 0" ∷ "ok" ∷ "no 1 0" ∷ "no 1 0" ∷ "ok" ∷ [])
     (1 ∷ [])
     -- "all later refusals included": 9 and 10 for the row's mask, 13 for a full queue, where 7 and 8 still come first
     ∷ with-lists masks
@@ -102,9 +102,9 @@ nameTries =
     ∷ "named 17 NOSUCH 15"
     ∷ [])
     ("ok"
-    ∷ "no 9"
-    ∷ "no 10"
-    ∷ "no 10"
+    ∷ "no 9 2"
+    ∷ "no 10 2"
+    ∷ "no 10 3"
     ∷ "ok"
     ∷ "ok"
     ∷ "ok"
@@ -121,9 +121,9 @@ nameTries =
     ∷ "ok"
     ∷ "ok"
     ∷ "ok"
-    ∷ "no 13"
-    ∷ "no 7"
-    ∷ "no 8"
+    ∷ "no 13 0"
+    ∷ "no 7 0"
+    ∷ "no 8 2"
     ∷ [])
     (1 ∷ 2 ∷ 3 ∷ 4 ∷ 5 ∷ 6 ∷ 7 ∷ 8 ∷ 9 ∷ 10 ∷ 11 ∷ 12 ∷ 13 ∷ 14 ∷ 15 ∷ 16 ∷ [])
     -- a turn writes what the event in numbers would

@@ -20,13 +20,13 @@ orderTries =
           "event 1 C0 00 15" ∷
           "turn" ∷ [];
       output =
-          "no 1" ∷
-          "no 1" ∷
-          "no 3" ∷
-          "no 3" ∷
-          "no 3" ∷
-          "no 3" ∷
-          "no 3" ∷
+          "no 1 4" ∷
+          "no 1 3" ∷
+          "no 3 3" ∷
+          "no 3 3" ∷
+          "no 3 2" ∷
+          "no 3 2" ∷
+          "no 3 3" ∷
           "ok" ∷
           "ok" ∷
           "take 1 1 -" ∷
@@ -101,21 +101,21 @@ orderTries =
           "event 3 23 00 0" ∷
           "packet 3 0000000000000000 0000000000000000 63" ∷ [];
       output =
-          "no 1" ∷
-          "no 1" ∷
-          "no 3" ∷
-          "no 3" ∷
-          "no 3" ∷
-          "no 3" ∷
+          "no 1 5" ∷
+          "no 1 6" ∷
+          "no 3 4" ∷
+          "no 3 2" ∷
+          "no 3 3" ∷
+          "no 3 2" ∷
           "ok" ∷
           "ok" ∷
-          "no 10" ∷
-          "no 9" ∷
-          "no 10" ∷
-          "no 10" ∷
-          "no 8" ∷
-          "no 12" ∷
-          "no 7" ∷ [];
+          "no 10 3" ∷
+          "no 9 3" ∷
+          "no 10 3" ∷
+          "no 10 4" ∷
+          "no 8 2" ∷
+          "no 12 0" ∷
+          "no 7 0" ∷ [];
       waiting = 1 ∷ [];
     } ∷
     -- Order 7. Freeze and core, and the base's list where neither is asked: 1, then 3, then 7 on G and 10 on S and C.
@@ -138,21 +138,21 @@ orderTries =
           "open S 15 0 2 -" ∷
           "turn" ∷ [];
       output =
-          "no 1" ∷
-          "no 1" ∷
-          "no 1" ∷
-          "no 1" ∷
-          "no 3" ∷
-          "no 3" ∷
-          "no 7" ∷
-          "no 7" ∷
-          "no 7" ∷
-          "no 7" ∷
-          "no 10" ∷
-          "no 10" ∷
-          "no 10" ∷
+          "no 1 4" ∷
+          "no 1 5" ∷
+          "no 1 4" ∷
+          "no 1 5" ∷
+          "no 3 2" ∷
+          "no 3 2" ∷
+          "no 7 0" ∷
+          "no 7 0" ∷
+          "no 7 0" ∷
+          "no 7 0" ∷
+          "no 10 4" ∷
+          "no 10 5" ∷
+          "no 10 6" ∷
           "ok" ∷
-          "no 2" ∷
+          "no 2 0" ∷
           "set 0C40 0000000000000000" ∷
           "set 0C50 0000000000000000" ∷
           "set 0C52 0000000000000000" ∷
@@ -195,6 +195,84 @@ orderTries =
           "set 0D00 000000000000003E" ∷
           "set 0C00 0000000010000100" ∷
           "ok" ∷ [];
+      waiting = [];
+    } ∷
+    -- Order 11. The field at fault behind the number, "counted from 0 at the verb".
+    record {
+      input =
+          "evnt 1" ∷
+          "" ∷
+          "event 1 C0" ∷
+          "event 01 C0 00 1" ∷
+          "event 1 c0 00 1 9" ∷
+          "turn 5" ∷
+          "drop 5 6" ∷
+          "drop" ∷
+          "open G 15 0 0" ∷
+          "open X 15 0 0 -" ∷
+          "turn" ∷
+          "open G 16 8 0 -" ∷
+          "open G 15 8 0 -" ∷
+          "open C 63 0 8 0 -" ∷
+          "open C 63 0 7 2 9" ∷
+          "open C 63 0 7 1 9" ∷
+          "open S 15 0 0 9" ∷
+          "open G 15 0 1 -" ∷
+          "open G 15 0 0 -" ∷
+          "event 0 C0 00 1" ∷
+          "event 2 C0 05 15" ∷
+          "event 2 C0 00 16" ∷
+          "offcore 2 0000000000010040 16" ∷
+          "offcore 2 0000000000000001 15" ∷
+          "offcore 2 0000000200010001 15" ∷
+          "latency 2 0040 16 16" ∷
+          "latency 2 0001 15 16" ∷
+          "latency 2 0000 15 15" ∷
+          "latency 2 0001 4 4" ∷
+          "drop 9" ∷ [];
+      output =
+          "no 1 0" ∷
+          "no 1 0" ∷
+          "no 1 3" ∷
+          "no 1 1" ∷
+          "no 1 2" ∷
+          "no 1 1" ∷
+          "no 1 2" ∷
+          "no 1 1" ∷
+          "no 1 5" ∷
+          "no 1 1" ∷
+          "no 2 0" ∷
+          "no 3 2" ∷
+          "no 3 3" ∷
+          "no 3 4" ∷
+          "no 10 5" ∷
+          "no 10 6" ∷
+          "no 10 5" ∷
+          "no 7 0" ∷
+          "ok" ∷
+          "no 4 1" ∷
+          "no 8 2" ∷
+          "no 10 4" ∷
+          "no 10 2" ∷
+          "no 9 2" ∷
+          "no 11 2" ∷
+          "no 10 2" ∷
+          "no 10 4" ∷
+          "no 9 2" ∷
+          "no 12 0" ∷
+          "no 6 1" ∷ [];
+      waiting = [];
+    } ∷
+    -- Order 11. "The leftmost" of two fields under 10, on S.
+    record {
+      input =
+          "open S 15 0 0 -" ∷
+          "event 2 51 04 16" ∷
+          "event 2 51 00 15" ∷ [];
+      output =
+          "ok" ∷
+          "no 10 3" ∷
+          "no 9 3" ∷ [];
       waiting = [];
     } ∷ []
 

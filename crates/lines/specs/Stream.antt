@@ -11,6 +11,8 @@ use Rattle.sessions.specs.declared.Session.{Session}
 use Rattle.sessions.specs.Sessions.{newSession}
 use Rattle.records.specs.Text.{newline}
 use Rattle.records.specs.Parse.{longest}
+use Rattle.records.specs.declared.Parsed.{Parsed}
+use Rattle.records.specs.declared.Parsed.the-variants.{Line, Named, Fault}
 use Rattle.names.specs.Lists.{NameLists}
 use Rattle.parser.specs.ParseWith.{parseTextWith}
 use Rattle.answers.specs.Replies.{Reply, answerText, parsedReply}
@@ -58,9 +60,24 @@ feedText n f (b ∷ bs) = byteText n f b ++ feedText n (byteState n f b) bs
 unfoldable pub unfinished : Feed → Bool
 unfinished f = either (f .long) (ltb 0 (f .used))
 
--- at the end of the input a line without its newline is not in the grammar
+-- no names: such a line does not look at the lists
+abbrev pub noNames : NameLists
+noNames = record { site = []; house = [] }
+
+-- what the kept bytes are as a line without its newline
+unfoldable pub unclosed : Feed → Parsed
+unclosed f = parseTextWith noNames (f .session .setup .device) (take (f .used) (f .kept)) false (f .long)
+
+-- the field of a line that is not in the grammar
+unfoldable pub faultAt : Parsed → ℕ
+faultAt (Line r) = 0
+faultAt (Named id r) = 0
+faultAt (Fault k) = k
+
+-- at the end of the input a line without its newline is not in the grammar; "the number of fields where the record stops too soon or the newline is
+-- missing"
 unfoldable pub endText : Feed → List ℕ
-endText f = pick (unfinished f) (answerText (Refused NotInGrammar)) []
+endText f = pick (unfinished f) (answerText (Refused NotInGrammar) (faultAt (unclosed f))) []
 
 -- the reply to the end of the input
 unfoldable pub endReply : Feed → Reply

@@ -10,11 +10,13 @@ use Rattle.sessions.specs.declared.Session.{Session}
 use Rattle.sessions.specs.Calls.{Call}
 use Rattle.sessions.specs.Sessions.{newSession, sessionAfter}
 use Rattle.records.specs.Text.{newline}
+use Rattle.requests.specs.declared.Device.the-variants.{G}
 use Rattle.names.specs.Lists.{NameLists}
+use Rattle.parser.specs.ParseWith.{parseLineWith}
 use Rattle.answers.specs.Replies.{answerText, answerLine}
 use Rattle.answers.specs.LineLists.{callsBy}
 use Rattle.lines.specs.Pieces.{NewlineFree}
-use Rattle.lines.specs.Stream.{feedStart, feedState, transcript}
+use Rattle.lines.specs.Stream.{noNames, faultAt, feedStart, feedState, transcript}
 
 -- a text closed by its newline
 abbrev pub closed : List ℕ → List ℕ
@@ -25,10 +27,11 @@ unfoldable pub repliesTo : NameLists → Session → List (List ℕ) → List �
 repliesTo n s [] = []
 repliesTo n s (text ∷ texts) = answerLine n s (closed text) .text ++ repliesTo n (answerLine n s (closed text) .session) texts
 
--- at the end: a line without its newline is answered 1, and no line is not
+-- at the end: a line without its newline is answered 1 at the field where it breaks the grammar, which hangs on no list and no device; no line is
+-- not answered
 unfoldable pub atEnd : List ℕ → List ℕ
 atEnd [] = []
-atEnd (b ∷ bs) = answerText (Refused NotInGrammar)
+atEnd (b ∷ bs) = answerText (Refused NotInGrammar) (faultAt (parseLineWith noNames G (b ∷ bs)))
 
 -- the calls of lines
 abbrev pub callsOf : NameLists → List (List ℕ) → List Call

@@ -185,7 +185,7 @@ tries =
       input = "open G 15 0 0 -" ∷ "latency 1 0001 4 4" ∷ "latency 1 0001 4 8" ∷ [];
       output =
           "ok" ∷
-          "no 12" ∷
+          "no 12 0" ∷
           "ok" ∷ [];
       waiting = 1 ∷ [];
     } ∷
@@ -194,9 +194,9 @@ tries =
       input = "open G 15 0 0 -" ∷ "offcore 1 0000000000010040 15" ∷ "offcore 1 0000000000000001 15" ∷ "offcore 1 0000000200010001 15" ∷ [];
       output =
           "ok" ∷
-          "no 10" ∷
-          "no 9" ∷
-          "no 11" ∷ [];
+          "no 10 2" ∷
+          "no 9 2" ∷
+          "no 11 2" ∷ [];
       waiting = [];
     } ∷
     -- I. S 51/0: 9; 51/3: 400351; 51/4: 10.
@@ -204,9 +204,9 @@ tries =
       input = "open S 15 0 0 -" ∷ "event 1 51 00 15" ∷ "event 1 51 03 15" ∷ "event 2 51 04 15" ∷ "turn" ∷ [];
       output =
           "ok" ∷
-          "no 9" ∷
+          "no 9 3" ∷
           "ok" ∷
-          "no 10" ∷
+          "no 10 3" ∷
           "take 1 0 -" ∷
           "set 0C40 0000000000000000" ∷
           "set 0C50 0000000000000000" ∷

@@ -31,7 +31,7 @@ unfolding newline replyRoom unfinished
 returns c =
     let fed = c .before .before .before .feed in
     let tested = c .before .before .before .before .before .before .before .before in
-    ended-begun _ (tested .before .before .args .state) (sym (tested .before .begun .ensures) ∙ tested .if1 .taken) (fed .ensures .0) (fed .ensures .1)
+    ended-begun (tested .before .before .args .state) (sym (tested .before .begun .ensures) ∙ tested .if1 .taken) (fed .ensures .0) (fed .ensures .1)
 
 returns-2 : tie.Need-returns-2
 unfolding replyRoom unfinished
