@@ -2,14 +2,13 @@
 -- queue, and the rules of the records. Assumes nothing.
 use mathlib.Core.Path.{_≡_, refl, ap, sym, subst, _∙_}
 use mathlib.Core.Bool.{Bool, true, false, not}
-use mathlib.Core.List.{List, [], _∷_}
+use mathlib.Core.List.{List}
 use mathlib.Core.Option.{some, Option·some-injective}
 use mathlib.Mathlib.Data.Bool.Basic.{eq-false-of-not-eq-true}
 use Prim.Native.Nat.{ℕ, _<_}
 use native.Mathlib.Omega.{arith}
 use lib.ListN.{length}
 use borrow.Author.Tests.{not-true, not-false}
-use Rattle.requests.specs.declared.Device.{Device}
 use Rattle.requests.specs.declared.Opening.{Opening}
 use Rattle.requests.specs.declared.Entry.{Entry}
 use Rattle.requests.specs.declared.Refusal.{Refusal}
@@ -20,12 +19,12 @@ use Rattle.requests.specs.Choice.{pick}
 use Rattle.requests.specs.Faults.{at, refusalIn, openingFields, requestFields, turnsFields, noFields, fieldOf, withField}
 use Rattle.requests.proofs.Tests.{both-ways}
 use Rattle.requests.proofs.FaultRows.{field-dropped}
-use Rattle.sessions.specs.Calls.{Call, Open, Add, Drop, Turn, Turns, Plain, notOpen, opened}
+use Rattle.sessions.specs.Calls.{Call, Open, Add, Drop, Turn, Turns, opened}
 use Rattle.sessions.specs.Table.{refusal}
 use Rattle.sessions.specs.FaultTable.{fault, fieldsOf, On}
 use Rattle.sessions.specs.FaultRows.{AppliesAt}
 use Rattle.sessions.proofs.FaultRows.{fault-rows}
-use Rattle.lent_sessions.specs.Records.{isCount, standing, soundRows}
+use Rattle.lent_sessions.specs.Records.{isCount}
 use Rattle.lent_sessions.specs.RowRules.{IsCount, SoundRows}
 use Rattle.lent_sessions.specs.Lent.{plainWith, outOfOrder, badRows, lentRefusal}
 use Rattle.lent_sessions.specs.LentFaultTable.{lentFaultTable, lentFault, lentOpeningFields, lentFieldsOf}

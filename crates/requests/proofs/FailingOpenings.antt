@@ -1,8 +1,8 @@
 -- What an opening is refused for fails in that field, and under that number in no field left of it: by the device of its letter, and the tests of its
 -- rows. Assumes nothing.
-use mathlib.Core.Path.{_≡_, refl, ap, sym, subst, _∙_}
+use mathlib.Core.Path.{_≡_, refl, sym, subst, _∙_}
 use mathlib.Core.Bool.{Bool, true, false, not, true≢false}
-use mathlib.Core.List.{List, [], _∷_}
+use mathlib.Core.List.{[], _∷_}
 use mathlib.Core.Option.{Option, none, some, Option·none-ne-some, Option·some-injective}
 use Prim.Native.Nat.{ℕ, suc, _+_, _≤_, _<_}
 use native.Mathlib.Omega.{arith}
@@ -19,10 +19,9 @@ use Rattle.requests.specs.declared.Core.the-variants.{NoCore, At}
 use Rattle.requests.specs.declared.Device.{Device}
 use Rattle.requests.specs.declared.Device.the-variants.{G, S, C}
 use Rattle.requests.specs.declared.Opening.{Opening}
-use Rattle.requests.specs.declared.Refusal.{Refusal}
 use Rattle.requests.specs.declared.Refusal.the-variants.{BadOpening, KindNotOnDevice, OutOfRange}
 use Rattle.requests.specs.declared.Fault.{Fault}
-use Rattle.requests.proofs.Tests.{both-ways, both-parts}
+use Rattle.requests.proofs.Tests.{both-parts}
 use Rattle.requests.proofs.DeviceNumbers.{numbers}
 use Rattle.requests.proofs.Openings.{letter-named, letter-is}
 use Rattle.requests.proofs.OpeningsTaken.{kind-row, openings}

@@ -20,7 +20,6 @@ use Rattle.requests.specs.FaultFields as fields
 use Rattle.requests.specs.declared.Device.{Device}
 use Rattle.requests.specs.declared.Opening.{Opening}
 use Rattle.requests.specs.declared.Request.{Request}
-use Rattle.requests.specs.declared.Request.the-variants.{Event, Packet, Offcore, Latency}
 use Rattle.requests.specs.declared.Refusal.the-variants.{BadOpening, KindNotOnDevice, NotListed, OutOfRange, Incomplete, Conflicting}
 use Rattle.requests.proofs.Tests.{true-both}
 use Rattle.requests.proofs.FirstHolding.{holds}

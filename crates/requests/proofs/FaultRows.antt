@@ -1,5 +1,5 @@
 -- The first row of a table with fields is the first row without them, with the field of its refusal. Assumes nothing.
-use mathlib.Core.Path.{_≡_, refl, ap, sym, _∙_}
+use mathlib.Core.Path.{_≡_, refl, ap, _∙_}
 use mathlib.Core.Bool.{Bool, true, false, not}
 use mathlib.Core.List.{List, [], _∷_}
 use mathlib.Core.Option.{Option, none, some}
@@ -25,7 +25,6 @@ use Rattle.requests.specs.declared.Refusal.{Refusal}
 use Rattle.requests.specs.declared.Refusal.the-variants.{BadOpening, KindNotOnDevice, NotListed, OutOfRange, Incomplete, Conflicting}
 use Rattle.requests.specs.declared.Answer.the-variants.{Accepted, Refused}
 use Rattle.requests.specs.declared.Checked.the-variants.{Passed, Failed}
-use Rattle.requests.specs.declared.Fault.{Fault}
 use Rattle.requests.specs.declared.Fields.{Fields}
 use Rattle.requests.proofs.Openings.{opened-some, opened-none, taken-table}
 

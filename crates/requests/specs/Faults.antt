@@ -2,7 +2,7 @@
 -- The fields are those of the lines: `open` letter usable fixed, on C the box, freeze core; `event` id code mask allowed; `packet` id match mask
 -- allowed; `offcore` id word allowed; `latency` id type first second. Of order 6's call the number of turns is field 1.
 use mathlib.Core.List.{List, [], _∷_}
-use mathlib.Core.Bool.{Bool, true, false, not}
+use mathlib.Core.Bool.{true, not}
 use mathlib.Core.Option.{Option, none, some}
 use Prim.Native.Nat.{ℕ, _+_}
 use lib.Dec.{eqb, leb, ltb}

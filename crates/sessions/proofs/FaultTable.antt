@@ -11,7 +11,7 @@ use Rattle.requests.specs.declared.Device.the-variants.{G}
 use Rattle.requests.specs.declared.Setup.{Setup}
 use Rattle.requests.specs.declared.Request.{Request}
 use Rattle.requests.specs.declared.Refusal.{Refusal}
-use Rattle.requests.specs.declared.Refusal.the-variants.{CallOrder, BadId, IdWaiting, IdNotWaiting, OutOfRange, NoPlanAlone, QueueFull, SliceTooShort}
+use Rattle.requests.specs.declared.Refusal.the-variants.{BadId, IdWaiting, IdNotWaiting, OutOfRange, NoPlanAlone, QueueFull, SliceTooShort}
 use Rattle.requests.specs.declared.Fault.{Fault}
 use Rattle.requests.specs.declared.Fields.{Fields}
 use Rattle.requests.specs.Choice.{either, Row, firstHolding}
