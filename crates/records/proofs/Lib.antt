@@ -25,3 +25,5 @@ pub mod CutFields
 pub mod LongLines
 pub mod Settled
 pub mod Unclosed
+pub mod BrokenFields
+pub mod FirstBroken

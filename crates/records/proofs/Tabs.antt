@@ -110,7 +110,7 @@ written _ f (g ∷ fs) h (more {n = n} p ps) =
     }
 
 -- a text has a field
-some-field : (t : List ℕ) → (f : List ℕ) × (fs : List (List ℕ)) × (fields t ≡ f ∷ fs)
+pub some-field : (t : List ℕ) → (f : List ℕ) × (fs : List (List ℕ)) × (fields t ≡ f ∷ fs)
 unfolding fields
 some-field [] = ([], [], refl)
 some-field (b ∷ t) = go (eqb b tab) (some-field t)

@@ -10,6 +10,7 @@ pub mod Parse
 pub mod Grammar
 pub mod LineBytes
 pub mod LongLines
+pub mod FirstBroken
 pub mod Examples
 -- The code's own: how it holds its values. No claim.
 pub mod Parts
