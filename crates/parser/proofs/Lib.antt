@@ -4,3 +4,4 @@ pub mod LineTexts
 pub mod NamedReading
 pub mod ParsedLines
 pub mod LongLines
+pub mod FirstBroken

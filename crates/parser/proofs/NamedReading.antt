@@ -26,12 +26,8 @@ use Rattle.names.specs.EventNames.{isName}
 use Rattle.names.specs.Lists.{NameLists}
 use Rattle.names.proofs.GrammarHolds.{four}
 use Rattle.names.proofs.NameBytes.{names-tested, name-field}
-use Rattle.parser.specs.NamedText.{namedText, NamedFits}
+use Rattle.parser.specs.NamedText.{namedFields, namedText, NamedFits}
 use Rattle.parser.specs.ParseWith.{addNamed, namedLine}
-
--- the fields of a request by name
-abbrev pub namedFields : ℕ → List ℕ → CounterSet → List (List ℕ)
-namedFields id name a = bytes "named" ∷ decimalText id ∷ name ∷ decimalText (a .0) ∷ []
 
 -- what a text says that is one
 pub record Says (t : List ℕ) (id : ℕ) (name : List ℕ) (a : CounterSet) : Type 0 where

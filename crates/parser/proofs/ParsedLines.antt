@@ -140,7 +140,7 @@ module _ (line : List ℕ) (verb : hasVerb (textOf line) "named" ≡ true) where
 
 -- ---- every line
 
-other-lines : (line : List ℕ) → Outside line → (k : ℕ) × ((n : NameLists) (d : Device) → parseLineWith n d line ≡ Fault k)
+pub other-lines : (line : List ℕ) → Outside line → (k : ℕ) × ((n : NameLists) (d : Device) → parseLineWith n d line ≡ Fault k)
 other-lines line out = go (verb-of line)
   where
     read : hasVerb (textOf line) "named" ≡ true → Read (textOf line) (isClosed line) → (k : ℕ) × ((n : NameLists) (d : Device) → parseLineWith n d line ≡ Fault k)

@@ -4,4 +4,5 @@ pub mod ParseWith
 -- Statements: what is claimed of it.
 pub mod ParsedLines
 pub mod LongLines
+pub mod FirstBroken
 pub mod Examples

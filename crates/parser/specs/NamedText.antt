@@ -10,8 +10,12 @@ use Rattle.records.specs.declared.Record.{Record}
 use Rattle.names.specs.EventNames.{IsName}
 
 -- "`named` id name allowed"
+abbrev pub namedFields : ℕ → List ℕ → CounterSet → List (List ℕ)
+namedFields id name a = bytes "named" ∷ decimalText id ∷ name ∷ decimalText (a .0) ∷ []
+
+-- its text
 unfoldable pub namedText : ℕ → List ℕ → CounterSet → List ℕ
-namedText id name a = lineOf (bytes "named" ∷ decimalText id ∷ name ∷ decimalText (a .0) ∷ [])
+namedText id name a = lineOf (namedFields id name a)
 
 -- the numbers and the name fit their fields
 abbrev pub NamedFits : ℕ → List ℕ → CounterSet → Type 0
