@@ -2,12 +2,12 @@
 use mathlib.Core.Path.{_≡_, refl, ap, sym, _∙_}
 use mathlib.Core.Bool.{Bool, true, false}
 use mathlib.Mathlib.Data.Bool.Basic.{eq-false-of-not-eq-true}
-use mathlib.Core.List.{List, [], _∷_, _++_}
+use mathlib.Core.List.{List}
 use mathlib.Core.Option.{none, some, Option·none-ne-some}
 use Prim.Native.Nat.{ℕ, _≤_}
 use native.Mathlib.Omega.{arith}
 use lib.Dec.{ltb}
-use lib.ListN.{length, take, length-take}
+use lib.ListN.{length, take}
 use lib.Seq.{length-take-le}
 use borrow.Author.Tests.{ltb-true, ltb-false}
 use Rattle.requests.specs.Devices.{letterOf}
@@ -16,11 +16,11 @@ use Rattle.requests.specs.declared.CounterSet.{CounterSet}
 use Rattle.requests.specs.declared.Device.{Device}
 use Rattle.requests.specs.declared.Request.{Request}
 use Rattle.requests.specs.declared.Request.the-variants.{Event}
-use Rattle.records.specs.Text.{bytes, newline}
+use Rattle.records.specs.Text.{bytes}
 use Rattle.records.specs.Fields.{fields, fieldAt}
 use Rattle.records.specs.Verbs.{hasVerb}
-use Rattle.records.specs.Parse.{longest, tooLong, parseText, isClosed, textLength, textOf, parseLine, parsedRefusal}
-use Rattle.records.specs.Records.{recordText, Fits, AddFits}
+use Rattle.records.specs.Parse.{longest, isClosed, textLength, textOf, parseLine, parsedRefusal}
+use Rattle.records.specs.Records.{recordText, AddFits}
 use Rattle.records.specs.Grammar.{IsText}
 use Rattle.records.specs.declared.Record.{Record}
 use Rattle.records.specs.declared.Record.the-variants.{Add}
@@ -34,7 +34,6 @@ use Rattle.records.proofs.Settled as settled
 use Rattle.records.proofs.Settled.{Settled, line-is}
 use Rattle.records.proofs.WordLoops.{same-bytes}
 use Rattle.names.specs.Lists.{NameLists, listsFormed}
-use Rattle.names.specs.LookUp.{rowNamed}
 use Rattle.names.specs.Named.{requestNamed}
 use Rattle.names.specs.NamedRequests.{Finds}
 use Rattle.names.specs.RowGrammar.{AreLists}
@@ -43,47 +42,12 @@ use Rattle.names.proofs.GrammarHolds.{row-grammar, list-grammar}
 use Rattle.names.proofs.Requesting.{named-requests, request-fits}
 use Rattle.names.proofs.RowTexts.{same-before}
 use Rattle.names.proofs.Searching.{lists-bad}
-use Rattle.parser.specs.NamedText.{namedText, NamedFits, IsNamed, Outside}
+use Rattle.parser.specs.NamedText.{IsNamed, Outside}
 use Rattle.parser.specs.ParseWith.{addNamed, namedLine, recordWith, parseTextWith, parseLineWith}
 use Rattle.parser.specs.ParsedLines.{ByName, numberFor, ParsedLines}
 use Rattle.parser.proofs.NamedReading.{Says, said-text, said-verb, said-line, TextOf, named-written, Read, says, faulty, named-read}
-use Rattle.parser.proofs.VerbsRead.{named-no-record, asked-record, asked-named, add-formed, add-refused}
-
--- ---- a line without the verb
-
-module _ (n : NameLists) (d : Device) (line : List ℕ) where
-  other-line : hasVerb (textOf line) "named" ≡ false → parseLineWith n d line ≡ parseLine line
-  unfolding parseLineWith parseTextWith parseLine parseText
-  other-line e = go (ltb longest (textLength line))
-    where
-      go : (long : Bool) → parseTextWith n d (textOf line) (isClosed line) long ≡ parseText (textOf line) (isClosed line) long
-      go true = rw (asked-record n d (textOf line) (isClosed line) e)
-      go false = asked-record n d (textOf line) (isClosed line) e
-
--- such a line is no record
-fault-long : (k m : ℕ) → tooLong (Fault k) m ≡ Fault k
-unfolding tooLong
-fault-long k m = refl
-
-named-not-record : (line : List ℕ) → hasVerb (textOf line) "named" ≡ true → parseLine line ≡ Fault 0
-unfolding parseLine parseText tooLong
-named-not-record line e = go (ltb longest (textLength line))
-  where
-    go : (long : Bool) → parseText (textOf line) (isClosed line) long ≡ Fault 0
-    go true = rw (named-no-record (textOf line) (isClosed line) e)
-    go false = named-no-record (textOf line) (isClosed line) e
-
--- whether a line has the verb
-data Verb (line : List ℕ) : Type 0 where
-  named : hasVerb (textOf line) "named" ≡ true → Verb line
-  other : hasVerb (textOf line) "named" ≡ false → Verb line
-
-verb-of : (line : List ℕ) → Verb line
-verb-of line = go (hasVerb (textOf line) "named") refl
-  where
-    go : (b : Bool) → hasVerb (textOf line) "named" ≡ b → Verb line
-    go true e = named e
-    go false e = other e
+use Rattle.parser.proofs.VerbsRead.{asked-named, add-formed, add-refused}
+use Rattle.parser.proofs.LineVerbs.{other-line, fault-long, named-not-record, Verb, named, other, verb-of}
 
 -- ---- a request by name
 

@@ -2,7 +2,7 @@
 -- usable counters, past which nothing is searched. Assumes nothing.
 use mathlib.Core.Path.{_≡_, refl, ap, sym, _∙_}
 use Prim.Native.Nat.{ℕ, _+_, _*_, _^_, _≤_, _<_}
-use mathlib.Core.Bool.{true, false, not, Bool·not-not}
+use mathlib.Core.Bool.{true, not, Bool·not-not}
 use mathlib.Core.List.{List, [], _∷_, _++_}
 use mathlib.Core.Option.{some}
 use native.Mathlib.Numerals.{add-one}
@@ -15,7 +15,7 @@ use Rattle.requests.specs.declared.Request.{Request}
 use Rattle.requests.specs.Devices.{size, counterCount, capacity}
 use Rattle.plans.specs.Legal.{HasPlan}
 use Rattle.plans.specs.declared.Place.{Place}
-use Rattle.plans.specs.Search.{emptyRoom, planIn, firstPlan, hasPlan}
+use Rattle.plans.specs.Search.{emptyRoom, firstPlan, hasPlan}
 use Rattle.plans.specs.Parts.{usableCount}
 use Rattle.plans.specs.Rows.{requestAt, rowsFrom, setRequest}
 use Rattle.plans.specs.Packed.{packed, placesFrom}

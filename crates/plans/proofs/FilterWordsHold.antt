@@ -2,7 +2,7 @@
 -- plan's registers hold, and of three different words two registers leave one out. Assumes nothing.
 use mathlib.Core.Path.{_≡_, refl, sym, ap, _∙_}
 use mathlib.Core.Logic.{_≢_, _⊎_, inl, inr}
-use mathlib.Core.List.{List, [], _∷_, _++_, flatMap}
+use mathlib.Core.List.{List, flatMap}
 use mathlib.Core.Bool.{Bool, true, false}
 use Prim.Native.Nat.{ℕ, zero, suc, _+_, _-_, _<_}
 use native.Mathlib.Omega.{arith}
@@ -18,9 +18,9 @@ use Rattle.plans.specs.declared.Register.{Register}
 use Rattle.plans.specs.declared.Register.the-variants.{Unused, Word}
 use Rattle.plans.specs.declared.Filter.{Filter}
 use Rattle.plans.specs.declared.Filter.the-variants.{Off, Words}
-use Rattle.plans.specs.Lists.{All, nil, cons, Each, none, and}
+use Rattle.plans.specs.Lists.{All, cons, Each, none, and}
 use Rattle.plans.specs.Legal.{Allowed, event, packet, offcore, latency, wordsOf, packetsOf, ofAll, HasPlan}
-use Rattle.plans.specs.Search.{holds, holdsPacket}
+use Rattle.plans.specs.Search.{holds}
 use Rattle.plans.specs.Rows.{requestAt, rowsFrom}
 use Rattle.plans.specs.FilterWords.{noneAsked, askWord, askPacket, askedBy, askedFrom, crowded, FilterWords}
 

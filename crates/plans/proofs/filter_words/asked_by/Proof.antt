@@ -1,4 +1,3 @@
-use mathlib.Core.Path.{_≡_, refl, _∙_}
 use borrow.Author.Needs.{needs}
 use Rattle.plans.specs.FilterWords.{askedBy}
 use Rattle.plans.proofs.filter_words.asked_by.Statement.{statement}
