@@ -7,10 +7,10 @@ use Rattle.requests.specs.Devices.{capacity}
 use Rattle.requests.specs.Refusals.{numberOf}
 use Rattle.plans.specs.Places.{countedOf}
 use Rattle.sessions.specs.Sessions.{queueLimit, vacant, padded, newSession, unassigned, turnAnswer, planOf}
-use Rattle.records.specs.Examples.{tabbed, typed}
-use Rattle.records.specs.Fields.{fields, sameBytes}
-use Rattle.records.specs.Numbers.{digitOf, numberFrom, decimalOf, hexOf}
-use Rattle.records.specs.Text.{bytes, tab, newline, hexDigit, hexText, decimalDigits, decimalText, lineOf}
+use Rattle.grammar.specs.Examples.{tabbed, typed}
+use Rattle.grammar.specs.Fields.{fields, sameBytes}
+use Rattle.grammar.specs.Numbers.{digitOf, numberFrom, decimalOf, hexOf}
+use Rattle.grammar.specs.Text.{bytes, tab, newline, hexDigit, hexText, decimalDigits, decimalText, lineOf}
 use Rattle.answers.specs.Examples.{taken, Examples, Readings}
 use Rattle.answers.specs.Reader.{takeSays, setSays, noSays, fieldsSay, linesOf, linesSay, replySays}
 use Rattle.answers.specs.Replies.{answerText, registerText, takeLines, setLines, turnReply}

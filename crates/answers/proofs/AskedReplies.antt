@@ -18,8 +18,8 @@ use Rattle.sessions.specs.declared.Answered.{Answered}
 use Rattle.sessions.specs.Calls as calls
 use Rattle.sessions.specs.Plain.{unlessRefused}
 use Rattle.sessions.specs.Sessions.{queued, sessionOf, refusedBy, answered, openOf, addOf, dropOf}
-use Rattle.records.specs.declared.Record.{Record}
-use Rattle.records.specs.declared.Record.the-variants.{Open, Add, Drop, Turn}
+use Rattle.grammar.specs.declared.Record.{Record}
+use Rattle.grammar.specs.declared.Record.the-variants.{Open, Add, Drop, Turn}
 use Rattle.names.specs.Named.{namedField}
 use Rattle.answers.specs.Replies.{replyAt, replyOf, recordReply, namedReply}
 use Rattle.answers.specs.Written.{lineField, askedReply}

@@ -13,7 +13,7 @@ use Rattle.sessions.specs.declared.Session.{Session}
 use Rattle.sessions.specs.declared.Assigned.{Assigned}
 use Rattle.sessions.specs.declared.TurnAnswered.{TurnAnswered}
 use Rattle.sessions.specs.Sessions.{planOf}
-use Rattle.records.specs.declared.Parsed.{Parsed}
+use Rattle.grammar.specs.declared.Parsed.{Parsed}
 use Rattle.names.specs.Lists.{NameLists}
 use Rattle.parser.specs.ParseWith.{parseLineWith}
 use Rattle.answers.specs.Replies.{Reply, answerText, takeLines, setLines, turnReply, parsedReply, answerLine}

@@ -36,9 +36,9 @@ use Rattle.sessions.proofs.Given.{taken-distinct}
 use Rattle.sessions.proofs.TableAnswers.{turn-closed}
 use Rattle.sessions.proofs.SoundKept.{well-formed}
 use Rattle.sessions.proofs.Demand3.{demand3}
-use Rattle.records.specs.Records.{Fits}
-use Rattle.records.specs.declared.Record.{Record}
-use Rattle.records.specs.declared.Record.the-variants.{Open, Add, Drop, Turn}
+use Rattle.grammar.specs.Records.{Fits}
+use Rattle.grammar.specs.declared.Record.{Record}
+use Rattle.grammar.specs.declared.Record.the-variants.{Open, Add, Drop, Turn}
 use Rattle.names.specs.Lists.{NameLists}
 use Rattle.answers.specs.Reader.{Said, Answers}
 use Rattle.answers.specs.LinesAreCalls.{callOf, takesOf, setsOf}

@@ -8,7 +8,7 @@ use Rattle.requests.specs.Devices.{capacity}
 use Rattle.layouts.specs.Layout.{layoutOf, controlAt, counterAt}
 use Rattle.layouts.specs.WriteCount.{writeLimit}
 use Rattle.layouts.proofs.DeviceFacts.{cbox-range}
-use Rattle.records.specs.Records.{Hex}
+use Rattle.grammar.specs.Records.{Hex}
 
 pub record DeviceWidths (d : Device) : Type 0 where
   -- addresses have four hex digits

@@ -17,8 +17,8 @@ use Rattle.plans.specs.declared.Place.{Place}
 use Rattle.plans.specs.declared.Place.the-variants.{Counter, WithRsp, Pair}
 use Rattle.plans.specs.Places.{Counted, countedOf}
 use Rattle.sessions.specs.declared.Assigned.{Assigned}
-use Rattle.records.specs.Text.{bytes, decimalDigits, decimalText, lineOf}
-use Rattle.records.proofs.Hexes.{hex-length}
+use Rattle.grammar.specs.Text.{bytes, decimalDigits, decimalText, lineOf}
+use Rattle.grammar.proofs.Hexes.{hex-length}
 use Rattle.answers.specs.Replies.{answerText, registerText, takeLines, setLines}
 
 -- ---- numbers

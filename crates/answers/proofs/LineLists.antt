@@ -36,11 +36,11 @@ use Rattle.sessions.proofs.Steps.{step-accepted, step-refused}
 use Rattle.sessions.proofs.TableAnswers.{plain-closed, add-closed}
 use Rattle.sessions.proofs.Rearranged.{all-turned}
 use Rattle.sessions.proofs.Removed.{all-removed}
-use Rattle.records.specs.Records.{recordText, AddFits, Fits}
-use Rattle.records.specs.declared.Record.{Record}
-use Rattle.records.specs.declared.Record.the-variants.{Open, Add, Drop, Turn}
-use Rattle.records.specs.declared.Parsed.{Parsed}
-use Rattle.records.specs.declared.Parsed.the-variants.{Line, Named, Fault}
+use Rattle.grammar.specs.Records.{recordText, AddFits, Fits}
+use Rattle.grammar.specs.declared.Record.{Record}
+use Rattle.grammar.specs.declared.Record.the-variants.{Open, Add, Drop, Turn}
+use Rattle.grammar.specs.declared.Parsed.{Parsed}
+use Rattle.grammar.specs.declared.Parsed.the-variants.{Line, Named, Fault}
 use Rattle.names.specs.Lists.{NameLists}
 use Rattle.names.specs.Named.{namedField}
 use Rattle.parser.specs.ParseWith.{parseLineWith}

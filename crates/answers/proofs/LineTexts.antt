@@ -17,8 +17,8 @@ use Rattle.sessions.specs.declared.Assigned.{Assigned}
 use Rattle.sessions.specs.Sessions.{vacant}
 use Rattle.planner.specs.Selections.{planned}
 use Rattle.planner.proofs.Assigning.{planned-next, planned-length}
-use Rattle.records.specs.Text.{bytes, tab, newline, hexText, decimalDigits, decimalText, lineOf}
-use Rattle.records.proofs.Hexes.{hex-length}
+use Rattle.grammar.specs.Text.{bytes, tab, newline, hexText, decimalDigits, decimalText, lineOf}
+use Rattle.grammar.proofs.Hexes.{hex-length}
 use Rattle.answers.specs.Replies.{registerText, takeLines, setLines}
 use Rattle.answers.specs.Texts.{Put, takeStart}
 use Rattle.answers.proofs.Lengths.{decimal-length, joined-length, take-lines-length, set-lines-length}

@@ -1,8 +1,8 @@
 -- A line is answered as the record whose text it is, and with 1 where it is neither that nor a request by name, by the laws on the grammar.
 use mathlib.Core.Path.{ap}
 use Rattle.requests.specs.Refusals.{numberOf, answerFor}
-use Rattle.records.specs.Text.{bytes, decimalDigits, decimalText}
-use Rattle.records.specs.Parse.{parsedRefusal}
+use Rattle.grammar.specs.Text.{bytes, decimalDigits, decimalText}
+use Rattle.grammar.specs.Parse.{parsedRefusal}
 use Rattle.parser.proofs.ParsedLines.{parsed-lines}
 use Rattle.answers.specs.Replies.{Reply, answerText, parsedReply, answerLine}
 use Rattle.answers.specs.LinesAnswered.{LinesAnswered}

@@ -11,8 +11,8 @@ use Rattle.sessions.specs.declared.Session.{Session}
 use Rattle.sessions.specs.Calls as calls
 use Rattle.sessions.specs.FaultTable.{fieldsOf}
 use Rattle.sessions.specs.Sessions.{turnOf, turnSlice, planOf, answerTo, nextSession}
-use Rattle.records.specs.declared.Record.{Record}
-use Rattle.records.specs.declared.Record.the-variants.{Open, Add, Drop, Turn}
+use Rattle.grammar.specs.declared.Record.{Record}
+use Rattle.grammar.specs.declared.Record.the-variants.{Open, Add, Drop, Turn}
 use Rattle.answers.specs.Replies.{answerText, takeLines, setLines, turnRoom, replyAt, replyOf, turnReply, recordReply, namedReply}
 use Rattle.answers.specs.Reader.{Answers, replySays}
 use Rattle.answers.specs.LinesAreCalls.{callOf, faultText, faultSaid, byName, faultOf, LinesAreCalls}

@@ -30,9 +30,9 @@ use Rattle.sessions.specs.Sessions.{queueLimit, queued, plainOf, queueAfter}
 use Rattle.sessions.proofs.Agreed.{stands-for}
 use Rattle.sessions.proofs.FaultRows.{fault-rows}
 use Rattle.sessions.proofs.TakenPlan.{taken-first}
-use Rattle.records.specs.Records.{recordText, Fits}
-use Rattle.records.specs.declared.Record.{Record}
-use Rattle.records.specs.declared.Record.the-variants.{Open, Add, Drop, Turn}
+use Rattle.grammar.specs.Records.{recordText, Fits}
+use Rattle.grammar.specs.declared.Record.{Record}
+use Rattle.grammar.specs.declared.Record.the-variants.{Open, Add, Drop, Turn}
 use Rattle.names.specs.Lists.{NameLists}
 use Rattle.names.specs.Named.{requestNamed}
 use Rattle.parser.specs.NamedText.{IsNamed}

@@ -27,16 +27,16 @@ use Rattle.sessions.specs.RefusalTable.{IsId, Waits}
 use Rattle.sessions.specs.Sessions.{queueLimit, queued, plainOf, refusedBy, answered, addOf}
 use Rattle.sessions.proofs.Conditions.{id-test, waits-test}
 use Rattle.sessions.proofs.TableAnswers.{plain-closed, plain-opened, add-closed}
-use Rattle.records.specs.Fields.{fieldAt}
-use Rattle.records.specs.Parse.{parseLine, parsedRefusal}
-use Rattle.records.proofs.GrammarHolds.{grammar}
-use Rattle.records.proofs.Outcomes.{fault-not-line}
-use Rattle.records.proofs.Settled.{Settled, asks, faulty, line-is}
-use Rattle.records.specs.Grammar.{IsText}
-use Rattle.records.specs.declared.Record.{Record}
-use Rattle.records.specs.declared.Record.the-variants.{Add}
-use Rattle.records.specs.declared.Parsed.{Parsed}
-use Rattle.records.specs.declared.Parsed.the-variants.{Line}
+use Rattle.grammar.specs.Fields.{fieldAt}
+use Rattle.grammar.specs.Parse.{parseLine, parsedRefusal}
+use Rattle.grammar.proofs.GrammarHolds.{grammar}
+use Rattle.grammar.proofs.Outcomes.{fault-not-line}
+use Rattle.grammar.proofs.Settled.{Settled, asks, faulty, line-is}
+use Rattle.grammar.specs.Grammar.{IsText}
+use Rattle.grammar.specs.declared.Record.{Record}
+use Rattle.grammar.specs.declared.Record.the-variants.{Add}
+use Rattle.grammar.specs.declared.Parsed.{Parsed}
+use Rattle.grammar.specs.declared.Parsed.the-variants.{Line}
 use Rattle.names.specs.Lists.{NameLists}
 use Rattle.names.specs.LookUp.{rowNamed}
 use Rattle.names.specs.Named.{requestNamed, namedField}

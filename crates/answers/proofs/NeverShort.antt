@@ -17,12 +17,12 @@ use Rattle.plans.specs.declared.Place.the-variants.{Counter, WithRsp, Pair}
 use Rattle.plans.specs.Places.{countedOf}
 use Rattle.sessions.specs.declared.Assigned.{Assigned}
 use Rattle.sessions.specs.declared.TurnAnswered.{TurnAnswered}
-use Rattle.records.specs.Text.{bytes, tab, newline, decimalDigits, decimalText, lineOf}
-use Rattle.records.specs.Parse.{parsedRefusal}
-use Rattle.records.specs.declared.Record.{Record}
-use Rattle.records.specs.declared.Record.the-variants.{Open, Add, Drop, Turn}
-use Rattle.records.specs.declared.Parsed.{Parsed}
-use Rattle.records.specs.declared.Parsed.the-variants.{Line, Named, Fault}
+use Rattle.grammar.specs.Text.{bytes, tab, newline, decimalDigits, decimalText, lineOf}
+use Rattle.grammar.specs.Parse.{parsedRefusal}
+use Rattle.grammar.specs.declared.Record.{Record}
+use Rattle.grammar.specs.declared.Record.the-variants.{Open, Add, Drop, Turn}
+use Rattle.grammar.specs.declared.Parsed.{Parsed}
+use Rattle.grammar.specs.declared.Parsed.the-variants.{Line, Named, Fault}
 use Rattle.parser.specs.ParseWith.{parseLineWith}
 use Rattle.answers.specs.Replies.{answerText, takeLines, setLines, turnRoom, replyAt, replyOf, turnReply, recordReply, namedReply, parsedReply, answerLine}
 use Rattle.answers.specs.NeverShort.{NeverShort}

@@ -12,7 +12,7 @@ use lib.ListN.{length, getD, length-append}
 use borrow.Author.Tests.{lt-ltb, le-ltb, eqb-true}
 use Rattle.requests.specs.Choice.{pick, both, every}
 use Rattle.requests.proofs.Tests.{every-at}
-use Rattle.records.specs.Text.{bytes, hexDigit, hexText, decimalDigits, decimalText}
+use Rattle.grammar.specs.Text.{bytes, hexDigit, hexText, decimalDigits, decimalText}
 
 -- ---- hex
 

@@ -23,11 +23,11 @@ use Rattle.sessions.specs.Sessions.{plainOf, turnOf, planOf}
 use Rattle.names.specs.Lists.{NameLists}
 use Rattle.parser.specs.ParseWith.{parseLineWith}
 use Rattle.parser.proofs.LongLines.{long-lines}
-use Rattle.records.specs.Parse.{parsedRefusal}
-use Rattle.records.specs.declared.Record.{Record}
-use Rattle.records.specs.declared.Parsed.{Parsed}
-use Rattle.records.specs.declared.Parsed.the-variants.{Line, Named, Fault}
-use Rattle.records.specs.declared.Record.the-variants.{Open, Add, Drop, Turn}
+use Rattle.grammar.specs.Parse.{parsedRefusal}
+use Rattle.grammar.specs.declared.Record.{Record}
+use Rattle.grammar.specs.declared.Parsed.{Parsed}
+use Rattle.grammar.specs.declared.Parsed.the-variants.{Line, Named, Fault}
+use Rattle.grammar.specs.declared.Record.the-variants.{Open, Add, Drop, Turn}
 use Rattle.answers.specs.Replies.{answerText, turnRoom, recordReply, namedReply, parsedReply, answerLine}
 use Rattle.answers.specs.Reader.{Takes}
 use Rattle.answers.specs.LinesAreCalls.{callOf, faultSaid, byName, faultOf, takesOf, setsOf, Askable, TurnSays}

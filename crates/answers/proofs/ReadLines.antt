@@ -18,14 +18,14 @@ use Rattle.requests.specs.Choice.{pick, both}
 use Rattle.requests.specs.Refusals.{numberOf}
 use Rattle.requests.specs.declared.Fault.{Fault}
 use Rattle.plans.specs.Lists.{All, nil, cons}
-use Rattle.records.specs.Text.{bytes, tab, newline, hexText, decimalText, lineOf}
-use Rattle.records.specs.Records.{Decimal, Hex}
-use Rattle.records.specs.Fields.{onto, fields, sameBytes}
-use Rattle.records.specs.Numbers.{digitOf, numberFrom, decimalOf}
-use Rattle.records.proofs.Decimals.{decimal-reads}
-use Rattle.records.proofs.Hexes.{hex-reads}
-use Rattle.records.proofs.Tabs.{lacks, Lacking, lacks-parts, oneField, Plain, Plains, none, more, Written, written}
-use Rattle.records.proofs.Texts.{decimal-plain, hex-plain}
+use Rattle.grammar.specs.Text.{bytes, tab, newline, hexText, decimalText, lineOf}
+use Rattle.grammar.specs.Records.{Decimal, Hex}
+use Rattle.grammar.specs.Fields.{onto, fields, sameBytes}
+use Rattle.grammar.specs.Numbers.{digitOf, numberFrom, decimalOf}
+use Rattle.grammar.proofs.Decimals.{decimal-reads}
+use Rattle.grammar.proofs.Hexes.{hex-reads}
+use Rattle.grammar.proofs.Tabs.{lacks, Lacking, lacks-parts, oneField, Plain, Plains, none, more, Written, written}
+use Rattle.grammar.proofs.Texts.{decimal-plain, hex-plain}
 use Rattle.names.specs.Named.{namedField}
 use Rattle.answers.specs.Replies.{answerText, registerText}
 use Rattle.answers.specs.Reader.{Said, Takes, Sets, Answers, takeSays, setSays, noSays, fieldsSay, linesOf, endSays, saidBefore, linesSay, replySays}

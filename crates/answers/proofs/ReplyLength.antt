@@ -7,9 +7,9 @@ use Rattle.requests.specs.Devices.{openingOf}
 use Rattle.sessions.specs.Sessions.{openOf, addOf, dropOf, turnOf, turnSlice, planOf}
 use Rattle.sessions.specs.declared.Session.{Session}
 use Rattle.sessions.specs.declared.TurnAnswered.{TurnAnswered}
-use Rattle.records.specs.declared.Record.{Record}
-use Rattle.records.specs.declared.Record.the-variants.{Open, Add, Drop, Turn}
-use Rattle.records.specs.declared.Parsed.the-variants.{Line, Named, Fault}
+use Rattle.grammar.specs.declared.Record.{Record}
+use Rattle.grammar.specs.declared.Record.the-variants.{Open, Add, Drop, Turn}
+use Rattle.grammar.specs.declared.Parsed.the-variants.{Line, Named, Fault}
 use Rattle.requests.specs.declared.Answer.{Answer}
 use Rattle.answers.specs.Replies.{turnRoom, answerText, takeLines, replyAt, replyOf, turnReply, recordReply, namedReply, parsedReply}
 use Rattle.answers.specs.Written.{replyRoom}

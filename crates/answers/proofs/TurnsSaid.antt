@@ -39,9 +39,9 @@ use Rattle.sessions.proofs.Refused.{unchanged}
 use Rattle.sessions.proofs.Answers.{turn-plan-is, turn-count-is, turn-slice-is}
 use Rattle.sessions.proofs.TableAnswers.{turn-closed}
 use Rattle.sessions.proofs.TakenPlan.{taken-first}
-use Rattle.records.specs.Text.{bytes, decimalText, lineOf}
-use Rattle.records.specs.Records.{Decimal, AddFits}
-use Rattle.records.specs.declared.Record.the-variants.{Turn}
+use Rattle.grammar.specs.Text.{bytes, decimalText, lineOf}
+use Rattle.grammar.specs.Records.{Decimal, AddFits}
+use Rattle.grammar.specs.declared.Record.the-variants.{Turn}
 use Rattle.answers.specs.Replies.{registerText, takeLines, setLines, turnRoom, turnReply, recordReply}
 use Rattle.answers.specs.Reader.{Takes, Answers, replySays}
 use Rattle.answers.specs.LinesAreCalls.{faultSaid, faultOf, takesOf, setsOf, Askable, TurnSays}

@@ -37,7 +37,7 @@ use Rattle.layouts.proofs.Tabulated.{getD-tabulate}
 use Rattle.layouts.proofs.DeviceFacts.{facts, in-room}
 use Rattle.layouts.proofs.RegistersAfter.{box-all, writes-all}
 use Rattle.layouts.proofs.ControlWords.{word-at}
-use Rattle.records.specs.Records.{Hex, AddFits}
+use Rattle.grammar.specs.Records.{Hex, AddFits}
 use Rattle.answers.proofs.DeviceWidths.{widths}
 
 -- the words of a request fit their fields

@@ -18,8 +18,8 @@ use Rattle.sessions.specs.declared.Session.{Session}
 use Rattle.sessions.specs.Calls.{opened, waiting}
 use Rattle.sessions.specs.Plain.{completed, drops}
 use Rattle.sessions.specs.Sessions.{queueLimit, queueAfter}
-use Rattle.records.specs.Records.{recordText}
-use Rattle.records.specs.declared.Record.the-variants.{Drop, Turn}
+use Rattle.grammar.specs.Records.{recordText}
+use Rattle.grammar.specs.declared.Record.the-variants.{Drop, Turn}
 use Rattle.names.specs.Lists.{NameLists}
 use Rattle.answers.specs.Reader.{Said, Takes, Sets, Answers, replySays}
 use Rattle.answers.specs.LineLists.{callsBy, callsAfter, replyAfter}

@@ -9,7 +9,7 @@ use Rattle.requests.specs.declared.Answer.the-variants.{Accepted, Refused}
 use Rattle.plans.specs.declared.Place.the-variants.{Counter, WithRsp, Pair}
 use Rattle.sessions.specs.declared.Assigned.{Assigned}
 use Rattle.sessions.specs.Sessions.{newSession, turnAnswer}
-use Rattle.records.specs.Examples.{tabbed, typed}
+use Rattle.grammar.specs.Examples.{tabbed, typed}
 use Rattle.answers.specs.Replies.{answerText, takeLines, turnReply}
 use Rattle.answers.specs.Reader.{Said, Takes, Sets, Answers, replySays}
 

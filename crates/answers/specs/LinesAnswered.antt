@@ -5,10 +5,10 @@ use mathlib.Core.List.{List, [], _∷_}
 use Prim.Native.Nat.{ℕ}
 use Rattle.sessions.specs.declared.Session.{Session}
 use Rattle.requests.specs.declared.Device.{Device}
-use Rattle.records.specs.Text.{bytes, decimalText, lineOf}
-use Rattle.records.specs.declared.Parsed.the-variants.{Fault}
-use Rattle.records.specs.declared.Record.{Record}
-use Rattle.records.specs.Grammar.{IsText}
+use Rattle.grammar.specs.Text.{bytes, decimalText, lineOf}
+use Rattle.grammar.specs.declared.Parsed.the-variants.{Fault}
+use Rattle.grammar.specs.declared.Record.{Record}
+use Rattle.grammar.specs.Grammar.{IsText}
 use Rattle.names.specs.Lists.{NameLists}
 use Rattle.parser.specs.NamedText.{Outside}
 use Rattle.parser.specs.ParseWith.{parseLineWith}

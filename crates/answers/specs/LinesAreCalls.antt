@@ -19,11 +19,11 @@ use Rattle.sessions.specs.declared.Assigned.{Assigned}
 use Rattle.sessions.specs.Calls.{Call, waiting}
 use Rattle.sessions.specs.FaultTable.{fault}
 use Rattle.sessions.specs.Sessions.{queueLimit, plainOf, turnOf, turnSlice, planOf, nextSession}
-use Rattle.records.specs.Records.{AddFits}
-use Rattle.records.specs.declared.Record.{Record}
-use Rattle.records.specs.declared.Record.the-variants.{Open, Add, Drop, Turn}
-use Rattle.records.specs.declared.Parsed.{Parsed}
-use Rattle.records.specs.declared.Parsed.the-variants as parsed
+use Rattle.grammar.specs.Records.{AddFits}
+use Rattle.grammar.specs.declared.Record.{Record}
+use Rattle.grammar.specs.declared.Record.the-variants.{Open, Add, Drop, Turn}
+use Rattle.grammar.specs.declared.Parsed.{Parsed}
+use Rattle.grammar.specs.declared.Parsed.the-variants as parsed
 use Rattle.names.specs.Named.{namedField}
 use Rattle.answers.specs.Replies.{answerText, turnRoom, recordReply, namedReply}
 use Rattle.answers.specs.Reader.{Refusing, Said, Takes, Sets, Answers, replySays}

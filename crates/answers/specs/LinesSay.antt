@@ -23,9 +23,9 @@ use Rattle.sessions.specs.Table.{refusal}
 use Rattle.sessions.specs.FaultTable.{fault}
 use Rattle.sessions.specs.RefusalTable.{IsId, Waits}
 use Rattle.sessions.specs.Sessions.{queueLimit, sessionAfter, queueAfter}
-use Rattle.records.specs.Records.{recordText, Fits}
-use Rattle.records.specs.declared.Record.{Record}
-use Rattle.records.specs.declared.Record.the-variants.{Turn}
+use Rattle.grammar.specs.Records.{recordText, Fits}
+use Rattle.grammar.specs.declared.Record.{Record}
+use Rattle.grammar.specs.declared.Record.the-variants.{Turn}
 use Rattle.names.specs.Lists.{NameLists}
 use Rattle.names.specs.Named.{requestNamed}
 use Rattle.parser.specs.NamedText.{IsNamed}

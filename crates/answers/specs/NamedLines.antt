@@ -14,9 +14,9 @@ use Rattle.requests.specs.Devices.{letterOf}
 use Rattle.sessions.specs.declared.Session.{Session}
 use Rattle.sessions.specs.RefusalTable.{IsId, Waits}
 use Rattle.sessions.specs.Sessions.{queued}
-use Rattle.records.specs.Text.{newline}
-use Rattle.records.specs.Records.{recordText}
-use Rattle.records.specs.declared.Record.the-variants.{Add}
+use Rattle.grammar.specs.Text.{newline}
+use Rattle.grammar.specs.Records.{recordText}
+use Rattle.grammar.specs.declared.Record.the-variants.{Add}
 use Rattle.names.specs.Lists.{NameLists}
 use Rattle.names.specs.Named.{namedField}
 use Rattle.names.specs.RowGrammar.{RowFits, rowLine, AreLists}

@@ -4,11 +4,11 @@ use mathlib.Core.Option.{Option, none, some}
 use Prim.Native.Nat.{ℕ}
 use lib.Dec.{eqb}
 use Rattle.requests.specs.Choice.{pick}
-use Rattle.records.specs.Text.{bytes, newline}
-use Rattle.records.specs.Fields.{onto, fields, sameBytes}
-use Rattle.records.specs.Numbers.{decimalOf, hexOf}
-use Rattle.records.specs.declared.Number.{Number}
-use Rattle.records.specs.declared.Number.the-variants.{Value, Bad}
+use Rattle.grammar.specs.Text.{bytes, newline}
+use Rattle.grammar.specs.Fields.{onto, fields, sameBytes}
+use Rattle.grammar.specs.Numbers.{decimalOf, hexOf}
+use Rattle.grammar.specs.declared.Number.{Number}
+use Rattle.grammar.specs.declared.Number.the-variants.{Value, Bad}
 
 -- a refusal as it is said: its number, and the field at fault
 abbrev pub Refusing : Type 0

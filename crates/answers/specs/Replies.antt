@@ -16,12 +16,12 @@ use Rattle.sessions.specs.declared.Answered.{Answered}
 use Rattle.sessions.specs.declared.Assigned.{Assigned}
 use Rattle.sessions.specs.declared.TurnAnswered.{TurnAnswered}
 use Rattle.sessions.specs.Sessions.{openOf, addOf, dropOf, turnOf, turnSlice, planOf}
-use Rattle.records.specs.Text.{bytes, hexText, decimalText, lineOf}
-use Rattle.records.specs.Parse.{parsedRefusal}
-use Rattle.records.specs.declared.Record.{Record}
-use Rattle.records.specs.declared.Record.the-variants.{Open, Add, Drop, Turn}
-use Rattle.records.specs.declared.Parsed.{Parsed}
-use Rattle.records.specs.declared.Parsed.the-variants.{Line, Named, Fault}
+use Rattle.grammar.specs.Text.{bytes, hexText, decimalText, lineOf}
+use Rattle.grammar.specs.Parse.{parsedRefusal}
+use Rattle.grammar.specs.declared.Record.{Record}
+use Rattle.grammar.specs.declared.Record.the-variants.{Open, Add, Drop, Turn}
+use Rattle.grammar.specs.declared.Parsed.{Parsed}
+use Rattle.grammar.specs.declared.Parsed.the-variants.{Line, Named, Fault}
 use Rattle.names.specs.Lists.{NameLists}
 use Rattle.names.specs.Named.{namedField}
 use Rattle.parser.specs.ParseWith.{parseLineWith}

@@ -2,7 +2,7 @@
 use Prim.Native.Nat.{_≤_}
 use lib.ListN.{length}
 use Rattle.sessions.specs.declared.Session.{Session}
-use Rattle.records.specs.declared.Parsed.{Parsed}
+use Rattle.grammar.specs.declared.Parsed.{Parsed}
 use Rattle.answers.specs.Replies.{parsedReply}
 use Rattle.answers.specs.Written.{replyRoom}
 

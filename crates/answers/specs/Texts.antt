@@ -4,7 +4,7 @@ use mathlib.Core.List.{List, [], _∷_, _++_}
 use Prim.Native.Nat.{ℕ, _+_}
 use lib.ListN.{length}
 use lib.Seq.{sets}
-use Rattle.records.specs.Text.{bytes, tab, decimalText}
+use Rattle.grammar.specs.Text.{bytes, tab, decimalText}
 use Rattle.answers.specs.Replies.{Reply}
 use Rattle.answers.specs.Written.{Left}
 

@@ -6,9 +6,9 @@ use lib.ListN.{length, drop, replicate}
 use lib.Dec.{ltb}
 use Rattle.requests.specs.Choice.{pick}
 use Rattle.sessions.specs.declared.Session.{Session}
-use Rattle.records.specs.declared.Record.{Record}
-use Rattle.records.specs.declared.Record.the-variants.{Open, Add, Drop, Turn}
-use Rattle.records.specs.declared.Parsed.{Parsed}
+use Rattle.grammar.specs.declared.Record.{Record}
+use Rattle.grammar.specs.declared.Record.the-variants.{Open, Add, Drop, Turn}
+use Rattle.grammar.specs.declared.Parsed.{Parsed}
 use Rattle.names.specs.Named.{namedField}
 use Rattle.queue_rows.specs.Heads.{sessionIn}
 use Rattle.answers.specs.Replies.{Reply, recordReply, namedReply, parsedReply}

@@ -7,7 +7,7 @@ use requests::Answer;
 ghost use mathlib.Core.List.{_∷_};
 ghost use Prim.Native.Nat.{_+_, _≤_};
 ghost use lib.ListN.{length};
-ghost use Rattle.records.specs.Text.{tab, decimalText};
+ghost use Rattle.grammar.specs.Text.{tab, decimalText};
 ghost use Rattle.answers.specs.Replies.{answerText};
 ghost use Rattle.answers.specs.Texts.{Put};
 

@@ -5,7 +5,7 @@ use crate::texts::put_hex;
 ghost use mathlib.Core.List.{[], _∷_};
 ghost use Prim.Native.Nat.{_+_, _*_, _≤_};
 ghost use lib.ListN.{length, take};
-ghost use Rattle.records.specs.Text.{hexText};
+ghost use Rattle.grammar.specs.Text.{hexText};
 ghost use Rattle.answers.specs.Replies.{setLines};
 ghost use Rattle.answers.specs.Texts.{Put};
 

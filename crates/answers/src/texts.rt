@@ -3,7 +3,7 @@ ghost use mathlib.Core.Path.{_≡_};
 ghost use mathlib.Core.List.{[], _∷_};
 ghost use Prim.Native.Nat.{_+_, _≤_};
 ghost use lib.ListN.{length};
-ghost use Rattle.records.specs.Text.{hexText, decimalText};
+ghost use Rattle.grammar.specs.Text.{hexText, decimalText};
 ghost use Rattle.answers.specs.Texts.{Put};
 
 // Puts a byte.

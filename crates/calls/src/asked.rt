@@ -3,7 +3,7 @@ use crate::formats::Numbers;
 use crate::formats::numbers_in;
 use crate::words::Words;
 use crate::words::word;
-use records::words::same;
+use grammar::words::same;
 use requests::CounterSet;
 use requests::Request;
 

@@ -6,7 +6,7 @@ use crate::numbers::hex;
 use crate::numbers::wide;
 use crate::words::Words;
 use crate::words::word;
-use records::words::same;
+use grammar::words::same;
 
 // The number of a word that has to be the text: 0.
 fn exactly(word: &[u8], text: &[u8]) -> Number {

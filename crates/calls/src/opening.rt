@@ -1,7 +1,7 @@
 // What a line of `open` or of the reader gives in its second word and on.
 use crate::words::Words;
 use crate::words::word;
-use records::words::same;
+use grammar::words::same;
 use requests::Core;
 use requests::CounterSet;
 use requests::Opening;

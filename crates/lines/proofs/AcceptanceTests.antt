@@ -23,13 +23,13 @@ use Rattle.sessions.specs.Plain.{removed}
 use Rattle.sessions.specs.Sessions.{queueLimit, vacant, queued, padded, sessionOf, newSession, plainOf, refusedBy, answered, openOf, addOf, dropOf, unassigned, turnAnswer, turnOf, turnSlice, planOf}
 use Rattle.sessions.specs.Table.{outsideIds, addRows, dropRows, turnRows, turnsLimit, turnsRows, beforeOpen, onceOpen, table, refusal}
 use Rattle.sessions.specs.Turns.{requestsOf, fits, taken, passed, turned, placesOf, assign, writesOf, listsOf, joined}
-use Rattle.records.specs.Examples.{tabbed, typed}
-use Rattle.records.specs.Fields.{fields, sameBytes}
-use Rattle.records.specs.Letters.{lettered}
-use Rattle.records.specs.Numbers.{digitOf, numberFrom, decimalOf, hexOf, coreNumberOf, coreOf}
-use Rattle.records.specs.Parse.{longest, tooLong, parsedRefusal}
-use Rattle.records.specs.Text.{bytes, tab, newline, hexDigit, hexText, decimalDigits, decimalText, lineOf}
-use Rattle.records.specs.Verbs.{lineFrom, openFormats, openAs, openWith, openOn, openLine, eventLine, packetLine, offcoreLine, latencyLine, dropLine, turnLine, hasVerb, verbs, recordOf}
+use Rattle.grammar.specs.Examples.{tabbed, typed}
+use Rattle.grammar.specs.Fields.{fields, sameBytes}
+use Rattle.grammar.specs.Letters.{lettered}
+use Rattle.grammar.specs.Numbers.{digitOf, numberFrom, decimalOf, hexOf, coreNumberOf, coreOf}
+use Rattle.grammar.specs.Parse.{longest, tooLong, parsedRefusal}
+use Rattle.grammar.specs.Text.{bytes, tab, newline, hexDigit, hexText, decimalDigits, decimalText, lineOf}
+use Rattle.grammar.specs.Verbs.{lineFrom, openFormats, openAs, openWith, openOn, openLine, eventLine, packetLine, offcoreLine, latencyLine, dropLine, turnLine, hasVerb, verbs, recordOf}
 use Rattle.names.specs.EventNames.{nameByte, nameBytes, longestName, isName}
 use Rattle.names.specs.Lists.{rowTexts, isEnded, allFormed, wellFormed, listsFormed}
 use Rattle.names.specs.LookUp.{topRow, rowNamed}

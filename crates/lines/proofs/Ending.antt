@@ -10,8 +10,8 @@ use Rattle.requests.specs.Choice.{both}
 use Rattle.requests.specs.Refusals.{answerFor}
 use Rattle.requests.specs.declared.Refusal.the-variants.{NotInGrammar}
 use Rattle.requests.specs.declared.Answer.the-variants.{Refused}
-use Rattle.records.specs.Parse.{parsedRefusal}
-use Rattle.records.specs.Text.{newline}
+use Rattle.grammar.specs.Parse.{parsedRefusal}
+use Rattle.grammar.specs.Text.{newline}
 use Rattle.names.specs.Lists.{NameLists, rowTexts, isEnded, allFormed, wellFormed, listsFormed}
 use Rattle.parser.proofs.LongLines.{long-lines, as-too-long}
 use Rattle.answers.specs.Replies.{Reply, answerText, parsedReply}

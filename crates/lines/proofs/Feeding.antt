@@ -7,9 +7,9 @@ use native.Mathlib.Omega.{arith}
 use borrow.Author.Tests.{le-ltb}
 use lib.ListN.{length, take, drop, drop-of-length-le, take-append-drop, length-append, length-drop}
 use lib.Seq.{take-length, drop-length, drop-drop, take-at, drop-at}
-use Rattle.records.specs.Text.{newline}
+use Rattle.grammar.specs.Text.{newline}
 use Rattle.sessions.specs.declared.Session.{Session}
-use Rattle.records.specs.declared.Parsed.{Parsed}
+use Rattle.grammar.specs.declared.Parsed.{Parsed}
 use Rattle.answers.specs.Replies.{parsedReply}
 use Rattle.answers.specs.Written.{replyRoom, atStart, Left, repliedIn, repliedOut}
 use Rattle.names.specs.Lists.{NameLists}

@@ -14,8 +14,8 @@ use lib.Seq.{take-nil, sets}
 use borrow.Author.Tests.{ltb-true, ltb-false, lt-ltb, le-ltb, ne-eqb}
 use Rattle.requests.specs.Choice.{either}
 use Rattle.requests.proofs.Tests.{either-true, either-false}
-use Rattle.records.specs.Text.{newline}
-use Rattle.records.specs.Parse.{longest}
+use Rattle.grammar.specs.Text.{newline}
+use Rattle.grammar.specs.Parse.{longest}
 use Rattle.names.specs.Lists.{NameLists}
 use Rattle.lines.specs.Pieces.{NewlineFree}
 use Rattle.lines.specs.Stream.{keepByte, byteState, byteText, feedState, feedText}

@@ -17,9 +17,9 @@ use Rattle.requests.specs.declared.Device.{Device}
 use Rattle.requests.specs.Choice.{either}
 use Rattle.requests.proofs.Tests.{either-true}
 use Rattle.sessions.specs.declared.Session.{Session}
-use Rattle.records.specs.Text.{newline}
-use Rattle.records.specs.Parse.{longest, isClosed, textLength}
-use Rattle.records.specs.declared.Parsed.{Parsed}
+use Rattle.grammar.specs.Text.{newline}
+use Rattle.grammar.specs.Parse.{longest, isClosed, textLength}
+use Rattle.grammar.specs.declared.Parsed.{Parsed}
 use Rattle.parser.specs.ParseWith.{parseTextWith, parseLineWith}
 use Rattle.parser.proofs.LongLines.{long-lines}
 use Rattle.answers.specs.Replies.{Reply, answerText, parsedReply, answerLine}

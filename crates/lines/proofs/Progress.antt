@@ -10,7 +10,7 @@ use borrow.Author.Tests.{ltb-false, le-ltb}
 use Rattle.parser.specs.ParseWith.{parseTextWith}
 use Rattle.answers.specs.Written.{replyRoom}
 use Rattle.answers.proofs.ReplyLength.{reply-length}
-use Rattle.records.specs.Text.{newline}
+use Rattle.grammar.specs.Text.{newline}
 use Rattle.names.specs.Lists.{NameLists}
 use Rattle.lines.specs.Stream.{lineReply, byteState, byteText, feedText}
 use Rattle.lines.specs.Blocks.{takenOf, takenFrom}

@@ -14,10 +14,10 @@ use lib.Seq.{drop-cons, take-suc}
 use Rattle.requests.specs.declared.Device.{Device}
 use Rattle.requests.specs.Choice.{either, pick}
 use Rattle.requests.proofs.Tests.{either-true, either-parts}
-use Rattle.records.specs.Text.{newline}
-use Rattle.records.specs.Parse.{longest}
+use Rattle.grammar.specs.Text.{newline}
+use Rattle.grammar.specs.Parse.{longest}
 use Rattle.parser.specs.ParseWith.{parseTextWith}
-use Rattle.records.specs.declared.Parsed.{Parsed}
+use Rattle.grammar.specs.declared.Parsed.{Parsed}
 use Rattle.answers.specs.Replies.{parsedReply}
 use Rattle.names.specs.Lists.{NameLists}
 use Rattle.lines.specs.Pieces.{NewlineFree, keptLine, stateOf, KeptOn, EndedLine}

@@ -6,7 +6,7 @@ use native.Mathlib.Nat.{zero-add, sub-zero}
 use native.Mathlib.Omega.{arith}
 use borrow.Author.Tests.{lt-ltb, le-ltb}
 use lib.ListN.{length}
-use Rattle.records.specs.Text.{newline}
+use Rattle.grammar.specs.Text.{newline}
 use Rattle.answers.specs.Written.{replyRoom}
 use Rattle.names.specs.Lists.{NameLists}
 use Rattle.lines.specs.Blocks.{takenOf}

@@ -11,7 +11,7 @@ use Rattle.plans.specs.Lists.{All, nil, cons}
 use Rattle.requests.specs.declared.Device.the-variants.{G}
 use Rattle.sessions.specs.declared.Session.{Session}
 use Rattle.sessions.specs.Sessions.{newSession}
-use Rattle.records.specs.Text.{newline}
+use Rattle.grammar.specs.Text.{newline}
 use Rattle.answers.specs.Replies.{answerLine}
 use Rattle.answers.specs.LineLists.{sessionBy}
 use Rattle.answers.proofs.LineLists.{session-by}

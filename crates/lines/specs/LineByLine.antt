@@ -6,7 +6,7 @@ use Prim.Native.Nat.{ℕ}
 use Rattle.requests.specs.declared.Refusal.the-variants.{NotInGrammar}
 use Rattle.requests.specs.declared.Answer.the-variants.{Refused}
 use Rattle.sessions.specs.declared.Session.{Session}
-use Rattle.records.specs.Text.{newline}
+use Rattle.grammar.specs.Text.{newline}
 use Rattle.requests.specs.declared.Device.{Device}
 use Rattle.names.specs.Lists.{NameLists}
 use Rattle.parser.specs.ParseWith.{parseLineWith}

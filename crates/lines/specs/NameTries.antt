@@ -4,7 +4,7 @@ use mathlib.Core.List.{List, [], _∷_, map}
 use Prim.Native.Nat.{ℕ}
 use Prim.Native.String.{String}
 use Rattle.names.specs.Lists.{NameLists}
-use Rattle.records.specs.Examples.{tabbed, typed}
+use Rattle.grammar.specs.Examples.{tabbed, typed}
 use Rattle.lines.specs.Tries.{Try, outcomeWith, expected}
 
 -- two lists, and a try with them

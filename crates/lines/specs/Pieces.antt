@@ -4,12 +4,12 @@ use mathlib.Core.Bool.{Bool, true}
 use mathlib.Core.List.{List, List·Memᴰ}
 use Prim.Native.Nat.{ℕ, _≤_, _<_}
 use lib.ListN.{length, getD, take}
-use Rattle.records.specs.Text.{newline}
+use Rattle.grammar.specs.Text.{newline}
 use Rattle.requests.specs.declared.Device.{Device}
 use Rattle.names.specs.Lists.{NameLists}
 use Rattle.parser.specs.ParseWith.{parseTextWith}
 use Rattle.sessions.specs.declared.Session.{Session}
-use Rattle.records.specs.declared.Parsed.{Parsed}
+use Rattle.grammar.specs.declared.Parsed.{Parsed}
 use Rattle.lines.specs.Stream.{feedState}
 use Rattle.lines.specs.declared.Extent.{Extent}
 use Rattle.lines.specs.declared.Feed.{Feed}

@@ -9,10 +9,10 @@ use Rattle.requests.specs.declared.Answer.the-variants.{Refused}
 use Rattle.requests.specs.Choice.{either, pick}
 use Rattle.sessions.specs.declared.Session.{Session}
 use Rattle.sessions.specs.Sessions.{newSession}
-use Rattle.records.specs.Text.{newline}
-use Rattle.records.specs.Parse.{longest}
-use Rattle.records.specs.declared.Parsed.{Parsed}
-use Rattle.records.specs.declared.Parsed.the-variants.{Line, Named, Fault}
+use Rattle.grammar.specs.Text.{newline}
+use Rattle.grammar.specs.Parse.{longest}
+use Rattle.grammar.specs.declared.Parsed.{Parsed}
+use Rattle.grammar.specs.declared.Parsed.the-variants.{Line, Named, Fault}
 use Rattle.names.specs.Lists.{NameLists}
 use Rattle.parser.specs.ParseWith.{parseTextWith}
 use Rattle.answers.specs.Replies.{Reply, answerText, parsedReply}

@@ -9,7 +9,7 @@ use Rattle.plans.specs.Lists.{All}
 use Rattle.sessions.specs.declared.Session.{Session}
 use Rattle.sessions.specs.Calls.{Call}
 use Rattle.sessions.specs.Sessions.{newSession, sessionAfter}
-use Rattle.records.specs.Text.{newline}
+use Rattle.grammar.specs.Text.{newline}
 use Rattle.requests.specs.declared.Device.the-variants.{G}
 use Rattle.names.specs.Lists.{NameLists}
 use Rattle.parser.specs.ParseWith.{parseLineWith}

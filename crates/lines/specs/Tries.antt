@@ -6,7 +6,7 @@ use Prim.Native.String.{String}
 use Rattle.requests.specs.declared.Entry.{Entry}
 use Rattle.sessions.specs.Sessions.{queued}
 use Rattle.names.specs.Lists.{NameLists}
-use Rattle.records.specs.Examples.{typed}
+use Rattle.grammar.specs.Examples.{typed}
 use Rattle.lines.specs.Stream.{feedStart, feedState, transcript}
 
 -- "Whole input (blanks stand for tabs, in the output too)", "Whole output, no header", and the ids waiting afterwards

@@ -1,8 +1,8 @@
 // Pieces of a line: kept until the line ends, and parsed then.
 use crate::Extent;
 use crate::LONGEST;
+use grammar::Parsed;
 use parser::parse::parse_text;
-use records::Parsed;
 use requests::Device;
 ghost use mathlib.Core.Path.{_≡_};
 ghost use lib.Dec.{ltb};

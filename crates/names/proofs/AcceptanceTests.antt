@@ -3,11 +3,11 @@ use mathlib.Core.Path.{refl}
 use mathlib.Core.List.{flatMap}
 use Rattle.requests.specs.Choice.{both}
 use Rattle.requests.specs.Devices.{letterOf, devices, named, deviceOf}
-use Rattle.records.specs.Examples.{tabbed, typed}
-use Rattle.records.specs.Fields.{fields, sameBytes}
-use Rattle.records.specs.Letters.{lettered}
-use Rattle.records.specs.Numbers.{digitOf, numberFrom, hexOf}
-use Rattle.records.specs.Text.{bytes, tab, newline}
+use Rattle.grammar.specs.Examples.{tabbed, typed}
+use Rattle.grammar.specs.Fields.{fields, sameBytes}
+use Rattle.grammar.specs.Letters.{lettered}
+use Rattle.grammar.specs.Numbers.{digitOf, numberFrom, hexOf}
+use Rattle.grammar.specs.Text.{bytes, tab, newline}
 use Rattle.names.specs.EventNames.{nameByte, nameBytes, longestName, isName}
 use Rattle.names.specs.Lists.{rowTexts, isEnded, allFormed, wellFormed, listsFormed}
 use Rattle.names.specs.LookUp.{topRow, rowNamed}

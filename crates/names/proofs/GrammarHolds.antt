@@ -14,16 +14,16 @@ use Rattle.requests.specs.Choice.{both, pick}
 use Rattle.requests.specs.Devices.{letterOf, boxOf}
 use Rattle.requests.proofs.DeviceNumbers.{numbers}
 use Rattle.requests.proofs.Tests.{both-parts, true-both}
-use Rattle.records.specs.Text.{newline, hexText, lineOf}
-use Rattle.records.specs.Records.{Hex}
-use Rattle.records.specs.Fields.{fields, fieldAt}
-use Rattle.records.specs.Numbers.{hexOf}
-use Rattle.records.specs.Letters.{lettered}
-use Rattle.records.specs.declared.Number.{Number}
-use Rattle.records.specs.declared.Number.the-variants as number
-use Rattle.records.proofs.Hexes.{hex-reads, hex-only}
-use Rattle.records.proofs.LetterFields.{byLetter, letter-reads, lettered-only}
-use Rattle.records.proofs.Tabs as tabs
+use Rattle.grammar.specs.Text.{newline, hexText, lineOf}
+use Rattle.grammar.specs.Records.{Hex}
+use Rattle.grammar.specs.Fields.{fields, fieldAt}
+use Rattle.grammar.specs.Numbers.{hexOf}
+use Rattle.grammar.specs.Letters.{lettered}
+use Rattle.grammar.specs.declared.Number.{Number}
+use Rattle.grammar.specs.declared.Number.the-variants as number
+use Rattle.grammar.proofs.Hexes.{hex-reads, hex-only}
+use Rattle.grammar.proofs.LetterFields.{byLetter, letter-reads, lettered-only}
+use Rattle.grammar.proofs.Tabs as tabs
 use Rattle.names.specs.EventNames.{isName}
 use Rattle.names.specs.Rows.{withDevice, withNumber, numbersOn, rowOf, isFormed}
 use Rattle.names.specs.Lists.{rowTexts, isEnded, allFormed, wellFormed}

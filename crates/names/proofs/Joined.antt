@@ -8,8 +8,8 @@ use lib.Dec.{eqb}
 use lib.ListN.{length}
 use borrow.Author.Tests.{eqb-true, eq-eqb}
 use Rattle.requests.specs.Choice.{pick}
-use Rattle.records.specs.Text.{newline}
-use Rattle.records.proofs.Tabs.{lacks}
+use Rattle.grammar.specs.Text.{newline}
+use Rattle.grammar.proofs.Tabs.{lacks}
 use Rattle.names.specs.Lists.{ontoRow, rowTexts, isEnded}
 
 -- rows, each with its newline

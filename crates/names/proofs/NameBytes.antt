@@ -10,10 +10,10 @@ use lib.ListN.{length}
 use borrow.Author.Tests.{eqb-true, eqb-false, ltb-true, ltb-false, ne-eqb, le-ltb}
 use Rattle.requests.specs.Choice.{both, either, every, pick}
 use Rattle.requests.proofs.Tests.{both-parts, true-both, either-cases, every-at}
-use Rattle.records.specs.Text.{bytes, tab, newline}
+use Rattle.grammar.specs.Text.{bytes, tab, newline}
 use Rattle.names.specs.EventNames.{nameByte, nameBytes, longestName, isName, NameByte, IsName}
 use Rattle.names.specs.NamesTested.{NamesTested}
-use Rattle.records.proofs.Tabs.{lacks, oneField}
+use Rattle.grammar.proofs.Tabs.{lacks, oneField}
 
 -- what the test says of a name
 record Passed (f : List ℕ) : Type 0 where

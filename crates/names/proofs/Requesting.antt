@@ -19,8 +19,8 @@ use Rattle.requests.specs.declared.Device.the-variants.{G, S, C}
 use Rattle.requests.specs.declared.Refusal.the-variants.{KindNotOnDevice, NotListed}
 use Rattle.requests.specs.declared.Request.the-variants.{Event, Packet, Offcore}
 use Rattle.requests.specs.declared.Setup.{Setup}
-use Rattle.records.specs.Fields.{fields, fieldAt}
-use Rattle.records.specs.Records.{Decimal, AddFits}
+use Rattle.grammar.specs.Fields.{fields, fieldAt}
+use Rattle.grammar.specs.Records.{Decimal, AddFits}
 use Rattle.names.specs.Rows.{rowOf}
 use Rattle.names.specs.Lists.{NameLists}
 use Rattle.names.specs.RowGrammar.{RowFits}

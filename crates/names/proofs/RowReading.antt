@@ -9,11 +9,11 @@ use lib.ListN.{length}
 use borrow.Author.Tests.{eq-eqb, ne-eqb}
 use Rattle.requests.specs.declared.Device.{Device}
 use Rattle.requests.specs.Choice.{both}
-use Rattle.records.specs.Fields.{fields, fieldAt}
-use Rattle.records.specs.Letters.{lettered}
-use Rattle.records.specs.Numbers.{hexOf}
-use Rattle.records.specs.declared.Number.the-variants.{Value}
-use Rattle.records.proofs.Hexes.{hex-only}
+use Rattle.grammar.specs.Fields.{fields, fieldAt}
+use Rattle.grammar.specs.Letters.{lettered}
+use Rattle.grammar.specs.Numbers.{hexOf}
+use Rattle.grammar.specs.declared.Number.the-variants.{Value}
+use Rattle.grammar.proofs.Hexes.{hex-only}
 use Rattle.names.specs.EventNames.{isName}
 use Rattle.names.specs.Rows.{numbersOn, rowOf}
 use Rattle.names.specs.declared.RowRead.the-variants.{Bad}

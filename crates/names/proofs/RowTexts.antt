@@ -7,9 +7,9 @@ use native.Mathlib.Omega.{arith}
 use lib.ListN.{length, length-append, take}
 use lib.Seq.{take-at}
 use Rattle.requests.specs.Devices.{letterOf}
-use Rattle.records.specs.Text.{newline, hexText}
-use Rattle.records.proofs.Tabs as tabs
-use Rattle.records.proofs.Texts.{hex-plain, letter-plain}
+use Rattle.grammar.specs.Text.{newline, hexText}
+use Rattle.grammar.proofs.Tabs as tabs
+use Rattle.grammar.proofs.Texts.{hex-plain, letter-plain}
 use Rattle.names.specs.RowGrammar.{NamedRow, RowFits, rowLine}
 use Rattle.names.proofs.NameBytes.{name-field, names-tested}
 

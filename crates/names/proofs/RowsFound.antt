@@ -11,10 +11,10 @@ use native.Mathlib.Omega.{arith}
 use borrow.Author.Tests.{eq-eqb, ne-eqb, eqb-false}
 use Rattle.requests.specs.Choice.{both, pick}
 use Rattle.requests.proofs.Tests.{both-parts, both-false}
-use Rattle.records.specs.Text.{newline}
-use Rattle.records.proofs.Tabs.{lacks}
-use Rattle.records.specs.Fields.{fieldAt, sameBytes}
-use Rattle.records.proofs.WordLoops.{same-bytes}
+use Rattle.grammar.specs.Text.{newline}
+use Rattle.grammar.proofs.Tabs.{lacks}
+use Rattle.grammar.specs.Fields.{fieldAt, sameBytes}
+use Rattle.grammar.proofs.WordLoops.{same-bytes}
 use Rattle.names.specs.Rows.{rowOf, isFormed, hasName}
 use Rattle.names.specs.Lists.{NameLists, rowTexts, isEnded, allFormed, wellFormed, listsFormed}
 use Rattle.names.specs.LookUp.{topRow, orElse, rowNamed, shown}

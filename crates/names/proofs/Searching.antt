@@ -8,7 +8,7 @@ use native.Mathlib.Omega.{arith}
 use lib.ListN.{length}
 use Rattle.requests.specs.Choice.{both}
 use Rattle.requests.proofs.Tests.{both-parts, true-both}
-use Rattle.records.specs.Fields.{fields}
+use Rattle.grammar.specs.Fields.{fields}
 use Rattle.names.specs.Rows.{rowOf, isFormed, hasName}
 use Rattle.names.specs.Lists.{NameLists, rowTexts, isEnded, allFormed, wellFormed, listsFormed}
 use Rattle.names.specs.LookUp.{topRow, orElse, rowNamed, shown}

@@ -5,7 +5,7 @@ use Prim.Native.Nat.{ℕ, _≤_}
 use lib.ListN.{length}
 use lib.Dec.{ltb, eqb}
 use Rattle.requests.specs.Choice.{both, pick}
-use Rattle.records.specs.Text.{bytes}
+use Rattle.grammar.specs.Text.{bytes}
 
 -- an upper-case letter, a digit or an underscore
 unfoldable pub nameByte : ℕ → Bool

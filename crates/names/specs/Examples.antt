@@ -6,8 +6,8 @@ use mathlib.Core.Option.{Option, none, some}
 use Prim.Native.Nat.{ℕ}
 use Prim.Native.String.{String}
 use Rattle.requests.specs.declared.Device.the-variants.{G, S, C}
-use Rattle.records.specs.Text.{bytes, newline}
-use Rattle.records.specs.Examples.{tabbed, typed}
+use Rattle.grammar.specs.Text.{bytes, newline}
+use Rattle.grammar.specs.Examples.{tabbed, typed}
 use Rattle.names.specs.Rows.{rowOf}
 use Rattle.names.specs.Lists.{NameLists, wellFormed}
 use Rattle.names.specs.LookUp.{rowNamed}

@@ -4,7 +4,7 @@ use mathlib.Core.List.{List, [], _∷_}
 use Prim.Native.Nat.{ℕ, suc}
 use lib.Dec.{eqb}
 use Rattle.requests.specs.Choice.{both, pick}
-use Rattle.records.specs.Text.{newline}
+use Rattle.grammar.specs.Text.{newline}
 use Rattle.names.specs.Rows.{rowOf, isFormed}
 
 -- the two lists, as bytes

@@ -4,9 +4,9 @@ use mathlib.Core.Bool.{true}
 use mathlib.Core.List.{List, [], _∷_, _++_}
 use Prim.Native.Nat.{ℕ}
 use Rattle.requests.specs.Devices.{letterOf, boxOf}
-use Rattle.records.specs.Text.{newline, hexText, lineOf}
-use Rattle.records.specs.Records.{Hex}
-use Rattle.records.specs.Fields.{fieldAt}
+use Rattle.grammar.specs.Text.{newline, hexText, lineOf}
+use Rattle.grammar.specs.Records.{Hex}
+use Rattle.grammar.specs.Fields.{fieldAt}
 use Rattle.names.specs.EventNames.{IsName}
 use Rattle.names.specs.Rows.{rowOf}
 use Rattle.names.specs.Lists.{NameLists, wellFormed, listsFormed}

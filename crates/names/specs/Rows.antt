@@ -7,11 +7,11 @@ use lib.ListN.{length}
 use lib.Dec.{eqb}
 use Rattle.requests.specs.declared.Device.{Device}
 use Rattle.requests.specs.Choice.{both, pick}
-use Rattle.records.specs.Fields.{fields, fieldAt, sameBytes}
-use Rattle.records.specs.Letters.{lettered}
-use Rattle.records.specs.Numbers.{hexOf}
-use Rattle.records.specs.declared.Number.{Number}
-use Rattle.records.specs.declared.Number.the-variants as number
+use Rattle.grammar.specs.Fields.{fields, fieldAt, sameBytes}
+use Rattle.grammar.specs.Letters.{lettered}
+use Rattle.grammar.specs.Numbers.{hexOf}
+use Rattle.grammar.specs.declared.Number.{Number}
+use Rattle.grammar.specs.declared.Number.the-variants as number
 use Rattle.names.specs.EventNames.{isName}
 use Rattle.names.specs.declared.RowRead.{RowRead}
 use Rattle.names.specs.declared.RowRead.the-variants.{Formed, Bad}

@@ -5,8 +5,8 @@ use mathlib.Core.Bool.{true, false}
 use mathlib.Core.List.{List, [], _∷_, _++_, List·Memᴰ}
 use mathlib.Core.Option.{none, some}
 use Prim.Native.Nat.{ℕ}
-use Rattle.records.specs.Text.{newline}
-use Rattle.records.specs.Fields.{fieldAt}
+use Rattle.grammar.specs.Text.{newline}
+use Rattle.grammar.specs.Fields.{fieldAt}
 use Rattle.names.specs.Rows.{rowOf, isFormed}
 use Rattle.names.specs.Lists.{NameLists, wellFormed, listsFormed}
 use Rattle.names.specs.LookUp.{rowNamed, shown}

@@ -2,17 +2,17 @@
 use crate::Row;
 use crate::RowRead;
 use crate::event_names::is_name;
-use records::Lettered;
-use records::Number;
-use records::Parts;
-use records::fields::field;
-use records::fields::is_word;
-use records::fields::number_at;
-use records::fields::parts_of;
-use records::letters::device_at;
+use grammar::Lettered;
+use grammar::Number;
+use grammar::Parts;
+use grammar::fields::field;
+use grammar::fields::is_word;
+use grammar::fields::number_at;
+use grammar::fields::parts_of;
+use grammar::letters::device_at;
 use requests::Device;
 ghost use mathlib.Core.Path.{_≡_};
-ghost use Rattle.records.specs.Parts.{Parted};
+ghost use Rattle.grammar.specs.Parts.{Parted};
 ghost use Rattle.names.specs.Rows.{numbersOn, rowOf, hasName, isFormed};
 
 // How many fields a row has.

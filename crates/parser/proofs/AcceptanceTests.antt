@@ -3,13 +3,13 @@ use mathlib.Core.Path.{refl}
 use mathlib.Core.List.{flatMap}
 use Rattle.requests.specs.Choice.{both, firstHolding}
 use Rattle.requests.specs.Devices.{letterOf, devices, named, deviceOf, packetsOn}
-use Rattle.records.specs.Examples.{tabbed, typed}
-use Rattle.records.specs.Fields.{fields, sameBytes}
-use Rattle.records.specs.Letters.{lettered}
-use Rattle.records.specs.Numbers.{digitOf, numberFrom, decimalOf, hexOf, coreNumberOf, coreOf}
-use Rattle.records.specs.Parse.{longest, tooLong, isClosed, textLength}
-use Rattle.records.specs.Text.{bytes, tab, newline}
-use Rattle.records.specs.Verbs.{lineFrom, openFormats, openAs, openWith, openOn, openLine, eventLine, packetLine, offcoreLine, latencyLine, dropLine, turnLine, hasVerb, verbs, recordOf}
+use Rattle.grammar.specs.Examples.{tabbed, typed}
+use Rattle.grammar.specs.Fields.{fields, sameBytes}
+use Rattle.grammar.specs.Letters.{lettered}
+use Rattle.grammar.specs.Numbers.{digitOf, numberFrom, decimalOf, hexOf, coreNumberOf, coreOf}
+use Rattle.grammar.specs.Parse.{longest, tooLong, isClosed, textLength}
+use Rattle.grammar.specs.Text.{bytes, tab, newline}
+use Rattle.grammar.specs.Verbs.{lineFrom, openFormats, openAs, openWith, openOn, openLine, eventLine, packetLine, offcoreLine, latencyLine, dropLine, turnLine, hasVerb, verbs, recordOf}
 use Rattle.names.specs.EventNames.{nameByte, nameBytes, longestName, isName}
 use Rattle.names.specs.Lists.{rowTexts, isEnded, allFormed, wellFormed, listsFormed}
 use Rattle.names.specs.LookUp.{topRow, rowNamed}

@@ -13,25 +13,25 @@ use Rattle.requests.specs.declared.CounterSet.{CounterSet}
 use Rattle.requests.specs.declared.Device.{Device}
 use Rattle.requests.specs.declared.Device.the-variants.{G}
 use Rattle.requests.specs.declared.Request.{Request}
-use Rattle.records.specs.Text.{bytes}
-use Rattle.records.specs.Fields.{fields, fieldAt}
-use Rattle.records.specs.Numbers.{decimalOf}
-use Rattle.records.specs.Records.{recordFields, Fits}
-use Rattle.records.specs.Verbs.{isWhole, setOf, hasVerb, recordOf}
-use Rattle.records.specs.Parse.{isClosed, textLength}
-use Rattle.records.specs.FirstBroken.{lineFields}
-use Rattle.records.specs.declared.Number.{Number}
-use Rattle.records.specs.declared.Number.the-variants.{Value, Bad}
-use Rattle.records.specs.declared.Record.{Record}
-use Rattle.records.specs.declared.Parsed.{Parsed}
-use Rattle.records.specs.declared.Parsed.the-variants.{Line, Named, Fault}
-use Rattle.records.proofs.Outcomes.{bad-not-value, fault-not-line}
-use Rattle.records.proofs.Decimals.{decimal-only}
-use Rattle.records.proofs.WordLoops.{same-bytes}
-use Rattle.records.proofs.Texts as records
-use Rattle.records.proofs.Reading.{fields-read}
-use Rattle.records.proofs.BrokenFields.{Agree, more-fields, decimal-missing, present}
-use Rattle.records.proofs.FirstBroken.{Tells, some-fields, text-fault, agree}
+use Rattle.grammar.specs.Text.{bytes}
+use Rattle.grammar.specs.Fields.{fields, fieldAt}
+use Rattle.grammar.specs.Numbers.{decimalOf}
+use Rattle.grammar.specs.Records.{recordFields, Fits}
+use Rattle.grammar.specs.Verbs.{isWhole, setOf, hasVerb, recordOf}
+use Rattle.grammar.specs.Parse.{isClosed, textLength}
+use Rattle.grammar.specs.FirstBroken.{lineFields}
+use Rattle.grammar.specs.declared.Number.{Number}
+use Rattle.grammar.specs.declared.Number.the-variants.{Value, Bad}
+use Rattle.grammar.specs.declared.Record.{Record}
+use Rattle.grammar.specs.declared.Parsed.{Parsed}
+use Rattle.grammar.specs.declared.Parsed.the-variants.{Line, Named, Fault}
+use Rattle.grammar.proofs.Outcomes.{bad-not-value, fault-not-line}
+use Rattle.grammar.proofs.Decimals.{decimal-only}
+use Rattle.grammar.proofs.WordLoops.{same-bytes}
+use Rattle.grammar.proofs.Texts as records
+use Rattle.grammar.proofs.Reading.{fields-read}
+use Rattle.grammar.proofs.BrokenFields.{Agree, more-fields, decimal-missing, present}
+use Rattle.grammar.proofs.FirstBroken.{Tells, some-fields, text-fault, agree}
 use Rattle.names.specs.EventNames.{nameByte, nameBytes, longestName, isName, IsName}
 use Rattle.names.specs.Lists.{NameLists}
 use Rattle.names.specs.RowGrammar.{listText, empty, AreLists}

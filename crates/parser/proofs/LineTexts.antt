@@ -8,7 +8,7 @@ use lib.ListN.{take, length-take}
 use lib.Seq.{take-take, take-all}
 use borrow.Author.Tests.{le-ltb, lt-ltb}
 use Rattle.requests.specs.declared.Device.{Device}
-use Rattle.records.specs.Parse.{longest, isClosed, textLength}
+use Rattle.grammar.specs.Parse.{longest, isClosed, textLength}
 use Rattle.names.specs.Lists.{NameLists}
 use Rattle.parser.specs.ParseWith.{parseTextWith, parseLineWith}
 

@@ -5,9 +5,9 @@ use mathlib.Core.List.{List}
 use Prim.Native.Nat.{ℕ}
 use lib.Dec.{ltb}
 use Rattle.requests.specs.declared.Device.{Device}
-use Rattle.records.specs.Verbs.{hasVerb}
-use Rattle.records.specs.Parse.{longest, tooLong, parseText, isClosed, textLength, textOf, parseLine}
-use Rattle.records.specs.declared.Parsed.the-variants.{Fault}
+use Rattle.grammar.specs.Verbs.{hasVerb}
+use Rattle.grammar.specs.Parse.{longest, tooLong, parseText, isClosed, textLength, textOf, parseLine}
+use Rattle.grammar.specs.declared.Parsed.the-variants.{Fault}
 use Rattle.names.specs.Lists.{NameLists}
 use Rattle.parser.specs.ParseWith.{parseTextWith, parseLineWith}
 use Rattle.parser.proofs.VerbsRead.{named-no-record, asked-record}

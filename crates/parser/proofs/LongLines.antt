@@ -12,21 +12,21 @@ use lib.Seq.{take-all, length-take-le}
 use borrow.Author.Tests.{ne-eqb, lt-ltb, le-ltb, eqb-true}
 use Rattle.requests.specs.Choice.{both, pick}
 use Rattle.requests.specs.declared.Device.{Device}
-use Rattle.records.specs.Text.{bytes}
-use Rattle.records.specs.Fields.{fields, fieldAt}
-use Rattle.records.specs.Numbers.{decimalOf}
-use Rattle.records.specs.Verbs.{withNumber, isWhole, setOf, hasVerb, recordOf}
-use Rattle.records.specs.Parse.{longest, tooLong, isClosed, textLength}
-use Rattle.records.specs.declared.Number.{Number}
-use Rattle.records.specs.declared.Number.the-variants.{Value, Bad}
-use Rattle.records.specs.declared.Parsed.{Parsed}
-use Rattle.records.specs.declared.Parsed.the-variants.{Named, Fault}
-use Rattle.records.proofs.CutFields.{CutAt, cut-at, SameFault, Field, cut-field, cut-ends, First, endless, whole, first-field}
-use Rattle.records.proofs.LongLines.{decimal-field, no-word, verb-room, record-cut, text-size}
-use Rattle.records.proofs.ReadBack.{record-tells}
-use Rattle.records.proofs.Settled as settled
-use Rattle.records.proofs.Settled.{Settled, record-settled}
-use Rattle.records.proofs.Unclosed.{number-unclosed, record-unclosed}
+use Rattle.grammar.specs.Text.{bytes}
+use Rattle.grammar.specs.Fields.{fields, fieldAt}
+use Rattle.grammar.specs.Numbers.{decimalOf}
+use Rattle.grammar.specs.Verbs.{withNumber, isWhole, setOf, hasVerb, recordOf}
+use Rattle.grammar.specs.Parse.{longest, tooLong, isClosed, textLength}
+use Rattle.grammar.specs.declared.Number.{Number}
+use Rattle.grammar.specs.declared.Number.the-variants.{Value, Bad}
+use Rattle.grammar.specs.declared.Parsed.{Parsed}
+use Rattle.grammar.specs.declared.Parsed.the-variants.{Named, Fault}
+use Rattle.grammar.proofs.CutFields.{CutAt, cut-at, SameFault, Field, cut-field, cut-ends, First, endless, whole, first-field}
+use Rattle.grammar.proofs.LongLines.{decimal-field, no-word, verb-room, record-cut, text-size}
+use Rattle.grammar.proofs.ReadBack.{record-tells}
+use Rattle.grammar.proofs.Settled as settled
+use Rattle.grammar.proofs.Settled.{Settled, record-settled}
+use Rattle.grammar.proofs.Unclosed.{number-unclosed, record-unclosed}
 use Rattle.names.specs.EventNames.{longestName, isName}
 use Rattle.names.specs.Lists.{NameLists, listsFormed}
 use Rattle.names.specs.Named.{requestNamed}

@@ -11,17 +11,17 @@ use Rattle.requests.specs.Choice.{both}
 use Rattle.requests.specs.declared.CounterSet.{CounterSet}
 use Rattle.requests.specs.declared.Device.{Device}
 use Rattle.requests.proofs.Tests.{both-parts}
-use Rattle.records.specs.Text.{bytes, tab, newline, decimalText, lineOf}
-use Rattle.records.specs.Fields.{fields, fieldAt, sameBytes}
-use Rattle.records.specs.Numbers.{decimalOf}
-use Rattle.records.specs.Verbs.{isWhole, setOf, hasVerb}
-use Rattle.records.specs.declared.Number.{Number}
-use Rattle.records.specs.declared.Number.the-variants.{Value, Bad}
-use Rattle.records.specs.declared.Parsed.the-variants.{Fault}
-use Rattle.records.proofs.Decimals.{decimal-reads, decimal-only}
-use Rattle.records.proofs.Tabs as tabs
-use Rattle.records.proofs.Texts.{decimal-plain}
-use Rattle.records.proofs.WordLoops.{same-bytes}
+use Rattle.grammar.specs.Text.{bytes, tab, newline, decimalText, lineOf}
+use Rattle.grammar.specs.Fields.{fields, fieldAt, sameBytes}
+use Rattle.grammar.specs.Numbers.{decimalOf}
+use Rattle.grammar.specs.Verbs.{isWhole, setOf, hasVerb}
+use Rattle.grammar.specs.declared.Number.{Number}
+use Rattle.grammar.specs.declared.Number.the-variants.{Value, Bad}
+use Rattle.grammar.specs.declared.Parsed.the-variants.{Fault}
+use Rattle.grammar.proofs.Decimals.{decimal-reads, decimal-only}
+use Rattle.grammar.proofs.Tabs as tabs
+use Rattle.grammar.proofs.Texts.{decimal-plain}
+use Rattle.grammar.proofs.WordLoops.{same-bytes}
 use Rattle.names.specs.EventNames.{isName}
 use Rattle.names.specs.Lists.{NameLists}
 use Rattle.names.proofs.GrammarHolds.{four}

@@ -16,23 +16,23 @@ use Rattle.requests.specs.declared.CounterSet.{CounterSet}
 use Rattle.requests.specs.declared.Device.{Device}
 use Rattle.requests.specs.declared.Request.{Request}
 use Rattle.requests.specs.declared.Request.the-variants.{Event}
-use Rattle.records.specs.Text.{bytes}
-use Rattle.records.specs.Fields.{fields, fieldAt}
-use Rattle.records.specs.Verbs.{hasVerb}
-use Rattle.records.specs.Parse.{longest, isClosed, textLength, textOf, parseLine, parsedRefusal}
-use Rattle.records.specs.Records.{recordText, AddFits}
-use Rattle.records.specs.Grammar.{IsText}
-use Rattle.records.specs.declared.Record.{Record}
-use Rattle.records.specs.declared.Record.the-variants.{Add}
-use Rattle.records.specs.declared.Parsed.{Parsed}
-use Rattle.records.specs.declared.Parsed.the-variants.{Line, Named, Fault}
-use Rattle.records.proofs.Closings.{Closed, closed-text, closed-only}
-use Rattle.records.proofs.GrammarHolds.{grammar}
-use Rattle.records.proofs.LineEnds.{text-within}
-use Rattle.records.proofs.Outcomes.{fault-not-line}
-use Rattle.records.proofs.Settled as settled
-use Rattle.records.proofs.Settled.{Settled, line-is}
-use Rattle.records.proofs.WordLoops.{same-bytes}
+use Rattle.grammar.specs.Text.{bytes}
+use Rattle.grammar.specs.Fields.{fields, fieldAt}
+use Rattle.grammar.specs.Verbs.{hasVerb}
+use Rattle.grammar.specs.Parse.{longest, isClosed, textLength, textOf, parseLine, parsedRefusal}
+use Rattle.grammar.specs.Records.{recordText, AddFits}
+use Rattle.grammar.specs.Grammar.{IsText}
+use Rattle.grammar.specs.declared.Record.{Record}
+use Rattle.grammar.specs.declared.Record.the-variants.{Add}
+use Rattle.grammar.specs.declared.Parsed.{Parsed}
+use Rattle.grammar.specs.declared.Parsed.the-variants.{Line, Named, Fault}
+use Rattle.grammar.proofs.Closings.{Closed, closed-text, closed-only}
+use Rattle.grammar.proofs.GrammarHolds.{grammar}
+use Rattle.grammar.proofs.LineEnds.{text-within}
+use Rattle.grammar.proofs.Outcomes.{fault-not-line}
+use Rattle.grammar.proofs.Settled as settled
+use Rattle.grammar.proofs.Settled.{Settled, line-is}
+use Rattle.grammar.proofs.WordLoops.{same-bytes}
 use Rattle.names.specs.Lists.{NameLists, listsFormed}
 use Rattle.names.specs.Named.{requestNamed}
 use Rattle.names.specs.NamedRequests.{Finds}

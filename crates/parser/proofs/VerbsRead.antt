@@ -8,13 +8,13 @@ use Prim.Native.String.{String}
 use Rattle.requests.specs.Choice.{firstHolding}
 use Rattle.requests.specs.declared.CounterSet.{CounterSet}
 use Rattle.requests.specs.declared.Device.{Device}
-use Rattle.records.specs.Text.{bytes}
-use Rattle.records.specs.Fields.{fieldAt, sameBytes}
-use Rattle.records.specs.Verbs.{hasVerb, verbs, recordOf}
-use Rattle.records.specs.declared.Parsed.{Parsed}
-use Rattle.records.specs.declared.Parsed.the-variants.{Named, Fault}
-use Rattle.records.proofs.VerbRows.{read-by, no-verb}
-use Rattle.records.proofs.WordLoops.{same-bytes}
+use Rattle.grammar.specs.Text.{bytes}
+use Rattle.grammar.specs.Fields.{fieldAt, sameBytes}
+use Rattle.grammar.specs.Verbs.{hasVerb, verbs, recordOf}
+use Rattle.grammar.specs.declared.Parsed.{Parsed}
+use Rattle.grammar.specs.declared.Parsed.the-variants.{Named, Fault}
+use Rattle.grammar.proofs.VerbRows.{read-by, no-verb}
+use Rattle.grammar.proofs.WordLoops.{same-bytes}
 use Rattle.names.specs.Lists.{NameLists, listsFormed}
 use Rattle.names.specs.Named.{requestNamed}
 use Rattle.parser.specs.ParseWith.{addNamed, namedLine, recordWith}

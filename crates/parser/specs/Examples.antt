@@ -7,11 +7,11 @@ use Rattle.requests.specs.declared.CounterSet.{CounterSet}
 use Rattle.requests.specs.declared.Device.{Device}
 use Rattle.requests.specs.declared.Device.the-variants.{G, S, C}
 use Rattle.requests.specs.declared.Request.the-variants.{Event, Packet, Offcore}
-use Rattle.records.specs.Text.{newline}
-use Rattle.records.specs.Examples.{tabbed, typed}
-use Rattle.records.specs.declared.Record.the-variants.{Add, Turn}
-use Rattle.records.specs.declared.Parsed.{Parsed}
-use Rattle.records.specs.declared.Parsed.the-variants.{Line, Named, Fault}
+use Rattle.grammar.specs.Text.{newline}
+use Rattle.grammar.specs.Examples.{tabbed, typed}
+use Rattle.grammar.specs.declared.Record.the-variants.{Add, Turn}
+use Rattle.grammar.specs.declared.Parsed.{Parsed}
+use Rattle.grammar.specs.declared.Parsed.the-variants.{Line, Named, Fault}
 use Rattle.names.specs.Lists.{NameLists}
 use Rattle.parser.specs.ParseWith.{parseLineWith}
 

@@ -6,8 +6,8 @@ use Prim.Native.Nat.{ℕ, suc, _≤_, _<_}
 use lib.ListN.{length, take}
 use Rattle.requests.specs.declared.CounterSet.{CounterSet}
 use Rattle.requests.specs.declared.Device.{Device}
-use Rattle.records.specs.FirstBroken.{lineFields, BeginsRecord}
-use Rattle.records.specs.declared.Parsed.the-variants.{Fault}
+use Rattle.grammar.specs.FirstBroken.{lineFields, BeginsRecord}
+use Rattle.grammar.specs.declared.Parsed.the-variants.{Fault}
 use Rattle.names.specs.Lists.{NameLists}
 use Rattle.names.specs.RowGrammar.{AreLists}
 use Rattle.parser.specs.NamedText.{namedFields, NamedFits, Outside}

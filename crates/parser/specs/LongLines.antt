@@ -6,8 +6,8 @@ use mathlib.Core.List.{List}
 use Prim.Native.Nat.{ℕ, _<_, _≤_}
 use lib.ListN.{length, take}
 use Rattle.requests.specs.declared.Device.{Device}
-use Rattle.records.specs.Parse.{longest, isClosed, textLength}
-use Rattle.records.specs.declared.Parsed.the-variants.{Fault}
+use Rattle.grammar.specs.Parse.{longest, isClosed, textLength}
+use Rattle.grammar.specs.declared.Parsed.the-variants.{Fault}
 use Rattle.names.specs.Lists.{NameLists}
 use Rattle.parser.specs.ParseWith.{recordWith, parseTextWith, parseLineWith}
 

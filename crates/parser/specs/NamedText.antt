@@ -3,10 +3,10 @@ use mathlib.Core.Path.{_≡_}
 use mathlib.Core.List.{List, [], _∷_}
 use Prim.Native.Nat.{ℕ}
 use Rattle.requests.specs.declared.CounterSet.{CounterSet}
-use Rattle.records.specs.Text.{bytes, decimalText, lineOf}
-use Rattle.records.specs.Records.{Decimal}
-use Rattle.records.specs.Grammar.{IsText}
-use Rattle.records.specs.declared.Record.{Record}
+use Rattle.grammar.specs.Text.{bytes, decimalText, lineOf}
+use Rattle.grammar.specs.Records.{Decimal}
+use Rattle.grammar.specs.Grammar.{IsText}
+use Rattle.grammar.specs.declared.Record.{Record}
 use Rattle.names.specs.EventNames.{IsName}
 
 -- "`named` id name allowed"

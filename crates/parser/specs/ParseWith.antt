@@ -7,12 +7,12 @@ use lib.Dec.{ltb}
 use Rattle.requests.specs.Choice.{pick}
 use Rattle.requests.specs.declared.CounterSet.{CounterSet}
 use Rattle.requests.specs.declared.Device.{Device}
-use Rattle.records.specs.Fields.{fields, fieldAt}
-use Rattle.records.specs.Numbers.{decimalOf}
-use Rattle.records.specs.Verbs.{withNumber, isWhole, setOf, hasVerb, recordOf}
-use Rattle.records.specs.Parse.{longest, tooLong, isClosed, textLength, textOf}
-use Rattle.records.specs.declared.Parsed.{Parsed}
-use Rattle.records.specs.declared.Parsed.the-variants.{Named, Fault}
+use Rattle.grammar.specs.Fields.{fields, fieldAt}
+use Rattle.grammar.specs.Numbers.{decimalOf}
+use Rattle.grammar.specs.Verbs.{withNumber, isWhole, setOf, hasVerb, recordOf}
+use Rattle.grammar.specs.Parse.{longest, tooLong, isClosed, textLength, textOf}
+use Rattle.grammar.specs.declared.Parsed.{Parsed}
+use Rattle.grammar.specs.declared.Parsed.the-variants.{Named, Fault}
 use Rattle.names.specs.EventNames.{isName}
 use Rattle.names.specs.Lists.{NameLists, listsFormed}
 use Rattle.names.specs.Named.{requestNamed}

@@ -9,14 +9,14 @@ use Rattle.requests.specs.declared.CounterSet.{CounterSet}
 use Rattle.requests.specs.declared.Device.{Device}
 use Rattle.requests.specs.declared.Request.{Request}
 use Rattle.requests.specs.declared.Request.the-variants.{Event}
-use Rattle.records.specs.Text.{bytes}
-use Rattle.records.specs.Fields.{fieldAt}
-use Rattle.records.specs.Parse.{textOf, parseLine, parsedRefusal}
-use Rattle.records.specs.Records.{recordText, Fits, AddFits}
-use Rattle.records.specs.Grammar.{IsText}
-use Rattle.records.specs.declared.Record.{Record}
-use Rattle.records.specs.declared.Record.the-variants.{Add}
-use Rattle.records.specs.declared.Parsed.the-variants.{Line, Named, Fault}
+use Rattle.grammar.specs.Text.{bytes}
+use Rattle.grammar.specs.Fields.{fieldAt}
+use Rattle.grammar.specs.Parse.{textOf, parseLine, parsedRefusal}
+use Rattle.grammar.specs.Records.{recordText, Fits, AddFits}
+use Rattle.grammar.specs.Grammar.{IsText}
+use Rattle.grammar.specs.declared.Record.{Record}
+use Rattle.grammar.specs.declared.Record.the-variants.{Add}
+use Rattle.grammar.specs.declared.Parsed.the-variants.{Line, Named, Fault}
 use Rattle.names.specs.Lists.{NameLists}
 use Rattle.names.specs.RowGrammar.{AreLists}
 use Rattle.names.specs.Named.{requestNamed}

@@ -1,11 +1,11 @@
 // Lines and texts to what they ask for.
 use crate::verbs::record_with;
-use records::LONGEST;
-use records::Parsed;
-use records::fields::parts_of;
+use grammar::LONGEST;
+use grammar::Parsed;
+use grammar::fields::parts_of;
 use requests::Device;
 ghost use mathlib.Core.Path.{_≡_};
-ghost use Rattle.records.specs.Parse.{tooLong, isClosed, textLength};
+ghost use Rattle.grammar.specs.Parse.{tooLong, isClosed, textLength};
 ghost use Rattle.names.specs.Lists.{NameLists};
 ghost use Rattle.parser.specs.ParseWith.{parseTextWith, parseLineWith};
 

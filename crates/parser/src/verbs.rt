@@ -1,18 +1,18 @@
 // What a text asks for, by its verb.
 use crate::named_lines::named_line;
-use records::Parsed;
-use records::Parts;
-use records::fields::is_word;
-use records::verbs::drop_line;
-use records::verbs::event_line;
-use records::verbs::latency_line;
-use records::verbs::offcore_line;
-use records::verbs::open_line;
-use records::verbs::packet_line;
-use records::verbs::turn_line;
+use grammar::Parsed;
+use grammar::Parts;
+use grammar::fields::is_word;
+use grammar::verbs::drop_line;
+use grammar::verbs::event_line;
+use grammar::verbs::latency_line;
+use grammar::verbs::offcore_line;
+use grammar::verbs::open_line;
+use grammar::verbs::packet_line;
+use grammar::verbs::turn_line;
 use requests::Device;
 ghost use mathlib.Core.Path.{_≡_};
-ghost use Rattle.records.specs.Parts.{Parted};
+ghost use Rattle.grammar.specs.Parts.{Parted};
 ghost use Rattle.names.specs.Lists.{NameLists};
 ghost use Rattle.parser.specs.ParseWith.{recordWith};
 

@@ -1,7 +1,7 @@
 -- `answers::answer_lines::put_answer` puts `answerText`: the parts of its line one after another (`then`).
 use borrow.Author.Needs.{needs}
 use native.Mathlib.Omega.{arith}
-use Rattle.records.specs.Text.{bytes, tab, newline, lineOf}
+use Rattle.grammar.specs.Text.{bytes, tab, newline, lineOf}
 use Rattle.answers.specs.Replies.{answerText}
 use Rattle.answers.proofs.Putting.{then}
 use Rattle.answers.proofs.LineTexts.{field-end}

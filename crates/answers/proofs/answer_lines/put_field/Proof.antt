@@ -1,7 +1,7 @@
 -- `answers::answer_lines::put_field` puts a tab and the number, one after another (`then`).
 use borrow.Author.Needs.{needs}
 use native.Mathlib.Omega.{arith}
-use Rattle.records.specs.Text.{tab}
+use Rattle.grammar.specs.Text.{tab}
 use Rattle.answers.proofs.Putting.{then}
 use Rattle.answers.proofs.answer_lines.put_field.Statement.{statement}
 use Rattle.answers.proofs.answer_lines.put_field.Tie as tie

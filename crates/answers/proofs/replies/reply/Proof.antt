@@ -5,8 +5,8 @@ use mathlib.Core.Logic.{⊎-elim}
 use native.Mathlib.Omega.{arith}
 use denote.Ref.{now}
 use Rattle.requests.specs.Refusals.{answerFor}
-use Rattle.records.specs.Parse.{parsedRefusal}
-use Rattle.records.specs.declared.Record.{Record}
+use Rattle.grammar.specs.Parse.{parsedRefusal}
+use Rattle.grammar.specs.declared.Record.{Record}
 use Rattle.queue_rows.specs.Rows.{Sized}
 use Rattle.queue_rows.specs.Heads.{sessionIn, answeredIn}
 use Rattle.answers.specs.Replies.{replyAt, recordReply, parsedReply}

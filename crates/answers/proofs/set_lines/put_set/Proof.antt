@@ -2,7 +2,7 @@
 use borrow.Author.Needs.{needs}
 use native.Mathlib.Omega.{arith}
 use mathlib.Core.List.{append-nil}
-use Rattle.records.specs.Text.{bytes, tab, newline, lineOf}
+use Rattle.grammar.specs.Text.{bytes, tab, newline, lineOf}
 use Rattle.answers.specs.Replies.{setLines}
 use Rattle.answers.proofs.Putting.{then}
 use Rattle.answers.proofs.LineTexts.{hex-end}

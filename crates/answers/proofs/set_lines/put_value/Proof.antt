@@ -1,7 +1,7 @@
 -- `answers::set_lines::put_value` puts `hexText 16`: of 0 at once, and of a number below 2^32 behind eight zeros (`hex-zeros`).
 use borrow.Author.Needs.{needs}
 use native.Mathlib.Omega.{arith}
-use Rattle.records.specs.Text.{bytes, hexDigit, hexText}
+use Rattle.grammar.specs.Text.{bytes, hexDigit, hexText}
 use Rattle.answers.proofs.Putting.{then}
 use Rattle.answers.proofs.Numerals.{hex-zeros}
 use Rattle.answers.proofs.set_lines.put_value.Statement.{statement}

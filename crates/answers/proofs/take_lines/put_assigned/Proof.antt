@@ -1,7 +1,7 @@
 -- `answers::take_lines::put_assigned` puts `takeLines`: a law for each kind of place, and the parts one after another (`then`).
 use borrow.Author.Needs.{needs}
 use native.Mathlib.Omega.{arith}
-use Rattle.records.specs.Text.{bytes, newline}
+use Rattle.grammar.specs.Text.{bytes, newline}
 use Rattle.answers.proofs.Putting.{then}
 use Rattle.answers.proofs.LineTexts.{number-end, start-end, take-counter, take-rsp, take-pair}
 use Rattle.answers.proofs.take_lines.put_assigned.Statement.{statement}

@@ -1,7 +1,7 @@
 -- `answers::take_lines::put_start` puts a `take` line up to its register: its parts one after another (`then`).
 use borrow.Author.Needs.{needs}
 use native.Mathlib.Omega.{arith}
-use Rattle.records.specs.Text.{bytes, tab}
+use Rattle.grammar.specs.Text.{bytes, tab}
 use Rattle.answers.specs.Texts.{takeStart}
 use Rattle.answers.proofs.Putting.{then}
 use Rattle.answers.proofs.LineTexts.{number-end}

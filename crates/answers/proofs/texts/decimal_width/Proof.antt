@@ -4,7 +4,7 @@ use mathlib.Core.Path.{_≡_, ap}
 use Prim.Native.Nat.{_+_, _≤_}
 use native.Mathlib.Omega.{arith}
 use lib.ListN.{length, length-append}
-use Rattle.records.specs.Text.{decimalText}
+use Rattle.grammar.specs.Text.{decimalText}
 use Rattle.answers.proofs.Lengths.{decimal-length}
 use Rattle.answers.proofs.Numerals.{decimal-few, decimal-more}
 use Rattle.answers.proofs.texts.decimal_width.Statement.{statement}

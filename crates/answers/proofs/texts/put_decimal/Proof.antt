@@ -9,7 +9,7 @@ use native.Mathlib.Omega.{arith}
 use denote.Ref.{now}
 use lib.ListN.{length, take, length-append, length-set}
 use lib.Seq.{take-all}
-use Rattle.records.specs.Text.{decimalText}
+use Rattle.grammar.specs.Text.{decimalText}
 use Rattle.answers.proofs.Lengths.{decimal-length}
 use Rattle.answers.proofs.Putting.{PutFrom, from-length, none-put, digit-before}
 use Rattle.answers.proofs.Numerals.{decimal-few, decimal-more, decimal-some}

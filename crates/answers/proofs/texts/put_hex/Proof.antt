@@ -7,8 +7,8 @@ use native.Mathlib.Omega.{arith}
 use denote.Ref.{now}
 use lib.ListN.{take}
 use lib.Seq.{take-all}
-use Rattle.records.specs.Text.{bytes, hexDigit, hexText}
-use Rattle.records.proofs.Hexes.{hex-length}
+use Rattle.grammar.specs.Text.{bytes, hexDigit, hexText}
+use Rattle.grammar.proofs.Hexes.{hex-length}
 use Rattle.answers.proofs.Putting.{PutFrom, from-length, none-put, digit-before, all-put}
 use Rattle.answers.proofs.Numerals.{hex-next, digit-at}
 use Rattle.answers.proofs.texts.put_hex.Statement.{statement}

@@ -4,7 +4,7 @@ use Prim.Native.Nat.{_-_, _≤_}
 use native.Mathlib.Omega.{arith}
 use denote.Ref.{now}
 use lib.ListN.{length, take}
-use Rattle.records.specs.Text.{newline}
+use Rattle.grammar.specs.Text.{newline}
 use Rattle.lines.specs.Pieces.{NewlineFree}
 use Rattle.lines.proofs.Runs.{free-next}
 use Rattle.lines.proofs.newlines.newline_in.Statement.{statement}

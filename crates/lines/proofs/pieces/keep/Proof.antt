@@ -5,7 +5,7 @@ use native.Mathlib.Omega.{arith}
 use denote.Ref.{now}
 use lib.ListN.{length, drop}
 use lib.Seq.{drop-length}
-use Rattle.records.specs.Parse.{longest}
+use Rattle.grammar.specs.Parse.{longest}
 use Rattle.sessions.specs.declared.Session.{Session}
 use Rattle.names.specs.Lists.{NameLists}
 use Rattle.lines.specs.Pieces.{NewlineFree, stateOf}

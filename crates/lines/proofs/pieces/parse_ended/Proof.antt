@@ -3,7 +3,7 @@ use mathlib.Core.Logic.{⊎-elim}
 use mathlib.Core.Path.{sym, _∙_}
 use borrow.Author.Needs.{needs}
 use denote.Ref.{now}
-use Rattle.records.specs.Parse.{longest}
+use Rattle.grammar.specs.Parse.{longest}
 use Rattle.lines.proofs.Runs.{ended-carried, ended-whole}
 use Rattle.lines.proofs.pieces.parse_ended.Statement.{statement}
 use Rattle.lines.proofs.pieces.parse_ended.Tie as tie

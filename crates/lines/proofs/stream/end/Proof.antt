@@ -1,7 +1,7 @@
 -- Where a line has begun, what `feed` leaves of it and a newline is the reply. By the laws of the end.
 use mathlib.Core.Path.{sym, _∙_}
 use borrow.Author.Needs.{needs}
-use Rattle.records.specs.Text.{newline}
+use Rattle.grammar.specs.Text.{newline}
 use Rattle.answers.specs.Written.{replyRoom}
 use Rattle.lines.specs.Stream.{unfinished}
 use Rattle.lines.proofs.Ending.{ended-begun, ended-none}

@@ -5,7 +5,7 @@ use Prim.Native.Nat.{_-_}
 use native.Mathlib.Omega.{arith}
 use denote.Ref.{now}
 use lib.ListN.{length}
-use Rattle.records.specs.Parse.{longest}
+use Rattle.grammar.specs.Parse.{longest}
 use Rattle.queue_rows.specs.Rows.{Sized}
 use Rattle.queue_rows.specs.Heads.{sessionIn}
 use Rattle.answers.specs.Written.{replyRoom, leftIn}

@@ -3,7 +3,7 @@
 use mathlib.Core.Path.{_≡_, ap, sym, _∙_}
 use borrow.Author.Needs.{needs}
 use denote.Ref.{now}
-use Rattle.records.proofs.LetterFields.{known-device, no-device}
+use Rattle.grammar.proofs.LetterFields.{known-device, no-device}
 use Rattle.names.specs.EventNames.{isName}
 use Rattle.names.proofs.RowReading.{row-fields, row-nameless, row-deviceless, row-numbers}
 use Rattle.names.proofs.rows.row_of.Statement.{statement}

@@ -3,9 +3,9 @@
 use mathlib.Core.Path.{refl, sym}
 use borrow.Author.Needs.{needs}
 use denote.Ref.{now}
-use Rattle.records.specs.Text.{newline}
-use Rattle.records.specs.Parse.{isClosed}
-use Rattle.records.proofs.LineEnds.{closed-none}
+use Rattle.grammar.specs.Text.{newline}
+use Rattle.grammar.specs.Parse.{isClosed}
+use Rattle.grammar.proofs.LineEnds.{closed-none}
 use Rattle.parser.proofs.parse.is_closed.Statement.{statement}
 use Rattle.parser.proofs.parse.is_closed.Tie as tie
 

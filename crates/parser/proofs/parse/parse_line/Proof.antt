@@ -5,7 +5,7 @@ use borrow.Author.Needs.{needs}
 use native.Mathlib.Omega.{arith}
 use lib.Seq.{length-take-le}
 use denote.Ref.{now}
-use Rattle.records.proofs.LineEnds.{text-within}
+use Rattle.grammar.proofs.LineEnds.{text-within}
 use Rattle.parser.proofs.LineTexts.{long-text, short-text}
 use Rattle.parser.proofs.parse.parse_line.Statement.{statement}
 use Rattle.parser.proofs.parse.parse_line.Tie as tie

@@ -2,8 +2,8 @@
 -- Assumes nothing.
 use mathlib.Core.Path.{sym, _∙_}
 use denote.Ref.{now}
-use Rattle.records.specs.Parse.{textLength}
-use Rattle.records.proofs.LineEnds.{closed-some}
+use Rattle.grammar.specs.Parse.{textLength}
+use Rattle.grammar.proofs.LineEnds.{closed-some}
 use Rattle.parser.proofs.parse.text_length.Statement.{statement}
 use Rattle.parser.proofs.parse.text_length.Tie as tie
 

@@ -1,7 +1,7 @@
 -- `too_long` meets its contract, case by case.
 -- Assumes nothing.
 use borrow.Author.Needs.{needs}
-use Rattle.records.specs.Parse.{tooLong}
+use Rattle.grammar.specs.Parse.{tooLong}
 use Rattle.parser.proofs.parse.too_long.Statement.{statement}
 use Rattle.parser.proofs.parse.too_long.Tie as tie
 

@@ -4,10 +4,10 @@ use mathlib.Core.Path.{refl, sym, _∙_}
 use borrow.Author.Needs.{needs}
 use denote.Ref.{now}
 use Rattle.requests.proofs.FirstHolding.{holds, skips, ends}
-use Rattle.records.specs.Text.{bytes}
-use Rattle.records.specs.Fields.{sameBytes}
-use Rattle.records.specs.Verbs.{hasVerb, verbs, openLine, eventLine, packetLine, offcoreLine, latencyLine, dropLine, turnLine}
-use Rattle.records.proofs.VerbRows.{Past, no-verb}
+use Rattle.grammar.specs.Text.{bytes}
+use Rattle.grammar.specs.Fields.{sameBytes}
+use Rattle.grammar.specs.Verbs.{hasVerb, verbs, openLine, eventLine, packetLine, offcoreLine, latencyLine, dropLine, turnLine}
+use Rattle.grammar.proofs.VerbRows.{Past, no-verb}
 use Rattle.parser.proofs.VerbsRead.{asked-record, asked-named, read-as}
 use Rattle.parser.proofs.verbs.record_with.Statement.{statement}
 use Rattle.parser.proofs.verbs.record_with.Tie as tie
