@@ -7,9 +7,9 @@ use native.Mathlib.Omega.{arith}
 use lib.ListN.{take, getD}
 use Rattle.requests.specs.declared.Request.{Request}
 use Rattle.plans.specs.declared.Place.{Place}
-use Rattle.plans.specs.declared.Found.{Found}
-use Rattle.plans.specs.Rows.{requestAt, rowsFrom}
-use Rattle.plans.specs.Found.{nothing}
+use Rattle.search.specs.declared.Found.{Found}
+use Rattle.search.specs.Rows.{requestAt, rowsFrom}
+use Rattle.search.specs.Found.{nothing}
 use Rattle.bench.specs.Numbers.{digitsOf, placeNumber}
 
 rows-part : (rows : List ℕ) (at k m : ℕ) → take k (rowsFrom rows at (k + m)) ≡ rowsFrom rows at k

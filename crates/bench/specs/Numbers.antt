@@ -6,10 +6,10 @@ use Rattle.requests.specs.declared.Device.the-variants.{G}
 use Rattle.requests.specs.declared.Setup.{Setup}
 use Rattle.requests.specs.Choice.{pick}
 use Rattle.plans.specs.declared.Place.{Place}
-use Rattle.plans.specs.declared.Found.{Found}
+use Rattle.search.specs.declared.Found.{Found}
 use Rattle.plans.specs.Places.{first, second}
-use Rattle.plans.specs.Rows.{setOf}
-use Rattle.plans.specs.Found.{nothing}
+use Rattle.search.specs.Rows.{setOf}
+use Rattle.search.specs.Found.{nothing}
 
 -- device G with the usable set of a number, its fixed counters off, where nothing is asked
 abbrev pub setupFor : ℕ → Setup

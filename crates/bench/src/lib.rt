@@ -1,24 +1,24 @@
-// The planner over numbers, for the Rust program of bench/ to link. Requests stand in rows, as in `plans::rows`.
+// The planner over numbers, for the Rust program of bench/ to link. Requests stand in rows, as in `search::rows`.
 ghost use mathlib.Core.Path.{_≡_};
 ghost use Prim.Native.Nat.{_<_, _≤_};
 ghost use Rattle.plans.specs.Search.{firstPlan};
-ghost use Rattle.plans.specs.Rows.{rowsFrom};
+ghost use Rattle.search.specs.Rows.{rowsFrom};
 ghost use Rattle.plans.specs.Packed.{packed};
-ghost use Rattle.plans.specs.Found.{foundOf};
+ghost use Rattle.search.specs.Found.{foundOf};
 ghost use Rattle.bench.specs.Numbers.{setupFor, digitsOf, placeNumber};
 use plans::Place;
 
 pub mod turns;
 
-use plans::first_plan::first_plan;
-use plans::rows::ROW_NUMBERS;
-use plans::rows::request_at;
-use plans::search::plan_rows;
 use requests::Core;
 use requests::CounterSet;
 use requests::Device;
 use requests::Overflow;
 use requests::Setup;
+use search::first_plan::first_plan;
+use search::plan_rows::plan_rows;
+use search::rows::ROW_NUMBERS;
+use search::rows::request_at;
 
 // The two numbers of a place, as digits to the base 8.
 fn digits_of(place: Place) -> u64

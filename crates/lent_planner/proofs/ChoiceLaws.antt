@@ -18,8 +18,8 @@ use Rattle.plans.proofs.ReachHolds.{reach}
 use Rattle.requests.specs.Devices.{capacity, counterCount}
 use Rattle.plans.specs.Legal.{HasPlan}
 use Rattle.plans.specs.Parts.{usableCount}
-use Rattle.plans.specs.Rows.{rowsFrom}
-use Rattle.plans.proofs.RequestRows.{rows-length}
+use Rattle.search.specs.Rows.{rowsFrom}
+use Rattle.search.proofs.RequestRows.{rows-length}
 use Rattle.plans.proofs.PlanLengthHolds.{plan-length}
 use Rattle.plans.proofs.PartsHold.{parts}
 use Rattle.sessions.specs.Turns.{requestsOf, taken, placesOf}

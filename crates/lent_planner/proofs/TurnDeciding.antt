@@ -13,7 +13,7 @@ use Rattle.requests.specs.declared.Refusal.the-variants.{CallOrder, BadOpening,
 use Rattle.requests.specs.Refusals.{answerFor}
 use Rattle.requests.specs.Devices.{capacity}
 use Rattle.plans.specs.Packed.{placesFrom}
-use Rattle.plans.specs.Rows.{rowsFrom}
+use Rattle.search.specs.Rows.{rowsFrom}
 use Rattle.layouts.specs.declared.Settings.{Settings}
 use Rattle.layouts.specs.declared.WriteAnswer.the-variants.{TooShort, Written}
 use Rattle.layouts.specs.Settings.{settingsOf}

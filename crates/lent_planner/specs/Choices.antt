@@ -10,7 +10,7 @@ use Rattle.requests.specs.declared.Entry.{Entry}
 use Rattle.requests.specs.Devices.{capacity, counterCount}
 use Rattle.plans.specs.Search.{firstPlan}
 use Rattle.plans.specs.Parts.{usableCount}
-use Rattle.plans.specs.Rows.{rowsFrom}
+use Rattle.search.specs.Rows.{rowsFrom}
 use Rattle.plans.specs.Packed.{packed}
 use Rattle.plans.specs.Reach.{leftBy, leftOf}
 use Rattle.sessions.specs.Turns.{requestsOf, fits, taken}

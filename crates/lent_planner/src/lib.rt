@@ -1,10 +1,10 @@
 // The calls of a session whose queue the host lends as a slice of records.
 use lent_sessions::LentAnswered;
 use lent_sessions::LentTurned;
-use plans::rows::ROW_NUMBERS;
 use requests::CAPACITY;
 use requests::Entry;
 use requests::Setup;
+use search::rows::ROW_NUMBERS;
 
 pub mod add;
 mod choose;

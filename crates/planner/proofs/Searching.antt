@@ -17,13 +17,13 @@ use Rattle.plans.specs.Legal.{HasPlan}
 use Rattle.plans.specs.declared.Place.{Place}
 use Rattle.plans.specs.Search.{emptyRoom, firstPlan, hasPlan}
 use Rattle.plans.specs.Parts.{usableCount}
-use Rattle.plans.specs.Rows.{requestAt, rowsFrom, setRequest}
+use Rattle.search.specs.Rows.{requestAt, rowsFrom, setRequest}
 use Rattle.plans.specs.Packed.{packed, placesFrom}
-use Rattle.plans.specs.Beside.{Beside, event}
+use Rattle.search.specs.Beside.{Beside, event}
 use Rattle.plans.proofs.FirstFound.{first-plan}
-use Rattle.plans.proofs.RequestRows.{put-length, rows-length, rows-last, rows-put}
-use Rattle.plans.proofs.Unpacking.{some-packed, none-packed, plan-packed, plan-unpacked, plan-code}
-use Rattle.plans.proofs.Giving.{places-length}
+use Rattle.search.proofs.RequestRows.{put-length, rows-length, rows-last, rows-put}
+use Rattle.search.proofs.Unpacking.{some-packed, none-packed, plan-packed, plan-unpacked, plan-code}
+use Rattle.search.proofs.Giving.{places-length}
 use Rattle.plans.proofs.ExtendsHold.{extends}
 use Rattle.plans.specs.Reach.{leftOf}
 use Rattle.plans.specs.FilterWords.{crowded}

@@ -15,12 +15,12 @@ use Rattle.plans.specs.declared.Place.{Place}
 use Rattle.plans.specs.Legal.{HasPlan}
 use Rattle.plans.specs.Search.{firstPlan, planIn}
 use Rattle.plans.specs.Parts.{usableCount}
-use Rattle.plans.specs.Rows.{rowsFrom}
+use Rattle.search.specs.Rows.{rowsFrom}
 use Rattle.plans.specs.Packed.{codeOf, packed, placesFrom}
 use Rattle.plans.specs.Reach.{leftBy, leftFrom, leftOf}
-use Rattle.plans.proofs.RequestRows.{rows-length}
+use Rattle.search.proofs.RequestRows.{rows-length}
 use Rattle.plans.proofs.ReachHolds.{reach}
-use Rattle.plans.proofs.Unpacking.{some-packed, plan-unpacked}
+use Rattle.search.proofs.Unpacking.{some-packed, plan-unpacked}
 use Rattle.plans.proofs.PartsHold.{parts}
 use Rattle.plans.proofs.PlanLengthHolds.{plan-length}
 use Rattle.sessions.specs.Turns.{requestsOf, taken, placesOf}

@@ -16,7 +16,7 @@ use Rattle.requests.specs.declared.Answer.the-variants.{Accepted, Refused}
 use Rattle.requests.specs.Choice.{pick}
 use Rattle.requests.specs.Devices.{capacity}
 use Rattle.requests.specs.Refusals.{answerFor}
-use Rattle.plans.specs.Rows.{rowsFrom}
+use Rattle.search.specs.Rows.{rowsFrom}
 use Rattle.plans.specs.Packed.{placesFrom}
 use Rattle.layouts.specs.declared.WriteAnswer.the-variants.{Written, TooShort}
 use Rattle.layouts.specs.declared.Settings.{Settings}

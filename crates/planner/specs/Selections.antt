@@ -11,7 +11,7 @@ use Rattle.requests.specs.declared.Refusal.{Refusal}
 use Rattle.requests.specs.declared.Answer.the-variants.{Accepted, Refused}
 use Rattle.plans.specs.Search.{firstPlan}
 use Rattle.plans.specs.Parts.{usableCount}
-use Rattle.plans.specs.Rows.{rowsFrom}
+use Rattle.search.specs.Rows.{rowsFrom}
 use Rattle.plans.specs.Packed.{packed, placesFrom}
 use Rattle.sessions.specs.declared.Assigned.{Assigned}
 use Rattle.sessions.specs.declared.Session.{Session}

@@ -4,7 +4,7 @@ use mathlib.Core.Path.{_≡_, refl, sym, ap, _∙_}
 use mathlib.Core.Logic.{_≢_, _⊎_, inl, inr}
 use mathlib.Core.List.{List, flatMap}
 use mathlib.Core.Bool.{Bool, true, false}
-use Prim.Native.Nat.{ℕ, zero, suc, _+_, _-_, _<_}
+use Prim.Native.Nat.{ℕ, zero, suc}
 use native.Mathlib.Omega.{arith}
 use lib.Dec.{eqb}
 use borrow.Author.Tests.{eqb-true, eqb-false, eq-eqb}
@@ -21,7 +21,6 @@ use Rattle.plans.specs.declared.Filter.the-variants.{Off, Words}
 use Rattle.plans.specs.Lists.{All, cons, Each, none, and}
 use Rattle.plans.specs.Legal.{Allowed, event, packet, offcore, latency, wordsOf, packetsOf, ofAll, HasPlan}
 use Rattle.plans.specs.Search.{holds}
-use Rattle.plans.specs.Rows.{requestAt, rowsFrom}
 use Rattle.plans.specs.FilterWords.{noneAsked, askWord, askPacket, askedBy, askedFrom, crowded, FilterWords}
 
 module _ (v w : ℕ) (p : ℕ × ℕ) where
@@ -116,14 +115,6 @@ unplanned s rs more (ps, l) =
     let fewer = never-crowded (v .0) (w .0) (q .0) (l .allowed) (v .1) (w .1) (q .1) noneAsked (no-word, off, refl) in
     let z : _≡_ {A = ℕ} 0 1 = cc in
     absurd (omega arith)
-
--- one row more
-pub asked-on : (rows : List ℕ) (count i : ℕ) (a next total : Asked) (r : Request) → i < count → r ≡ requestAt rows i → next ≡ askedBy r a
-    → askedFrom a (rowsFrom rows i (count - i)) ≡ total → askedFrom next (rowsFrom rows (i + 1) (count - (i + 1))) ≡ total
-unfolding rowsFrom askedFrom
-asked-on rows count i a next total r l at by h =
-    let more : count - i ≡ suc (count - (i + 1)) = omega arith in
-    rw (by, at) (rw more at h)
 
 pub filter-words : FilterWords
 filter-words = record { unplanned = unplanned }

@@ -3,14 +3,13 @@
 use mathlib.Core.Path.{_≡_, refl, ap, sym, _∙_}
 use mathlib.Core.Bool.{Bool, true, false}
 use mathlib.Core.List.{List, [], _∷_, _++_, flatMap}
-use Prim.Native.Nat.{ℕ, zero, suc, _+_, _-_, _*_, _/_, _%_, _^_, _<_, _≤_, max}
+use Prim.Native.Nat.{ℕ, zero, suc, _+_, _-_, _/_, _%_, _^_, _<_, _≤_, max}
 use native.Mathlib.Nat.{one-mul, div-eq-of-lt}
-use native.Mathlib.Numerals.{add-one}
 use native.Mathlib.Omega.{arith}
 use lib.Arith.{digits-mod}
-use lib.Bits.{bitAnd, bitOr, or-step, or-shr, or-zero-r}
+use lib.Bits.{bitAnd, bitOr, or-step, or-shr}
 use lib.Dec.{eqb}
-use lib.Pow.{shl-shr, shr-shr, pow-lt, pow-pos}
+use lib.Pow.{shl-shr, shr-shr, pow-pos}
 use borrow.Author.Tests.{eqb-true, eqb-false}
 use Rattle.requests.specs.declared.CounterSet.{CounterSet}
 use Rattle.requests.specs.declared.Setup.{Setup}
@@ -26,7 +25,6 @@ use Rattle.plans.specs.Lists.{All, cons, Each, none, and}
 use Rattle.plans.specs.Places.{countedOf, countersOf}
 use Rattle.plans.specs.Legal.{Allowed, event, packet, offcore, latency, counters, HasPlan}
 use Rattle.plans.specs.Reach.{setsWith, taking, takingOne, leftBy, leftFrom, leftOf, Reach}
-use Rattle.plans.proofs.CounterBits.{shifted}
 use Rattle.plans.proofs.Sets.{has-le, less, Takes, all-takes, all-imp}
 
 -- ---- bits
@@ -96,21 +94,6 @@ module _ (f : CounterSet) (fits : f .0 < 64) (sets : ℕ) (there : bit (f .0) se
       go : (k < m → bit (f .0 - 2 ^ k) (takingOne m a sets) ≡ true) → (t : Bool) → eqb k m ≡ t → bit (f .0 - 2 ^ k) (bitOr (takingOne m a sets) (pick (has a m) (taking m sets) 0)) ≡ true
       go before true e = let same : k ≡ m = eqb-true k m e in bit-right _ (takingOne m a sets) _ (rw (← same, g) (one-taken k (omega arith) h))
       go before false d = bit-left _ (takingOne m a sets) _ (before (omega (arith, eqb-false k m d)))
-
--- ---- in code
-
--- the shift stays within the word
-pub step-fits : (k : ℕ) → k < 6 → 1 * 2 ^ k % 2 ^ 64 < 64
-step-fits k l = rw (shifted k (omega arith)) (pow-lt l)
-
--- one counter more
-pub taking-on : (k x : ℕ) (a : CounterSet) (sets : ℕ) → has a k ≡ true → x ≡ takingOne k a sets → bitOr x (taking k sets) ≡ takingOne (k + 1) a sets
-unfolding takingOne
-taking-on k x a sets on e = rw (add-one, on, e)
-
-pub taking-off : (k x : ℕ) (a : CounterSet) (sets : ℕ) → has a k ≡ false → x ≡ takingOne k a sets → x ≡ takingOne (k + 1) a sets
-unfolding takingOne
-taking-off k x a sets off e = rw (add-one, off, or-zero-r) e
 
 -- ---- all requests
 

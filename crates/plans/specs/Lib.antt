@@ -14,11 +14,4 @@ pub mod FilterWords
 pub mod Extends
 pub mod PlanTries
 -- The code's own: how it holds its values. No claim.
-pub mod Found
-pub mod Rows
-pub mod Counters
-pub mod Left
-pub mod Filters
-pub mod Remaining
 pub mod Packed
-pub mod Beside

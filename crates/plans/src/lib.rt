@@ -1,20 +1,5 @@
 // What a plan gives a request, and what is left while requests are placed one after another.
-use requests::CAPACITY;
 use requests::CounterSet;
-
-mod counters;
-pub mod extend;
-pub mod filter_words;
-mod filters;
-pub mod first_plan;
-mod latency;
-mod left;
-mod offcore;
-pub mod packed;
-pub mod reach;
-mod remaining;
-pub mod rows;
-pub mod search;
 
 // What a request is given: a counter, a counter and an RSP register, or two counters.
 pub enum Place {
@@ -55,23 +40,4 @@ pub struct Asked {
     pub second: Register,
     pub packet: Filter,
     pub crowded: bool,
-}
-
-// What one request is given.
-pub struct Given {
-    pub place: Place,
-}
-
-// Whether there is a plan, and what it gives each request, in their order.
-pub struct Found {
-    pub found: bool,
-    pub places: [Given; CAPACITY],
-}
-
-// A request as a row of four numbers: its kind, and what it holds.
-pub struct Row {
-    pub kind: u64,
-    pub a: u64,
-    pub b: u64,
-    pub c: u64,
 }

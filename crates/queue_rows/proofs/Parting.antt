@@ -11,9 +11,9 @@ use Rattle.requests.specs.declared.Setup.{Setup}
 use Rattle.requests.specs.declared.Entry.{Entry}
 use Rattle.requests.specs.declared.Request.{Request}
 use Rattle.plans.specs.Search.{firstPlan, planIn}
-use Rattle.plans.specs.Rows.{requestAt, rowsFrom}
+use Rattle.search.specs.Rows.{requestAt, rowsFrom}
 use Rattle.plans.specs.Packed.{codeOf, packed, placesFrom}
-use Rattle.plans.proofs.RequestRows.{rows-length}
+use Rattle.search.proofs.RequestRows.{rows-length}
 use Rattle.layouts.specs.declared.Settings.{Settings}
 use Rattle.layouts.specs.Layout.{tabulate}
 use Rattle.layouts.specs.Settings.{settingsOf}

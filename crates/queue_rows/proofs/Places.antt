@@ -9,8 +9,8 @@ use native.Mathlib.Omega.{arith}
 use lib.ListN.{length, getD, set, length-set}
 use lib.Seq.{getD-set-same, getD-set-other, ext-getD}
 use Rattle.requests.specs.declared.Entry.{Entry}
-use Rattle.plans.specs.Rows.{requestOf, requestAt, setRow}
-use Rattle.plans.proofs.RequestRows.{row-length, row-here, row-other}
+use Rattle.search.specs.Rows.{requestOf, requestAt, setRow}
+use Rattle.search.proofs.RequestRows.{row-length, row-here, row-other}
 use Rattle.layouts.proofs.Tabulated.{length-tabulate, getD-tabulate}
 use Rattle.sessions.specs.Sessions.{vacant}
 use Rattle.queue_rows.specs.Rows.{entryAt, entriesIn, queueIn, Sized, Holding}

@@ -17,7 +17,7 @@ use Rattle.layouts.specs.Settings.{settingsOf}
 use Rattle.layouts.specs.Slices.{Wrote}
 use Rattle.layouts.specs.Writes.{writesFor}
 use Rattle.plans.specs.Packed.{placesFrom}
-use Rattle.plans.specs.Rows.{rowsFrom}
+use Rattle.search.specs.Rows.{rowsFrom}
 use Rattle.sessions.specs.declared.Assigned.{Assigned}
 use Rattle.sessions.specs.declared.Session.{Session}
 use Rattle.sessions.specs.declared.TurnAnswered.{TurnAnswered}

@@ -8,7 +8,7 @@ use Rattle.requests.specs.declared.Entry.{Entry}
 use Rattle.plans.specs.Parts.{usableCount}
 use Rattle.plans.specs.Search.{firstPlan}
 use Rattle.plans.specs.Packed.{packed}
-use Rattle.plans.specs.Rows.{rowsFrom}
+use Rattle.search.specs.Rows.{rowsFrom}
 use Rattle.sessions.specs.Turns.{requestsOf, taken, passed}
 use Rattle.planner.specs.declared.Chosen.{Chosen}
 

@@ -4,7 +4,7 @@ use mathlib.Core.List.{List}
 use Prim.Native.Nat.{ℕ, _≤_, _<_}
 use lib.ListN.{length, take, getD}
 use Rattle.requests.specs.declared.Entry.{Entry}
-use Rattle.plans.specs.Rows.{requestAt}
+use Rattle.search.specs.Rows.{requestAt}
 use Rattle.layouts.specs.Layout.{tabulate}
 
 -- the entry at place i

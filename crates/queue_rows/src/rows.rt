@@ -1,13 +1,13 @@
 // A queue in two arrays: the ids of its entries, and their requests as rows of four numbers.
 use crate::QUEUE_NUMBERS;
-use plans::rows::request_of;
-use plans::rows::row_of;
 use requests::Request;
+use search::rows::request_of;
+use search::rows::row_of;
 use sessions::QUEUE_LIMIT;
 ghost use mathlib.Core.Path.{_≡_};
 ghost use Prim.Native.Nat.{_<_, _≤_};
 ghost use lib.ListN.{set, getD};
-ghost use Rattle.plans.specs.Rows.{requestOf, requestAt};
+ghost use Rattle.search.specs.Rows.{requestOf, requestAt};
 ghost use Rattle.sessions.specs.Sessions.{vacant};
 ghost use Rattle.queue_rows.specs.Rows.{queueIn, Sized, Holding, FirstPlace};
 

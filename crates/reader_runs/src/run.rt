@@ -4,11 +4,11 @@ use crate::print;
 use crate::values::after;
 use layouts::Reading;
 use layouts::WriteAnswer;
-use plans::first_plan::first_plan;
 use registers::plan_settings::settings_of;
 use registers::writer::write_list;
 use requests::Request;
 use requests::Setup;
+use search::first_plan::first_plan;
 
 // The write list of the first plan, and the number of its writes.
 fn planned(setup: Setup, requests: [Request; 8], count: usize, list: &mut [u64; 44]) -> usize {

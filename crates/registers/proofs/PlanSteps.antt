@@ -11,12 +11,12 @@ use Rattle.requests.specs.Choice.{either}
 use Rattle.requests.specs.Bits.{inList}
 use Rattle.requests.specs.Devices.{counterCount, capacity}
 use Rattle.plans.specs.declared.Place.{Place}
-use Rattle.plans.specs.declared.Given.{Given}
+use Rattle.search.specs.declared.Given.{Given}
 use Rattle.plans.specs.Places.{countersOf}
 use Rattle.plans.specs.Legal.{wordsOf, packetsOf, ofAll, counters}
-use Rattle.plans.specs.Rows.{requestAt, rowsFrom}
+use Rattle.search.specs.Rows.{requestAt, rowsFrom}
 use Rattle.plans.specs.Packed.{placeAt, placesFrom}
-use Rattle.plans.proofs.RequestRows.{rows-next}
+use Rattle.search.proofs.RequestRows.{rows-next}
 use Rattle.layouts.specs.Layout.{tabulate}
 use Rattle.layouts.specs.Settings.{usesOf, wordAt, setFrom, headOr, nonempty, settingsOf}
 use Rattle.layouts.specs.declared.Settings.{Settings}

@@ -2,8 +2,8 @@
 use mathlib.Core.Path.{_≡_}
 use native.Mathlib.Omega.{arith}
 use Rattle.plans.specs.Search.{firstPlan}
-use Rattle.plans.specs.Rows.{rowsFrom}
-use Rattle.plans.specs.Found.{nothing, foundOf}
+use Rattle.search.specs.Rows.{rowsFrom}
+use Rattle.search.specs.Found.{nothing, foundOf}
 use Rattle.bench.specs.Numbers.{setupFor}
 use Rattle.bench.proofs.Listed.{rows-listed, digits-few, number-there, number-none}
 use borrow.Author.Needs.{needs}

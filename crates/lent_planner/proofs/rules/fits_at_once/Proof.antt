@@ -9,7 +9,7 @@ use Rattle.requests.specs.Devices.{allCounters}
 use Rattle.requests.specs.declared.CounterSet.{CounterSet}
 use Rattle.requests.specs.declared.Listing.{Listing}
 use Rattle.plans.proofs.PlanTestHolds.{plan-test}
-use Rattle.plans.proofs.FreeBeside.{event-alone}
+use Rattle.search.proofs.FreeBeside.{event-alone}
 use Rattle.lent_planner.proofs.ListedEvents.{event-formed}
 use Rattle.lent_planner.proofs.rules.fits_at_once.Statement.{statement}
 use Rattle.lent_planner.proofs.rules.fits_at_once.Tie as tie

@@ -8,7 +8,7 @@ use native.Mathlib.Omega.{arith}
 use Prim.Native.Nat.{ℕ, _<_}
 use Rattle.requests.specs.Devices.{capacity, counterCount}
 use Rattle.plans.specs.Reach.{leftBy, leftOf}
-use Rattle.plans.specs.Rows.{rowsFrom}
+use Rattle.search.specs.Rows.{rowsFrom}
 use Rattle.plans.proofs.ReachHolds.{reach}
 use Rattle.plans.proofs.PlanLengthHolds.{plan-length}
 use Rattle.planner.proofs.Searching.{searched-none, searched-extended, searched-unreached, searched-crowded, searched-rows, beside-few, code-few}

@@ -7,7 +7,7 @@ use denote.Ref.{now}
 use lib.ListN.{take, length-append, length-take}
 use Rattle.layouts.specs.Layout.{tabulate}
 use Rattle.layouts.proofs.Tabulated.{length-tabulate}
-use Rattle.plans.specs.Rows.{requestAt}
+use Rattle.search.specs.Rows.{requestAt}
 use Rattle.queue_rows.specs.Rows.{entryAt, entriesIn, queueIn, Sized}
 use Rattle.queue_rows.proofs.Places.{queue-length}
 use Rattle.queue_rows.proofs.Parting.{entries-next}

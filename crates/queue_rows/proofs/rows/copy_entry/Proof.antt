@@ -1,6 +1,6 @@
 -- The numbers put are those of the entry at `from`.
 use denote.Ref.{now}
-use Rattle.plans.specs.Rows.{requestAt}
+use Rattle.search.specs.Rows.{requestAt}
 use Rattle.queue_rows.specs.Rows.{entryAt}
 use Rattle.queue_rows.proofs.Places.{place-is}
 use borrow.Author.Needs.{needs}

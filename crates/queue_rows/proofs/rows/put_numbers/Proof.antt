@@ -1,6 +1,6 @@
 -- The stores are those of `numbers-put`.
 use denote.Ref.{now}
-use Rattle.plans.specs.Rows.{setRow}
+use Rattle.search.specs.Rows.{setRow}
 use Rattle.queue_rows.proofs.Places.{numbers-put}
 use borrow.Author.Needs.{needs}
 use Rattle.queue_rows.proofs.rows.put_numbers.Statement.{statement}

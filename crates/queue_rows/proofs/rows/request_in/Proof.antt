@@ -1,6 +1,6 @@
 -- The request of the row's numbers.
 use borrow.Author.Needs.{needs}
-use Rattle.plans.specs.Rows.{requestAt}
+use Rattle.search.specs.Rows.{requestAt}
 use Rattle.queue_rows.proofs.rows.request_in.Statement.{statement}
 use Rattle.queue_rows.proofs.rows.request_in.Tie as tie
 

@@ -7,7 +7,7 @@ use lib.ListN.{length}
 use Rattle.layouts.specs.Settings.{settingsOf}
 use Rattle.layouts.proofs.Tabulated.{length-tabulate}
 use Rattle.requests.specs.Devices.{capacity}
-use Rattle.plans.specs.Rows.{requestAt}
+use Rattle.search.specs.Rows.{requestAt}
 use Rattle.plans.specs.Packed.{placeAt}
 use Rattle.registers.specs.Adding.{withPackets, othersWith, withWords, settingsWith}
 use Rattle.registers.proofs.PlanSteps.{uses-length, settingsFrom, rows-past, rows-before}

@@ -6,7 +6,7 @@ use native.Mathlib.Omega.{arith}
 use borrow.Author.Needs.{needs}
 use lib.ListN.{length, take, drop}
 use Rattle.requests.specs.Devices.{capacity}
-use Rattle.plans.specs.declared.Given.{Given}
+use Rattle.search.specs.declared.Given.{Given}
 use Rattle.layouts.specs.Settings.{settingsOf}
 use Rattle.registers.specs.Adding.{settingsWith}
 use Rattle.registers.proofs.PlanSteps.{settings-past, settings-before}
