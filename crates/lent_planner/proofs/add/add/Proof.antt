@@ -153,7 +153,7 @@ module _ {M : Type 1} (𝓤 : URA M) (H : Heap 𝓤) (A : Atoms 𝓤) (W : Given
 
     answers : Sq W At₃ (runs C Λ E₃ mir.t-11 (atRet E₃ Post))
     answers =
-        assigns ! (of-opd ! (load ! (from ! (fld ! refl (stop !))) (look-in ! 10 (sub ! 0 refl (whole !))))) (from ! (stop !))
+        assigns ! (of-opd ! (load ! (from ! (fld ! De.answered-at (stop !))) (De.reads-answered ! 10 d refl))) (from ! (stop !))
         (init ! 2 refl (La.typed 𝓤 H A W (d .answered) (De.answered-is d gd))) $
         returns ! (look ! 2 refl) $ forget ! 2 refl $ forget ! 3 refl $ forget ! 10 refl $
         keep ! (2 ∷ 17 ∷ 3 ∷ 18 ∷ 4 ∷ 19 ∷ 5 ∷ 20 ∷ 6 ∷ 21 ∷ 7 ∷ 22 ∷ 8 ∷ 23 ∷ 9 ∷ 24 ∷ 10 ∷ 25 ∷ 11 ∷ 26 ∷ 12 ∷ 27 ∷ 13 ∷ 28 ∷ 14 ∷ 29 ∷ 15 ∷ 30 ∷ 16 ∷ 31 ∷ 0 ∷ 1 ∷ [])
@@ -183,7 +183,7 @@ module _ {M : Type 1} (𝓤 : URA M) (H : Heap 𝓤) (A : Atoms 𝓤) (W : Given
         calls-lent ! fm R (named 0) (named 0) b o ys room (sliceVal (b, o) n ∷ Ch.val (d .change) ∷ []) (λ y zs. (y ≡ vunit) × (zs ≡ rearranged (d .change) ys))
         (λ ν δ. rearrange-runs 𝓤 H A mem run W C fm b o ys ν δ (d .change) k-rearrange (De.change-is d gd) (decides .fits))
         (λ i j. and-then ! (load ! (from ! (stop !)) (look ! 16 refl))
-        (and-then ! (load ! (from ! (fld ! refl (stop !))) (look-in ! 10 (sub ! 1 refl (whole !)))) (no-more !))) (λ y zs g len.
+        (and-then ! (load ! (from ! (fld ! De.change-at (stop !))) (De.reads-change ! 10 d refl)) (no-more !))) (λ y zs g len.
         land ! (from ! (stop !)) (init ! 14 refl (subst (λ (t : Val). Holds (hasTy tyUnit t) × WT t) (sym (g .0)) (tt, tt))) $
         forget ! 14 refl $ forget ! 15 refl $ forget ! 16 refl $
         keep ! (0 ∷ 1 ∷ 2 ∷ 3 ∷ 4 ∷ 5 ∷ 6 ∷ 7 ∷ 8 ∷ 9 ∷ 10 ∷ 11 ∷ 12 ∷ 13 ∷ 14 ∷ 15 ∷ 16 ∷ 17 ∷ 18 ∷ 19 ∷ 20 ∷ 21 ∷ 22 ∷ 23 ∷ 24 ∷ 25 ∷ 26 ∷ 27 ∷ 28 ∷ 29 ∷ 30 ∷ 31 ∷ []) $
@@ -207,7 +207,7 @@ module _ {M : Type 1} (𝓤 : URA M) (H : Heap 𝓤) (A : Atoms 𝓤) (W : Given
         pass1 ! (init ! 26 refl (tt, (tt, (record { fits = room .0 }, tt)))) $ pass1 ! (init ! 24 refl (Ls.typed 𝓤 H A W session gsession)) $
         pass1 ! (init ! 22 refl (tt, record { fits = gid })) $ pass1 ! (init ! 20 refl (Rq.typed 𝓤 H A W request grequest)) $ pass0 ! $
         move ! (31 ∷ []) $ fsplit ! $ move ! (1 ∷ []) $ drop ! $ move ! (31 ∷ []) $ split ! $ move ! (2 ∷ 0 ∷ []) $
-        assigns ! (of-opd ! (load ! (from ! (fld ! refl (stop !))) (look-in ! 27 (sub ! 1 refl (whole !))))) (from ! (stop !))
+        assigns ! (of-opd ! (load ! (from ! (fld ! Ls.setup-at (stop !))) (Ls.reads-setup ! 27 session refl))) (from ! (stop !))
         (init ! 21 refl (Se.typed 𝓤 H A W (session .setup) (Ls.setup-is session gsession))) $
         calls-plain ! fm (Se.val (session .setup) ∷ vint w64 id ∷ []) (λ v. Is Sv.S s₀ (v ∷ []))
         (fresh-one-runs 𝓤 H A mem run W C fm k-fresh (session .setup) id (Ls.setup-is session gsession) gid)

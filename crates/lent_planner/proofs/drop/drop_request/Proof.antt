@@ -148,7 +148,7 @@ module _ {M : Type 1} (𝓤 : URA M) (H : Heap 𝓤) (A : Atoms 𝓤) (W : Given
 
     answers : Sq W At₃ (runs C Λ E₃ mir.t-11 (atRet E₃ Post))
     answers =
-        assigns ! (of-opd ! (load ! (from ! (fld ! refl (stop !))) (look-in ! 9 (sub ! 0 refl (whole !))))) (from ! (stop !))
+        assigns ! (of-opd ! (load ! (from ! (fld ! De.answered-at (stop !))) (De.reads-answered ! 9 d refl))) (from ! (stop !))
         (init ! 2 refl (La.typed 𝓤 H A W (d .answered) (De.answered-is d gd))) $
         returns ! (look ! 2 refl) $ forget ! 2 refl $ forget ! 3 refl $ forget ! 9 refl $
         keep ! (2 ∷ 16 ∷ 3 ∷ 17 ∷ 4 ∷ 18 ∷ 5 ∷ 19 ∷ 6 ∷ 20 ∷ 7 ∷ 21 ∷ 8 ∷ 22 ∷ 9 ∷ 23 ∷ 10 ∷ 24 ∷ 11 ∷ 25 ∷ 12 ∷ 26 ∷ 13 ∷ 27 ∷ 14 ∷ 28 ∷ 15 ∷ 29 ∷ 0 ∷ 1 ∷ []) $
@@ -177,7 +177,7 @@ module _ {M : Type 1} (𝓤 : URA M) (H : Heap 𝓤) (A : Atoms 𝓤) (W : Given
         (init ! 15 refl (tt, (tt, (record { fits = room .0 }, tt)))) $
         calls-lent ! fm R (named 0) (named 0) b o ys room (sliceVal (b, o) n ∷ Ch.val (d .change) ∷ []) (λ y zs. (y ≡ vunit) × (zs ≡ rearranged (d .change) ys))
         (λ ν δ. rearrange-runs 𝓤 H A mem run W C fm b o ys ν δ (d .change) k-rearrange (De.change-is d gd) (decides .fits))
-        (λ i j. and-then ! (load ! (from ! (stop !)) (look ! 15 refl)) (and-then ! (load ! (from ! (fld ! refl (stop !))) (look-in ! 9 (sub ! 1 refl (whole !)))) (no-more !))) (λ y zs g len.
+        (λ i j. and-then ! (load ! (from ! (stop !)) (look ! 15 refl)) (and-then ! (load ! (from ! (fld ! De.change-at (stop !))) (De.reads-change ! 9 d refl)) (no-more !))) (λ y zs g len.
         land ! (from ! (stop !)) (init ! 13 refl (subst (λ (t : Val). Holds (hasTy tyUnit t) × WT t) (sym (g .0)) (tt, tt))) $
         forget ! 13 refl $ forget ! 14 refl $ forget ! 15 refl $
         keep ! (0 ∷ 1 ∷ 2 ∷ 3 ∷ 4 ∷ 5 ∷ 6 ∷ 7 ∷ 8 ∷ 9 ∷ 10 ∷ 11 ∷ 12 ∷ 13 ∷ 14 ∷ 15 ∷ 16 ∷ 17 ∷ 18 ∷ 19 ∷ 20 ∷ 21 ∷ 22 ∷ 23 ∷ 24 ∷ 25 ∷ 26 ∷ 27 ∷ 28 ∷ 29 ∷ []) $
@@ -199,7 +199,7 @@ module _ {M : Type 1} (𝓤 : URA M) (H : Heap 𝓤) (A : Atoms 𝓤) (W : Given
         pass1 ! (init ! 24 refl (tt, (tt, (record { fits = room .0 }, tt)))) $ pass1 ! (init ! 22 refl (Ls.typed 𝓤 H A W session gsession)) $
         pass1 ! (init ! 20 refl (tt, record { fits = gid })) $ pass0 ! $
         move ! (29 ∷ []) $ fsplit ! $ move ! (1 ∷ []) $ drop ! $ move ! (29 ∷ []) $ split ! $ move ! (2 ∷ 0 ∷ []) $
-        assigns ! (of-opd ! (load ! (from ! (fld ! refl (stop !))) (look-in ! 25 (sub ! 1 refl (whole !))))) (from ! (stop !))
+        assigns ! (of-opd ! (load ! (from ! (fld ! Ls.setup-at (stop !))) (Ls.reads-setup ! 25 session refl))) (from ! (stop !))
         (init ! 21 refl (Se.typed 𝓤 H A W (session .setup) (Ls.setup-is session gsession))) $
         calls-plain ! fm (Se.val (session .setup) ∷ vint w64 id ∷ []) (λ v. Is Sv.S s₀ (v ∷ []))
         (fresh-one-runs 𝓤 H A mem run W C fm k-fresh (session .setup) id (Ls.setup-is session gsession) gid)

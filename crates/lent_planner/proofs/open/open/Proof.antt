@@ -122,9 +122,9 @@ module _ {M : Type 1} (𝓤 : URA M) (H : Heap 𝓤) (A : Atoms 𝓤) (W : Given
         calls-lent ! fm R (named 0) (named 0) b o ys room (sliceVal (b, o) n ∷ Ch.val (gx .0 .change) ∷ []) (λ y zs. (y ≡ vunit) × (zs ≡ rearranged (gx .0 .change) ys))
         (λ ν δ. rearrange-runs 𝓤 H A mem run W C fm b o ys ν δ (gx .0 .change) k-rearrange
         (De.change-is (gx .0) (subst (Is De.S (gx .0)) (De.tells (gx .0) (x ∷ []) (gx .1)) (gx .1))) (((gx .2) ys refl) .fits))
-        (λ i j. and-then ! (load ! (from ! (stop !)) (look ! 3 refl)) (and-then ! (load ! (from ! (fld ! refl (stop !))) (look-in ! 11 (sub ! 1 refl (whole !)))) (no-more !))) (λ y zs g len.
+        (λ i j. and-then ! (load ! (from ! (stop !)) (look ! 3 refl)) (and-then ! (load ! (from ! (fld ! De.change-at (stop !))) (De.reads-change ! 11 (gx .0) refl)) (no-more !))) (λ y zs g len.
         land ! (from ! (stop !)) (init ! 7 refl (subst (λ (t : Val). Holds (hasTy tyUnit t) × WT t) (sym (g .0)) (tt, tt))) $
-        assigns ! (of-opd ! (load ! (from ! (fld ! refl (stop !))) (look-in ! 11 (sub ! 0 refl (whole !))))) (from ! (stop !))
+        assigns ! (of-opd ! (load ! (from ! (fld ! De.answered-at (stop !))) (De.reads-answered ! 11 (gx .0) refl))) (from ! (stop !))
         (init ! 19 refl (La.typed 𝓤 H A W (gx .0 .answered) (De.answered-is (gx .0) (subst (Is De.S (gx .0)) (De.tells (gx .0) (x ∷ []) (gx .1)) (gx .1))))) $
         returns ! (look ! 19 refl) $ forget ! 19 refl $ forget ! 17 refl $ forget ! 15 refl $ forget ! 13 refl $ forget ! 11 refl $ forget ! 9 refl $ forget ! 7 refl $
         forget ! 5 refl $ forget ! 3 refl $
