@@ -19,10 +19,10 @@ use Rattle.answers.specs.Written.{replyRoom, inArray, atStart}
 use Rattle.answers.proofs.Lengths.{answer-length}
 use Rattle.answers.proofs.Delivering.{drop-zeros}
 use Rattle.lines.specs.Blocks.{takenOf, takenFrom, fedOf, fedOut}
-use Rattle.lines.specs.Stream.{lineStart, lineReply, unfinished, noNames, unclosed, faultAt, endText, endReply}
-use Rattle.lines.specs.declared.Feed.{Feed}
+use Rattle.streams.specs.Stream.{lineStart, lineReply, unfinished, noNames, unclosed, faultAt, endText, endReply}
+use Rattle.streams.specs.declared.Feed.{Feed}
 use Rattle.lines.specs.declared.Fed.{Fed}
-use Rattle.lines.proofs.LineByLine.{newline-state, newline-text}
+use Rattle.streams.proofs.LineByLine.{newline-state, newline-text}
 use Rattle.lines.proofs.Taking.{taken-newline}
 
 -- the state where the line is longer than what is kept of it

@@ -14,13 +14,13 @@ use Rattle.answers.specs.Replies.{parsedReply}
 use Rattle.answers.specs.Written.{replyRoom, atStart, Left, repliedIn, repliedOut}
 use Rattle.names.specs.Lists.{NameLists}
 use Rattle.lines.specs.Blocks.{takenOf, takenFrom, fedOf, fedOut}
-use Rattle.lines.specs.Pieces.{NewlineFree, FirstNewline, keptLine}
-use Rattle.lines.specs.Stream.{lineStart, lineReply, feedState, feedText}
-use Rattle.lines.specs.declared.Feed.{Feed}
+use Rattle.lines.specs.Pieces.{FirstNewline, keptLine}
+use Rattle.streams.specs.Stream.{NewlineFree, lineStart, lineReply, feedState, feedText}
+use Rattle.streams.specs.declared.Feed.{Feed}
 use Rattle.lines.specs.declared.Fed.{Fed}
-use Rattle.lines.proofs.Cut.{state-append, text-append}
-use Rattle.lines.proofs.Kept.{run-silent}
-use Rattle.lines.proofs.LineByLine.{newline-state, newline-text}
+use Rattle.streams.proofs.Cut.{state-append, text-append}
+use Rattle.streams.proofs.Kept.{run-silent}
+use Rattle.streams.proofs.LineByLine.{newline-state, newline-text}
 use Rattle.lines.proofs.NextLine.{all-left, piece, piece-free, piece-length, with-newline, from-newline}
 use Rattle.lines.proofs.Progress.{line-reply-length}
 use Rattle.lines.proofs.Runs.{ended-reply}

@@ -1,11 +1,6 @@
-pub mod Cut
-pub mod Kept
-pub mod LineByLine
-pub mod TranscriptHolds
 pub mod Progress
 pub mod Runs
 pub mod NextLine
 pub mod Taking
 pub mod Feeding
 pub mod Ending
-pub mod AcceptanceTests

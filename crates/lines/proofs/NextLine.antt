@@ -6,7 +6,8 @@ use native.Mathlib.Omega.{arith}
 use lib.ListN.{length, take, drop, take-append-drop, length-drop}
 use lib.Seq.{take-all, take-add, take-suc, drop-cons, drop-drop, length-take-le}
 use Rattle.grammar.specs.Text.{newline}
-use Rattle.lines.specs.Pieces.{NewlineFree, FirstNewline}
+use Rattle.streams.specs.Stream.{NewlineFree}
+use Rattle.lines.specs.Pieces.{FirstNewline}
 
 -- all that is left
 pub all-left : (l : List ℕ) (from : ℕ) → take (length l - from) (drop from l) ≡ drop from l

@@ -12,10 +12,10 @@ use Rattle.answers.specs.Written.{replyRoom}
 use Rattle.answers.proofs.ReplyLength.{reply-length}
 use Rattle.grammar.specs.Text.{newline}
 use Rattle.names.specs.Lists.{NameLists}
-use Rattle.lines.specs.Stream.{lineReply, byteState, byteText, feedText}
+use Rattle.streams.specs.Stream.{lineReply, byteState, byteText, feedText}
 use Rattle.lines.specs.Blocks.{takenOf, takenFrom}
 use Rattle.lines.specs.Progress.{Progress}
-use Rattle.lines.specs.declared.Feed.{Feed}
+use Rattle.streams.specs.declared.Feed.{Feed}
 
 module _ (n : NameLists) where
   pub line-reply-length : (f : Feed) → length (lineReply n f .text) ≤ replyRoom

@@ -20,12 +20,12 @@ use Rattle.parser.specs.ParseWith.{parseTextWith}
 use Rattle.grammar.specs.declared.Parsed.{Parsed}
 use Rattle.answers.specs.Replies.{parsedReply}
 use Rattle.names.specs.Lists.{NameLists}
-use Rattle.lines.specs.Pieces.{NewlineFree, keptLine, stateOf, KeptOn, EndedLine}
-use Rattle.lines.specs.Stream.{keepByte, lineReply, feedState}
+use Rattle.lines.specs.Pieces.{keptLine, stateOf, KeptOn, EndedLine}
+use Rattle.streams.specs.Stream.{NewlineFree, keepByte, lineReply, feedState}
 use Rattle.lines.specs.declared.Extent.{Extent}
-use Rattle.lines.specs.declared.Feed.{Feed}
-use Rattle.lines.proofs.Kept.{head-free, tail-free, not-ending, keep-fitting, afterRun, kept-run}
-use Rattle.lines.proofs.LineByLine.{front}
+use Rattle.streams.specs.declared.Feed.{Feed}
+use Rattle.streams.proofs.Kept.{head-free, tail-free, not-ending, keep-fitting, afterRun, kept-run}
+use Rattle.streams.proofs.LineByLine.{front}
 
 -- a block without a newline up to a place that has none either
 pub free-next : (block : List ℕ) (at : ℕ) → at < length block → NewlineFree (take at block) → ¬ (getD block at 0 ≡ newline) → NewlineFree (take (at + 1) block)

@@ -10,10 +10,9 @@ use Rattle.grammar.specs.Text.{newline}
 use Rattle.answers.specs.Written.{replyRoom}
 use Rattle.names.specs.Lists.{NameLists}
 use Rattle.lines.specs.Blocks.{takenOf}
-use Rattle.lines.specs.Pieces.{NewlineFree}
-use Rattle.lines.specs.Stream.{lineStart, lineReply, byteState, byteText, feedState}
-use Rattle.lines.specs.declared.Feed.{Feed}
-use Rattle.lines.proofs.Kept.{head-free, tail-free, no-text}
+use Rattle.streams.specs.Stream.{NewlineFree, lineStart, lineReply, byteState, byteText, feedState}
+use Rattle.streams.specs.declared.Feed.{Feed}
+use Rattle.streams.proofs.Kept.{head-free, tail-free, no-text}
 use Rattle.lines.proofs.Progress.{taken-none, taken-one}
 
 module _ (n : NameLists) where

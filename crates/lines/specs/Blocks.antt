@@ -6,8 +6,8 @@ use lib.Dec.{ltb}
 use lib.ListN.{length, take}
 use Rattle.names.specs.Lists.{NameLists}
 use Rattle.answers.specs.Written.{replyRoom, atStart}
-use Rattle.lines.specs.Stream.{byteState, byteText, feedState, feedText}
-use Rattle.lines.specs.declared.Feed.{Feed}
+use Rattle.streams.specs.Stream.{byteState, byteText, feedState, feedText}
+use Rattle.streams.specs.declared.Feed.{Feed}
 use Rattle.lines.specs.declared.Fed.{Fed}
 
 -- the number of bytes taken, given the room in the output

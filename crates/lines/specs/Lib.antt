@@ -1,13 +1,5 @@
--- What the contracts and the statements speak of.
-pub mod Stream
 -- Statements: what is claimed of it.
-pub mod LineByLine
-pub mod Transcript
-pub mod Cutting
 pub mod Progress
-pub mod Tries
-pub mod OrderTries
-pub mod NameTries
 -- The code's own: how it holds its values. No claim.
 pub mod Pieces
 pub mod Blocks

@@ -1,7 +1,7 @@
 -- A piece of a line: bytes without a newline.
 use mathlib.Core.Path.{_≡_}
 use mathlib.Core.Bool.{Bool, true}
-use mathlib.Core.List.{List, List·Memᴰ}
+use mathlib.Core.List.{List}
 use Prim.Native.Nat.{ℕ, _≤_, _<_}
 use lib.ListN.{length, getD, take}
 use Rattle.grammar.specs.Text.{newline}
@@ -10,13 +10,9 @@ use Rattle.names.specs.Lists.{NameLists}
 use Rattle.parser.specs.ParseWith.{parseTextWith}
 use Rattle.sessions.specs.declared.Session.{Session}
 use Rattle.grammar.specs.declared.Parsed.{Parsed}
-use Rattle.lines.specs.Stream.{feedState}
+use Rattle.streams.specs.Stream.{NewlineFree, feedState}
 use Rattle.lines.specs.declared.Extent.{Extent}
-use Rattle.lines.specs.declared.Feed.{Feed}
-
--- none of the bytes is a newline
-abbrev pub NewlineFree : List ℕ → Type 0
-NewlineFree bytes = ¬ List·Memᴰ newline bytes
+use Rattle.streams.specs.declared.Feed.{Feed}
 
 -- the place of the first newline of a block, or its length where there is none
 pub record FirstNewline (block : List ℕ) (at : ℕ) : Type 0 where

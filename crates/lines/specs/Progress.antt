@@ -4,9 +4,9 @@ use Prim.Native.Nat.{ℕ, _<_, _≤_}
 use lib.ListN.{length}
 use Rattle.names.specs.Lists.{NameLists}
 use Rattle.answers.specs.Written.{replyRoom}
-use Rattle.lines.specs.Stream.{feedText}
+use Rattle.streams.specs.Stream.{feedText}
 use Rattle.lines.specs.Blocks.{takenOf, takenFrom}
-use Rattle.lines.specs.declared.Feed.{Feed}
+use Rattle.streams.specs.declared.Feed.{Feed}
 
 pub record Progress : Type 0 where
   pub some : (n : NameLists) (f : Feed) (b : ℕ) (bs : List ℕ) (room : ℕ) → replyRoom ≤ room → 0 < takenOf n room f (b ∷ bs)

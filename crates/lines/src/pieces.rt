@@ -1,15 +1,16 @@
 // Pieces of a line: kept until the line ends, and parsed then.
 use crate::Extent;
-use crate::LONGEST;
 use grammar::Parsed;
 use parser::parse::parse_text;
 use requests::Device;
+use streams::LONGEST;
 ghost use mathlib.Core.Path.{_≡_};
 ghost use lib.Dec.{ltb};
 ghost use lib.ListN.{take};
 ghost use Rattle.requests.specs.Choice.{either, pick};
 ghost use Rattle.names.specs.Lists.{NameLists};
-ghost use Rattle.lines.specs.Pieces.{NewlineFree, KeptOn, EndedLine};
+ghost use Rattle.streams.specs.Stream.{NewlineFree};
+ghost use Rattle.lines.specs.Pieces.{KeptOn, EndedLine};
 
 // Whether a line has begun.
 pub fn begun(used: usize, long: bool) -> bool

@@ -1,7 +1,5 @@
 // The line program over blocks of input.
 use crate::Fed;
-use crate::Feed;
-use crate::LONGEST;
 use crate::newlines::newline_in;
 use crate::pieces::begun;
 use crate::pieces::keep;
@@ -16,12 +14,14 @@ use queue_rows::packing::pack;
 use queue_rows::packing::unpack;
 use sessions::QUEUE_LIMIT;
 use sessions::Session;
+use streams::Feed;
+use streams::LONGEST;
 ghost use mathlib.Core.Path.{_≡_};
 ghost use lib.ListN.{length};
 ghost use Rattle.names.specs.Lists.{NameLists};
 ghost use Rattle.queue_rows.specs.Heads.{sessionIn};
 ghost use Rattle.answers.specs.Written.{inArray};
-ghost use Rattle.lines.specs.Stream.{lineStart, feedStart, endReply};
+ghost use Rattle.streams.specs.Stream.{lineStart, feedStart, endReply};
 ghost use Rattle.lines.specs.Pieces.{stateOf};
 ghost use Rattle.lines.specs.Blocks.{fedOf, fedOut};
 
@@ -97,16 +97,8 @@ pub fn feed<'a>(feed: Feed, block: &[u8], site: &'a [u8], house: &'a [u8], out: 
             return fed(head, &ids, &rows, kept, rest.used, rest.long, end, written);
         }
         let setup = head.setup;
-        let device = setup.device;
-        let parsed = parse_ended(
-            &mut kept,
-            used,
-            long,
-            &block[taken..end],
-            device,
-            site,
-            house,
-        );
+        let on = setup.device;
+        let parsed = parse_ended(&mut kept, used, long, &block[taken..end], on, site, house);
         let replied = reply(head, &mut ids, &mut rows, parsed, &mut out[written..]);
         head = replied.head;
         kept = [0u8; LONGEST];

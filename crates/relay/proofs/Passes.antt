@@ -11,10 +11,10 @@ use Rattle.answers.specs.Written.{replyRoom, inArray}
 use Rattle.answers.specs.Replies.{Reply}
 use Rattle.names.specs.Lists.{NameLists}
 use Rattle.lines.specs.Blocks.{takenOf, takenFrom, fedOf}
-use Rattle.lines.specs.Stream.{feedState, feedText}
-use Rattle.lines.specs.declared.Feed.{Feed}
+use Rattle.streams.specs.Stream.{feedState, feedText}
+use Rattle.streams.specs.declared.Feed.{Feed}
 use Rattle.lines.specs.declared.Fed.{Fed}
-use Rattle.lines.proofs.Cut.{state-append, text-append}
+use Rattle.streams.proofs.Cut.{state-append, text-append}
 use Rattle.lines.proofs.NextLine.{all-left}
 use Rattle.lines.proofs.Progress.{progress}
 

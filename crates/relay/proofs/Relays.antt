@@ -10,9 +10,9 @@ use lib.Seq.{take-all}
 use Rattle.answers.specs.Written.{inArray}
 use Rattle.answers.specs.declared.LineReply.{LineReply}
 use Rattle.names.specs.Lists.{NameLists}
-use Rattle.lines.specs.Stream.{feedStart, feedState, feedText, endText, endReply, transcript}
-use Rattle.lines.specs.declared.Feed.{Feed}
-use Rattle.lines.proofs.Cut.{state-append, text-append}
+use Rattle.streams.specs.Stream.{feedStart, feedState, feedText, endText, endReply, transcript}
+use Rattle.streams.specs.declared.Feed.{Feed}
+use Rattle.streams.proofs.Cut.{state-append, text-append}
 use Rattle.descriptors.specs.Writes.{Reached}
 use Rattle.descriptors.specs.declared.Reading.{Reading}
 use Rattle.descriptors.specs.declared.Reading.the-variants.{End}

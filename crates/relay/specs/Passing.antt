@@ -4,8 +4,8 @@ use mathlib.Core.Path.{_≡_}
 use Prim.Native.Nat.{ℕ, _%_, _^_}
 use lib.ListN.{length, take}
 use Rattle.names.specs.Lists.{NameLists}
-use Rattle.lines.specs.Stream.{feedState, feedText}
-use Rattle.lines.specs.declared.Feed.{Feed}
+use Rattle.streams.specs.Stream.{feedState, feedText}
+use Rattle.streams.specs.declared.Feed.{Feed}
 use Rattle.descriptors.specs.declared.Next.the-variants.{Complete}
 use Rattle.relay.specs.declared.Passed.{Passed}
 

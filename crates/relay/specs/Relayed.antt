@@ -5,7 +5,7 @@ use mathlib.Core.Path.{_≡_}
 use Prim.Native.Nat.{ℕ, _%_, _^_}
 use lib.ListN.{length}
 use Rattle.names.specs.Lists.{NameLists}
-use Rattle.lines.specs.Stream.{feedStart, feedState, feedText, transcript}
+use Rattle.streams.specs.Stream.{feedStart, feedState, feedText, transcript}
 use Rattle.descriptors.specs.declared.Reading.the-variants.{End}
 use Rattle.descriptors.specs.declared.Next.the-variants.{Complete}
 use Rattle.relay.specs.declared.Run.{Run}

@@ -11,7 +11,7 @@ use lib.ListN.{length}
 use lib.Seq.{length-take-le, take-all}
 use Rattle.answers.specs.Written.{replyRoom}
 use Rattle.names.specs.Lists.{NameLists}
-use Rattle.lines.specs.Stream.{feedText}
+use Rattle.streams.specs.Stream.{feedText}
 use Rattle.descriptors.specs.Writes.{isComplete}
 use Rattle.descriptors.specs.declared.Next.the-variants.{Complete}
 use Rattle.relay.proofs.Passes.{PassedSoFar, passed-none, PartPassed, part-passed}

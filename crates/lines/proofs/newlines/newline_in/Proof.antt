@@ -5,7 +5,7 @@ use native.Mathlib.Omega.{arith}
 use denote.Ref.{now}
 use lib.ListN.{length, take}
 use Rattle.grammar.specs.Text.{newline}
-use Rattle.lines.specs.Pieces.{NewlineFree}
+use Rattle.streams.specs.Stream.{NewlineFree}
 use Rattle.lines.proofs.Runs.{free-next}
 use Rattle.lines.proofs.newlines.newline_in.Statement.{statement}
 use Rattle.lines.proofs.newlines.newline_in.Tie as tie

@@ -8,8 +8,8 @@ use lib.Seq.{drop-length}
 use Rattle.grammar.specs.Parse.{longest}
 use Rattle.sessions.specs.declared.Session.{Session}
 use Rattle.names.specs.Lists.{NameLists}
-use Rattle.lines.specs.Pieces.{NewlineFree, stateOf}
-use Rattle.lines.specs.Stream.{feedState}
+use Rattle.lines.specs.Pieces.{stateOf}
+use Rattle.streams.specs.Stream.{NewlineFree, feedState}
 use Rattle.lines.proofs.Runs.{free-more, keep-more, keep-no-more}
 use Rattle.lines.proofs.pieces.keep.Statement.{statement}
 use Rattle.lines.proofs.pieces.keep.Tie as tie

@@ -10,7 +10,7 @@ use Rattle.queue_rows.specs.Rows.{Sized}
 use Rattle.queue_rows.specs.Heads.{sessionIn}
 use Rattle.answers.specs.Written.{replyRoom, leftIn}
 use Rattle.lines.specs.Pieces.{stateOf}
-use Rattle.lines.specs.Stream.{lineStart}
+use Rattle.streams.specs.Stream.{lineStart}
 use Rattle.lines.proofs.NextLine.{left-within, piece-free, rest-free}
 use Rattle.lines.proofs.Feeding.{FedSoFar, fed-none, fed-length, fed-reply, fed-rest, fed-full, fed-end}
 use borrow.Author.Needs.{needs}

@@ -1,7 +1,7 @@
 -- The fields are those of the definition.
 use mathlib.Core.Path.{refl}
 use Rattle.grammar.specs.Parse.{longest}
-use Rattle.lines.specs.Stream.{lineStart}
+use Rattle.streams.specs.Stream.{lineStart}
 use Rattle.lines.proofs.stream.line_start.Statement.{statement}
 use Rattle.lines.proofs.stream.line_start.Tie as tie
 

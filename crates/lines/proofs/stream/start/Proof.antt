@@ -1,5 +1,5 @@
 -- The beginning of a line in a new session.
-use Rattle.lines.specs.Stream.{feedStart}
+use Rattle.streams.specs.Stream.{feedStart}
 use borrow.Author.Needs.{needs}
 use Rattle.lines.proofs.stream.start.Statement.{statement}
 use Rattle.lines.proofs.stream.start.Tie as tie

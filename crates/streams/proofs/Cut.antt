@@ -3,9 +3,9 @@ use mathlib.Core.Path.{_≡_, refl, ap, sym, _∙_}
 use mathlib.Core.List.{List, [], _∷_, _++_, append-assoc}
 use Prim.Native.Nat.{ℕ}
 use Rattle.names.specs.Lists.{NameLists}
-use Rattle.lines.specs.Stream.{byteState, feedState, feedText}
-use Rattle.lines.specs.Cutting.{joined, stateThrough, textThrough, Cutting}
-use Rattle.lines.specs.declared.Feed.{Feed}
+use Rattle.streams.specs.Stream.{byteState, feedState, feedText}
+use Rattle.streams.specs.Cutting.{joined, stateThrough, textThrough, Cutting}
+use Rattle.streams.specs.declared.Feed.{Feed}
 
 module _ (n : NameLists) where
   pub state-append : (f : Feed) (a b : List ℕ) → feedState n f (a ++ b) ≡ feedState n (feedState n f a) b

@@ -7,7 +7,7 @@ use Rattle.requests.specs.declared.Entry.{Entry}
 use Rattle.sessions.specs.Sessions.{queued}
 use Rattle.names.specs.Lists.{NameLists}
 use Rattle.grammar.specs.Examples.{typed}
-use Rattle.lines.specs.Stream.{feedStart, feedState, transcript}
+use Rattle.streams.specs.Stream.{feedStart, feedState, transcript}
 
 -- "Whole input (blanks stand for tabs, in the output too)", "Whole output, no header", and the ids waiting afterwards
 pub record Try : Type 0 where

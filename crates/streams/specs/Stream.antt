@@ -1,6 +1,6 @@
 -- The line program as a fold over bytes: the state after each byte, and the text that it gives, with two lists of names.
 use mathlib.Core.Bool.{Bool, true, false}
-use mathlib.Core.List.{List, [], _∷_, _++_}
+use mathlib.Core.List.{List, [], _∷_, _++_, List·Memᴰ}
 use Prim.Native.Nat.{ℕ, _+_}
 use lib.Dec.{ltb, eqb}
 use lib.ListN.{take, set, replicate}
@@ -16,7 +16,11 @@ use Rattle.grammar.specs.declared.Parsed.the-variants.{Line, Named, Fault}
 use Rattle.names.specs.Lists.{NameLists}
 use Rattle.parser.specs.ParseWith.{parseTextWith}
 use Rattle.answers.specs.Replies.{Reply, answerText, parsedReply}
-use Rattle.lines.specs.declared.Feed.{Feed}
+use Rattle.streams.specs.declared.Feed.{Feed}
+
+-- none of the bytes is a newline
+abbrev pub NewlineFree : List ℕ → Type 0
+NewlineFree bytes = ¬ List·Memᴰ newline bytes
 
 -- the state at the beginning of a line
 unfoldable pub lineStart : Session → Feed

@@ -15,8 +15,7 @@ use Rattle.names.specs.Lists.{NameLists}
 use Rattle.parser.specs.ParseWith.{parseLineWith}
 use Rattle.answers.specs.Replies.{answerText, answerLine}
 use Rattle.answers.specs.LineLists.{callsBy}
-use Rattle.lines.specs.Pieces.{NewlineFree}
-use Rattle.lines.specs.Stream.{noNames, faultAt, feedStart, feedState, transcript}
+use Rattle.streams.specs.Stream.{NewlineFree, noNames, faultAt, feedStart, feedState, transcript}
 
 -- a text closed by its newline
 abbrev pub closed : List ℕ → List ℕ

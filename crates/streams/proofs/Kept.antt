@@ -17,9 +17,8 @@ use Rattle.requests.proofs.Tests.{either-true, either-false}
 use Rattle.grammar.specs.Text.{newline}
 use Rattle.grammar.specs.Parse.{longest}
 use Rattle.names.specs.Lists.{NameLists}
-use Rattle.lines.specs.Pieces.{NewlineFree}
-use Rattle.lines.specs.Stream.{keepByte, byteState, byteText, feedState, feedText}
-use Rattle.lines.specs.declared.Feed.{Feed}
+use Rattle.streams.specs.Stream.{NewlineFree, keepByte, byteState, byteText, feedState, feedText}
+use Rattle.streams.specs.declared.Feed.{Feed}
 
 -- ---- runs without a newline
 

@@ -11,8 +11,7 @@ use Rattle.requests.specs.declared.Device.{Device}
 use Rattle.names.specs.Lists.{NameLists}
 use Rattle.parser.specs.ParseWith.{parseLineWith}
 use Rattle.answers.specs.Replies.{answerText, answerLine}
-use Rattle.lines.specs.Pieces.{NewlineFree}
-use Rattle.lines.specs.Stream.{lineStart, feedState, feedText, faultAt, endText}
+use Rattle.streams.specs.Stream.{NewlineFree, lineStart, feedState, feedText, faultAt, endText}
 
 -- bytes without a newline, from the beginning of a line
 pub record LineAnswered (n : NameLists) (s : Session) (text : List ℕ) : Type 0 where

@@ -1,7 +1,7 @@
 -- Tries of the orders: whole inputs and outputs, as in `Tries`, in one statement ranging over a table.
 use mathlib.Core.Path.{_≡_}
 use mathlib.Core.List.{List, [], _∷_, map}
-use Rattle.lines.specs.Tries.{Try, outcome, expected}
+use Rattle.streams.specs.Tries.{Try, outcome, expected}
 
 -- the table
 abbrev pub orderTries : List Try

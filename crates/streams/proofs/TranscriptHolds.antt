@@ -16,13 +16,12 @@ use Rattle.answers.specs.Replies.{answerLine}
 use Rattle.answers.specs.LineLists.{sessionBy}
 use Rattle.answers.proofs.LineLists.{session-by}
 use Rattle.names.specs.Lists.{NameLists}
-use Rattle.lines.specs.Stream.{lineStart, feedStart, feedState, feedText, noNames, endText, transcript}
-use Rattle.lines.specs.Pieces.{NewlineFree}
-use Rattle.lines.specs.Transcript.{closed, repliesTo, atEnd, callsOf, Transcript}
-use Rattle.lines.specs.declared.Feed.{Feed}
-use Rattle.lines.proofs.Cut.{state-append, text-append}
-use Rattle.lines.proofs.Kept.{afterRun, kept-run}
-use Rattle.lines.proofs.LineByLine.{line-by-line}
+use Rattle.streams.specs.Stream.{NewlineFree, lineStart, feedStart, feedState, feedText, noNames, endText, transcript}
+use Rattle.streams.specs.Transcript.{closed, repliesTo, atEnd, callsOf, Transcript}
+use Rattle.streams.specs.declared.Feed.{Feed}
+use Rattle.streams.proofs.Cut.{state-append, text-append}
+use Rattle.streams.proofs.Kept.{afterRun, kept-run}
+use Rattle.streams.proofs.LineByLine.{line-by-line}
 
 -- ---- lines, and a rest without a newline
 

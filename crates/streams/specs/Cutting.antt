@@ -3,8 +3,8 @@ use mathlib.Core.Path.{_≡_}
 use mathlib.Core.List.{List, [], _∷_, _++_}
 use Prim.Native.Nat.{ℕ}
 use Rattle.names.specs.Lists.{NameLists}
-use Rattle.lines.specs.Stream.{feedState, feedText}
-use Rattle.lines.specs.declared.Feed.{Feed}
+use Rattle.streams.specs.Stream.{feedState, feedText}
+use Rattle.streams.specs.declared.Feed.{Feed}
 
 -- pieces put together
 unfoldable pub joined : List (List ℕ) → List ℕ

@@ -5,7 +5,7 @@ use Prim.Native.Nat.{ℕ}
 use Prim.Native.String.{String}
 use Rattle.names.specs.Lists.{NameLists}
 use Rattle.grammar.specs.Examples.{tabbed, typed}
-use Rattle.lines.specs.Tries.{Try, outcomeWith, expected}
+use Rattle.streams.specs.Tries.{Try, outcomeWith, expected}
 
 -- two lists, and a try with them
 pub record NameTry : Type 0 where

@@ -24,12 +24,11 @@ use Rattle.parser.specs.ParseWith.{parseTextWith, parseLineWith}
 use Rattle.parser.proofs.LongLines.{long-lines}
 use Rattle.answers.specs.Replies.{Reply, answerText, parsedReply, answerLine}
 use Rattle.names.specs.Lists.{NameLists}
-use Rattle.lines.specs.Stream.{lineStart, lineReply, byteState, byteText, feedState, feedText, unfinished, noNames, unclosed, faultAt, endText}
-use Rattle.lines.specs.Pieces.{NewlineFree}
-use Rattle.lines.specs.LineByLine.{LineByLine}
-use Rattle.lines.specs.declared.Feed.{Feed}
-use Rattle.lines.proofs.Cut.{state-append, text-append}
-use Rattle.lines.proofs.Kept.{afterRun, kept-run, run-silent}
+use Rattle.streams.specs.Stream.{NewlineFree, lineStart, lineReply, byteState, byteText, feedState, feedText, unfinished, noNames, unclosed, faultAt, endText}
+use Rattle.streams.specs.LineByLine.{LineByLine}
+use Rattle.streams.specs.declared.Feed.{Feed}
+use Rattle.streams.proofs.Cut.{state-append, text-append}
+use Rattle.streams.proofs.Kept.{afterRun, kept-run, run-silent}
 
 -- ---- what is kept of a line
 

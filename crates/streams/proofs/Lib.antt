@@ -1,0 +1,5 @@
+pub mod Cut
+pub mod Kept
+pub mod LineByLine
+pub mod TranscriptHolds
+pub mod AcceptanceTests
