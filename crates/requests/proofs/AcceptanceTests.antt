@@ -3,7 +3,7 @@ use mathlib.Core.Path.{refl}
 use Rattle.requests.specs.Askings.{overflowOn, coreCount, unasked, coreGiven, asks, overflowNotOn, coreFits}
 use Rattle.requests.specs.Bits.{bit, inList, anyBit, onlyBits, typeBits, anyResponse, answerBits, outstanding, rsp1Bits, rsp0Bits, rising, field, matchBits, maskBits}
 use Rattle.requests.specs.CBoxEvents.{sinkMasks, ringMasks, starvedMasks, bypassMasks, cboxEvents}
-use Rattle.requests.specs.Catalogue.{eventsOf, codeIn, pairIn, maskNotListed}
+use Rattle.requests.specs.Catalogue.{architecturalEvents, preciseEvents, eventsOf, codeIn, pairIn, maskNotListed}
 use Rattle.requests.specs.Checks.{kindNotOn, notListed, tooWide, outOfRange, incomplete, conflicting, requestRows, requestRefusal}
 use Rattle.requests.specs.Choice.{both, either, every, firstHolding}
 use Rattle.requests.specs.Devices.{counterCount, allCounters, fixedCount, allFixed, letterOf, boxCount, devices, named, deviceOf, packetsOn, offcoreOn, pairsJudged, usableSet}
@@ -14,9 +14,9 @@ use Rattle.requests.specs.MaskRules.{allows}
 use Rattle.requests.specs.Refusals.{numberOf, answerFor, answerNumber}
 
 pub examples-hold : Examples
-unfolding unasked bit inList anyBit onlyBits typeBits anyResponse answerBits outstanding rsp1Bits rsp0Bits rising field matchBits maskBits sinkMasks ringMasks starvedMasks bypassMasks cboxEvents eventsOf codeIn pairIn maskNotListed kindNotOn notListed tooWide outOfRange incomplete conflicting requestRows requestRefusal both either every firstHolding counterCount allCounters packetsOn offcoreOn pairsJudged examples numberFor allows numberOf answerFor answerNumber
+unfolding unasked bit inList anyBit onlyBits typeBits anyResponse answerBits outstanding rsp1Bits rsp0Bits rising field matchBits maskBits sinkMasks ringMasks starvedMasks bypassMasks cboxEvents architecturalEvents preciseEvents eventsOf codeIn pairIn maskNotListed kindNotOn notListed tooWide outOfRange incomplete conflicting requestRows requestRefusal both either every firstHolding counterCount allCounters packetsOn offcoreOn pairsJudged examples numberFor allows numberOf answerFor answerNumber
 examples-hold = refl
 
 pub fault-examples-hold : FaultExamples
-unfolding overflowOn coreCount unasked coreGiven asks overflowNotOn coreFits bit inList anyBit onlyBits typeBits anyResponse answerBits outstanding rsp1Bits rsp0Bits rising field matchBits maskBits sinkMasks ringMasks starvedMasks bypassMasks cboxEvents eventsOf codeIn pairIn maskNotListed kindNotOn notListed tooWide incomplete conflicting both either every firstHolding counterCount allCounters fixedCount allFixed letterOf boxCount devices named deviceOf packetsOn offcoreOn pairsJudged usableSet numbered faultExamples freezeField openingFaults openingFaultTable requestFaults openingFault requestFault allows numberOf
+unfolding overflowOn coreCount unasked coreGiven asks overflowNotOn coreFits bit inList anyBit onlyBits typeBits anyResponse answerBits outstanding rsp1Bits rsp0Bits rising field matchBits maskBits sinkMasks ringMasks starvedMasks bypassMasks cboxEvents architecturalEvents preciseEvents eventsOf codeIn pairIn maskNotListed kindNotOn notListed tooWide incomplete conflicting both either every firstHolding counterCount allCounters fixedCount allFixed letterOf boxCount devices named deviceOf packetsOn offcoreOn pairsJudged usableSet numbered faultExamples freezeField openingFaults openingFaultTable requestFaults openingFault requestFault allows numberOf
 fault-examples-hold = refl

@@ -10,7 +10,7 @@ use Rattle.requests.specs.Openings.{MayAsk, NothingAsked, CoreInField, I
 use Rattle.requests.specs.declared.Core.{Core}
 use Rattle.requests.specs.declared.Core.the-variants.{NoCore, At}
 use Rattle.requests.specs.declared.Device.{Device}
-use Rattle.requests.specs.declared.Device.the-variants.{G, S, C}
+use Rattle.requests.specs.declared.Device.the-variants.{G, S, C, B}
 use Rattle.requests.specs.declared.Overflow.{Overflow}
 use Rattle.requests.proofs.Tests.{both-parts, true-both, either-parts}
 
@@ -20,12 +20,14 @@ unfolding overflowOn
 may-ask G h = absurd (false≢true h)
 may-ask S h = tt
 may-ask (C b) h = tt
+may-ask B h = absurd (false≢true h)
 
 pub asked-on : (d : Device) → MayAsk d → overflowOn d ≡ true
 unfolding overflowOn
 asked-on G h = absurd h
 asked-on S h = refl
 asked-on (C b) h = refl
+asked-on B h = absurd h
 
 pub not-asked-on : (d : Device) → ¬ MayAsk d → overflowOn d ≡ false
 not-asked-on d n = go (overflowOn d) refl

@@ -12,9 +12,9 @@ use Rattle.requests.specs.Devices.{pairsJudged}
 use Rattle.requests.specs.MaskRules.{MaskRule, alone, range, among, allows, ListedEvent, listed}
 use Rattle.requests.specs.CBoxEvents.{cboxEvents}
 use Rattle.requests.specs.Catalogue.{eventsOf, codeIn, pairIn}
-use Rattle.requests.specs.RefusedRequests.{Lists, Above, InCatalogue, PairsOn, on-G, CodesOn, on-S, on-C}
+use Rattle.requests.specs.RefusedRequests.{Lists, Above, InCatalogue, PairsOn, on-G, on-B, CodesOn, on-S, on-C}
 use Rattle.requests.specs.declared.Device.{Device}
-use Rattle.requests.specs.declared.Device.the-variants.{G, S, C}
+use Rattle.requests.specs.declared.Device.the-variants.{G, S, C, B}
 use Rattle.requests.proofs.Tests.{both-ways, both-parts, true-both, either-cases, either-left, either-right}
 use Rattle.requests.proofs.BitMembers.{in-member, member-in}
 
@@ -100,10 +100,12 @@ unfolding pairsJudged
 judged G = inl (on-G, refl)
 judged S = inr (on-S, refl)
 judged (C b) = inr (on-C, refl)
+judged B = inl (on-B, refl)
 
 pub pairs-judged : (d : Device) → PairsOn d → pairsJudged d ≡ true
 unfolding pairsJudged
 pairs-judged d on-G = refl
+pairs-judged d on-B = refl
 
 pub codes-judged : (d : Device) → CodesOn d → pairsJudged d ≡ false
 unfolding pairsJudged

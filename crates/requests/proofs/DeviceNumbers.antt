@@ -6,7 +6,7 @@ use native.Mathlib.Omega.{arith}
 use Rattle.requests.specs.Devices.{counterCount, allCounters, fixedCount, allFixed, letterOf, boxCount, boxOf, devices, named, deviceOf}
 use Rattle.requests.specs.Openings.{mostUsable, mostFixed, mostBox}
 use Rattle.requests.specs.declared.Device.{Device}
-use Rattle.requests.specs.declared.Device.the-variants.{G, S, C}
+use Rattle.requests.specs.declared.Device.the-variants.{G, S, C, B}
 
 pub record DeviceNumbers (d : Device) : Type 0 where
   -- it has a counter, and at most as many as a set of six bits holds
@@ -29,3 +29,4 @@ unfolding counterCount allCounters fixedCount allFixed letterOf boxCount boxOf d
 numbers G = record { counters-some = omega arith; counters-few = omega arith; usable-most = refl; fixed-few = omega arith; fixed-most = refl; box-most = refl; letter-names = λ n e. refl; letter-printed = (omega arith, omega arith) }
 numbers S = record { counters-some = omega arith; counters-few = omega arith; usable-most = refl; fixed-few = omega arith; fixed-most = refl; box-most = refl; letter-names = λ n e. refl; letter-printed = (omega arith, omega arith) }
 numbers (C b) = record { counters-some = omega arith; counters-few = omega arith; usable-most = refl; fixed-few = omega arith; fixed-most = refl; box-most = refl; letter-names = λ n e. rw e; letter-printed = (omega arith, omega arith) }
+numbers B = record { counters-some = omega arith; counters-few = omega arith; usable-most = refl; fixed-few = omega arith; fixed-most = refl; box-most = refl; letter-names = λ n e. refl; letter-printed = (omega arith, omega arith) }

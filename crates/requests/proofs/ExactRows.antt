@@ -17,7 +17,7 @@ use Rattle.requests.specs.Checks.{kindNotOn, notListed, tooWide, outOfRa
 use Rattle.requests.specs.RefusedRequests.{Lists, InCatalogue, TypesIn, offcore-word, latency-types, AllowedSet, of-event, of-packet, of-offcore, first-of-latency, second-of-latency, PairsOn, CodesOn, KindNotOn, no-packet, no-offcore, no-latency, NotListed, pair, code, Incomplete, mask-0, no-type, no-response, OutOfRange, mask-other, word-bit, type-bit, wide-set, Conflicting, bit-38, bit-16, RefusedRequests, match-bit, mask-bit}
 use Rattle.requests.specs.declared.CounterSet.{CounterSet}
 use Rattle.requests.specs.declared.Device.{Device}
-use Rattle.requests.specs.declared.Device.the-variants.{G, S, C}
+use Rattle.requests.specs.declared.Device.the-variants.{G, S, C, B}
 use Rattle.requests.specs.declared.Request.{Request}
 use Rattle.requests.specs.declared.Request.the-variants.{Event, Packet, Offcore, Latency}
 use Rattle.requests.proofs.Tests.{both-ways, both-parts, true-both, either-cases, either-left, either-right, either-false}
@@ -36,6 +36,7 @@ unfolding packetsOn
 only-s G h = absurd (false≢true h)
 only-s S h = refl
 only-s (C b) h = absurd (false≢true h)
+only-s B h = absurd (false≢true h)
 
 offcore-on-g : offcoreOn G ≡ true
 unfolding offcoreOn
@@ -46,6 +47,7 @@ unfolding offcoreOn
 only-g G h = refl
 only-g S h = absurd (false≢true h)
 only-g (C b) h = absurd (false≢true h)
+only-g B h = absurd (false≢true h)
 
 not-s : (d : Device) → not (packetsOn d) ≡ true → ¬ (d ≡ S)
 not-s d h e = both-ways (ap packetsOn e ∙ packets-on-s) (not-true _ h)

@@ -17,7 +17,7 @@ use Rattle.requests.specs.FaultFields.{freezeAt, OpeningFailsAt, letter,
 use Rattle.requests.specs.declared.Core.{Core}
 use Rattle.requests.specs.declared.Core.the-variants.{NoCore, At}
 use Rattle.requests.specs.declared.Device.{Device}
-use Rattle.requests.specs.declared.Device.the-variants.{G, S, C}
+use Rattle.requests.specs.declared.Device.the-variants.{G, S, C, B}
 use Rattle.requests.specs.declared.Opening.{Opening}
 use Rattle.requests.specs.declared.Refusal.the-variants.{BadOpening, KindNotOnDevice, OutOfRange}
 use Rattle.requests.specs.declared.Fault.{Fault}
@@ -42,6 +42,7 @@ unfolding freezeField boxCount
 freeze-is G = refl
 freeze-is S = refl
 freeze-is (C b) = refl
+freeze-is B = refl
 
 -- they have the same bounds and the same line
 record Alike (d e : Device) : Type 0 where
@@ -59,6 +60,7 @@ alike n box d G h l = subst (λ (x : Device). Alike x G) (Option·some-injective
 alike n box d S h l = subst (λ (x : Device). Alike x S) (Option·some-injective S d (rw l at h)) (itself S)
 alike n box d (C b) h l =
     subst (λ (x : Device). Alike x (C b)) (Option·some-injective (C box) d (rw l at h)) (record { usable = refl; fixed = refl; box = refl; freeze = refl })
+alike n box d B h l = subst (λ (x : Device). Alike x B) (Option·some-injective B d (rw l at h)) (itself B)
 
 -- the letter of no device
 unknown-letter : (n box : ℕ) → deviceOf n box ≡ none → (d : Device) → ¬ (n ≡ letterCode d)
@@ -66,6 +68,7 @@ unfolding deviceOf named devices letterOf
 unknown-letter n box h G l = Option·none-ne-some G (sym (rw l at h))
 unknown-letter n box h S l = Option·none-ne-some S (sym (rw l at h))
 unknown-letter n box h (C b) l = Option·none-ne-some (C box) (sym (rw l at h))
+unknown-letter n box h B l = Option·none-ne-some B (sym (rw l at h))
 
 -- a core that does not fit the field
 pub core-wide : (c : Core) → coreFits c ≡ false → (n : ℕ) × (c ≡ At n) × (7 < n)

@@ -21,6 +21,7 @@ pub mod Passes
 pub mod WellFormed
 pub mod PrintedEvents
 pub mod CBoxPages
+pub mod RuledEvents
 pub mod Rounds
 pub mod Sizes
 pub mod Windows

@@ -13,7 +13,7 @@ use borrow.Author.Tests.{eqb-true, eq-eqb, ne-eqb, ltb-true, not-false}
 use Rattle.requests.specs.Choice.{firstHolding}
 use Rattle.requests.specs.Devices.{counterCount, letterOf, boxCount, boxOf, devices, named, deviceOf, opens, rowsWhere, openingRows, onDevice, openingTable, setupOn, openedOn, openedBy, openedSetup, setupOf, openingOf}
 use Rattle.requests.specs.declared.Device.{Device}
-use Rattle.requests.specs.declared.Device.the-variants.{G, S, C}
+use Rattle.requests.specs.declared.Device.the-variants.{G, S, C, B}
 use Rattle.requests.specs.declared.Opening.{Opening}
 use Rattle.requests.specs.declared.Setup.{Setup}
 use Rattle.requests.specs.declared.Opened.{Opened}
@@ -32,8 +32,8 @@ counters-fit d = omega (arith, numbers d .counters-few)
 pub letter-named : (n box : ℕ) (d : Device) → n ≡ letterOf d → box ≡ boxOf d → deviceOf n box ≡ some d
 letter-named n box d e f = ap (λ (x : ℕ). deviceOf x box) e ∙ numbers d .letter-names box f
 
--- there is a device of each of three letters
-pub device-count : (box : ℕ) → length (devices box) ≡ 3
+-- there is a device of each of four letters
+pub device-count : (box : ℕ) → length (devices box) ≡ 4
 unfolding devices
 device-count box = refl
 
@@ -121,7 +121,7 @@ letter-is letter box d e = go (devices box) e
 -- and its box is the one that is given, where the device has that
 pub box-is : (letter box : ℕ) (d : Device) → deviceOf letter box ≡ some d → ltb box (boxCount d) ≡ true → boxOf d ≡ box
 unfolding deviceOf named devices boxCount boxOf
-box-is letter box d e h = go (eqb letter (letterOf G)) refl (eqb letter (letterOf S)) refl (eqb letter (letterOf (C box))) refl
+box-is letter box d e h = go (eqb letter (letterOf G)) refl (eqb letter (letterOf S)) refl (eqb letter (letterOf (C box))) refl (eqb letter (letterOf B)) refl
   where
     one : (x : Device) → some x ≡ some d → boxOf x ≡ 0 → boxCount x ≡ 1 → boxOf d ≡ box
     one x k zero count =
@@ -129,11 +129,13 @@ box-is letter box d e h = go (eqb letter (letterOf G)) refl (eqb letter (letterO
         let below : box < 1 = ltb-true box 1 (ap (ltb box) (sym count ∙ ap boxCount is) ∙ h) in
         ap boxOf (sym is) ∙ zero ∙ omega arith
 
-    go : (p : Bool) → eqb letter (letterOf G) ≡ p → (q : Bool) → eqb letter (letterOf S) ≡ q → (r : Bool) → eqb letter (letterOf (C box)) ≡ r → boxOf d ≡ box
-    go true f q g r k = one G (rw (f, named) at e) refl refl
-    go false f true g r k = one S (rw (f, g, named) at e) refl refl
-    go false f false g true k = ap boxOf (sym (Option·some-injective (C box) d (rw (f, g, k, named) at e)))
-    go false f false g false k = absurd (Option·none-ne-some d (rw (f, g, k, named) at e))
+    go : (p : Bool) → eqb letter (letterOf G) ≡ p → (q : Bool) → eqb letter (letterOf S) ≡ q → (r : Bool) → eqb letter (letterOf (C box)) ≡ r → (t : Bool) → eqb letter (letterOf B) ≡ t
+        → boxOf d ≡ box
+    go true f q g r k t l = one G (rw (f, named) at e) refl refl
+    go false f true g r k t l = one S (rw (f, g, named) at e) refl refl
+    go false f false g true k t l = ap boxOf (sym (Option·some-injective (C box) d (rw (f, g, k, named) at e)))
+    go false f false g false k true l = one B (rw (f, g, k, l, named) at e) refl refl
+    go false f false g false k false l = absurd (Option·none-ne-some d (rw (f, g, k, l, named) at e))
 
 -- an opening that is taken: its letter names the device, which refuses it by no row
 pub taken-parts : (o : Opening) (s : Setup) → setupOf o ≡ some s

@@ -14,7 +14,7 @@ use Rattle.requests.specs.Devices.{allCounters, allFixed, letterOf, boxC
 use Rattle.requests.specs.Openings.{letterCode, mostFixed, mostBox, MayAsk, NothingAsked, InRange, NotAsked, GivenFor, Opens, openingNumber, Openings}
 use Rattle.requests.specs.declared.CounterSet.{CounterSet}
 use Rattle.requests.specs.declared.Device.{Device}
-use Rattle.requests.specs.declared.Device.the-variants.{G, S, C}
+use Rattle.requests.specs.declared.Device.the-variants.{G, S, C, B}
 use Rattle.requests.specs.declared.Opened.{Opened}
 use Rattle.requests.specs.declared.Opening.{Opening}
 use Rattle.requests.specs.declared.Refusal.{Refusal}
@@ -211,6 +211,7 @@ unfolding deviceOf named devices letterOf
 named-unasked o G e n = rw e
 named-unasked o S e n = absurd (n tt)
 named-unasked o (C b) e n = absurd (n tt)
+named-unasked o B e n = rw e
 
 pub kind-row : (o : Opening) → (onDevice o (λ d. overflowNotOn d (o .overflow)) ≡ true) ↔ (NotAsked o × (¬ NothingAsked (o .overflow)))
 unfolding onDevice overflowNotOn
@@ -253,6 +254,7 @@ unfolding letterOf
 letters G = refl
 letters S = refl
 letters (C b) = refl
+letters B = refl
 
 pub openings : Openings
 openings =

@@ -1,4 +1,4 @@
--- The catalogues of G and S are the rows of document 01: each row as a mask rule, and the tests of a list of such rows. Assumes nothing.
+-- The catalogues of G, S and B are the rows of document 01 and of order 12: each row as a mask rule, and the tests of a list of such rows. Assumes nothing.
 use mathlib.Core.Path.{_≡_, refl, ap, sym, _∙_}
 use mathlib.Core.Logic.{_↔_, ⊎-elim}
 use mathlib.Core.Bool.{Bool, true, false, false≢true}
@@ -9,10 +9,10 @@ use lib.Dec.{eqb}
 use borrow.Author.Tests.{eqb-true, eq-eqb, leb-true, le-leb}
 use Rattle.requests.specs.Choice.{both, either, pick}
 use Rattle.requests.specs.MaskRules.{MaskRule, alone, range, allows, ListedEvent, listed}
-use Rattle.requests.specs.Catalogue.{eventsOf, codeIn, pairIn}
-use Rattle.requests.specs.PrintedEvents.{PrintedRow, printedG, printedS, CodePrinted, PairPrinted, AsPrinted, PrintedEvents}
+use Rattle.requests.specs.Catalogue.{architecturalEvents, preciseEvents, eventsOf, codeIn, pairIn}
+use Rattle.requests.specs.PrintedEvents.{PrintedRow, printedG, printedS, printedB, CodePrinted, PairPrinted, AsPrinted, PrintedEvents}
 use Rattle.requests.specs.declared.Device.{Device}
-use Rattle.requests.specs.declared.Device.the-variants.{G, S}
+use Rattle.requests.specs.declared.Device.the-variants.{G, S, B}
 use Rattle.requests.proofs.Tests.{both-parts, true-both, either-cases, either-left, either-right}
 
 -- the masks of a row
@@ -83,12 +83,16 @@ as-printed d rows e =
     }
 
 events-G : eventsOf G ≡ map event printedG
-unfolding eventsOf printedG event rule
+unfolding eventsOf architecturalEvents printedG event rule
 events-G = refl
 
 events-S : eventsOf S ≡ map event printedS
 unfolding eventsOf printedS event rule
 events-S = refl
 
+events-B : eventsOf B ≡ map event printedB
+unfolding eventsOf architecturalEvents preciseEvents printedG printedB event rule
+events-B = refl
+
 pub printed-events : PrintedEvents
-printed-events = record { on-G = as-printed G printedG events-G; on-S = as-printed S printedS events-S }
+printed-events = record { on-G = as-printed G printedG events-G; on-S = as-printed S printedS events-S; on-B = as-printed B printedB events-B }

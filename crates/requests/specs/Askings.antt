@@ -4,7 +4,7 @@ use Prim.Native.Nat.{ℕ}
 use lib.Dec.{ltb, leb, eqb}
 use Rattle.requests.specs.Choice.{both, either}
 use Rattle.requests.specs.declared.Device.{Device}
-use Rattle.requests.specs.declared.Device.the-variants.{G, S, C}
+use Rattle.requests.specs.declared.Device.the-variants.{G, S, C, B}
 use Rattle.requests.specs.declared.Core.{Core}
 use Rattle.requests.specs.declared.Core.the-variants.{NoCore, At}
 use Rattle.requests.specs.declared.Overflow.{Overflow}
@@ -15,6 +15,7 @@ unfoldable pub overflowOn : Device → Bool
 overflowOn G = false
 overflowOn S = true
 overflowOn (C b) = true
+overflowOn B = false
 
 -- how many cores pmi_core_sel has a bit for (document 004, 2.1.1: 00000001 is core 0, 10000000 core 7)
 unfoldable pub coreCount : ℕ

@@ -1,5 +1,5 @@
--- The listed events with the manual's names: those of G and S in the order of document 01, 'Requests and legal plans', **event**.
-use mathlib.Core.List.{List, [], _∷_}
+-- The listed events with the manual's names: those of G and S in the order of document 01, 'Requests and legal plans', **event**; those of B by order 12.
+use mathlib.Core.List.{List, [], _∷_, _++_}
 use mathlib.Core.Bool.{Bool, false, not}
 use Prim.Native.Nat.{ℕ}
 use lib.Dec.{eqb}
@@ -8,11 +8,11 @@ use Rattle.requests.specs.Devices.{pairsJudged}
 use Rattle.requests.specs.CBoxEvents.{cboxEvents}
 use Rattle.requests.specs.MaskRules.{alone, range, allows, ListedEvent, listed}
 use Rattle.requests.specs.declared.Device.{Device}
-use Rattle.requests.specs.declared.Device.the-variants.{G, S, C}
+use Rattle.requests.specs.declared.Device.the-variants.{G, S, C, B}
 
--- the listed events of a device
-unfoldable pub eventsOf : Device → List ListedEvent
-eventsOf G =
+-- the SDM's architectural events
+unfoldable pub architecturalEvents : List ListedEvent
+architecturalEvents =
     listed 0x3C (alone 0x00)  -- UnHalted Core Cycles
     ∷ listed 0xC0 (alone 0x00)  -- Instruction Retired
     ∷ listed 0x3C (alone 0x01)  -- UnHalted Reference Cycles
@@ -21,6 +21,17 @@ eventsOf G =
     ∷ listed 0xC4 (alone 0x00)  -- Branch Instruction Retired
     ∷ listed 0xC5 (alone 0x00)  -- Branch Misses Retired
     ∷ []
+
+-- document 003, 18.9.4: the two events that B has beside them
+unfoldable pub preciseEvents : List ListedEvent
+preciseEvents =
+    listed 0xC0 (alone 0x01)  -- INST_RETIRED.ALL, in its PDIR use
+    ∷ listed 0xCD (alone 0x02)  -- MEM_TRANS_RETIRED.PRECISE_STORE
+    ∷ []
+
+-- the listed events of a device
+unfoldable pub eventsOf : Device → List ListedEvent
+eventsOf G = architecturalEvents
 eventsOf S =
     listed 0x51 (range 1 3)  -- RBOX_SNP_BYPASS
     ∷ listed 0x31 (range 1 3)  -- REQ_TBL_OCCUPANCY
@@ -30,6 +41,7 @@ eventsOf S =
     ∷ listed 0x2F (alone 0)  -- TO_RING_B2S_MSGQ_OCCUPANCY
     ∷ []
 eventsOf (C b) = cboxEvents
+eventsOf B = architecturalEvents ++ preciseEvents
 
 -- whether a row has the code
 unfoldable pub codeIn : List ListedEvent → ℕ → Bool

@@ -23,7 +23,7 @@ kindNotOn d (Packet x y a) = not (packetsOn d)
 kindNotOn d (Offcore w a) = not (offcoreOn d)
 kindNotOn d (Latency t a b) = not (offcoreOn d)
 
--- 8: G: pair not listed; S and C: code not listed
+-- 8: G and B: pair not listed; S and C: code not listed
 unfoldable pub notListed : Device → Request → Bool
 notListed d (Event c m a) = not (pick (pairsJudged d) (pairIn (eventsOf d) c m) (codeIn (eventsOf d) c))
 notListed d (Packet x y a) = false

@@ -9,7 +9,7 @@ use Rattle.requests.specs.Bits.{bit}
 use Rattle.requests.specs.Askings.{overflowNotOn, overflowFits}
 use Rattle.requests.specs.declared.CounterSet.{CounterSet}
 use Rattle.requests.specs.declared.Device.{Device}
-use Rattle.requests.specs.declared.Device.the-variants.{G, S, C}
+use Rattle.requests.specs.declared.Device.the-variants.{G, S, C, B}
 use Rattle.requests.specs.declared.Opening.{Opening}
 use Rattle.requests.specs.declared.Setup.{Setup}
 use Rattle.requests.specs.declared.Opened.{Opened}
@@ -32,21 +32,23 @@ size (suc k) s = size k s + pick (has s k) 1 0
 unfoldable pub capacity : ℕ
 capacity = 8
 
--- counters 0 to 3 on G and S, 0 to 5 on C (document 004, 2.3.2)
+-- counters 0 to 3 on G, S and B, 0 to 5 on C (document 004, 2.3.2)
 unfoldable pub counterCount : Device → ℕ
 counterCount G = 4
 counterCount S = 4
 counterCount (C b) = 6
+counterCount B = 4
 
 -- the set of all counters of the device
 unfoldable pub allCounters : Device → ℕ
 allCounters d = 2 ^ counterCount d - 1
 
--- fixed counters, which always count one event: three on G
+-- fixed counters, which always count one event: three on G, on B as on G
 unfoldable pub fixedCount : Device → ℕ
 fixedCount G = 3
 fixedCount S = 0
 fixedCount (C b) = 0
+fixedCount B = 3
 
 -- the enables of all fixed counters of the device
 unfoldable pub allFixed : Device → ℕ
@@ -57,22 +59,25 @@ unfoldable pub letterOf : Device → ℕ
 letterOf G = 71
 letterOf S = 83
 letterOf (C b) = 67
+letterOf B = 66
 
 -- how many boxes the device has: the eight C-Boxes of document 004, 2.3.1, and elsewhere one, whose number is 0
 unfoldable pub boxCount : Device → ℕ
 boxCount G = 1
 boxCount S = 1
 boxCount (C b) = 8
+boxCount B = 1
 
 -- the number of the box
 unfoldable pub boxOf : Device → ℕ
 boxOf G = 0
 boxOf S = 0
 boxOf (C b) = b
+boxOf B = 0
 
 -- a device of each letter, where the box has the number
 unfoldable pub devices : ℕ → List Device
-devices box = G ∷ S ∷ C box ∷ []
+devices box = G ∷ S ∷ C box ∷ B ∷ []
 
 -- the first device of the list with the letter's code
 unfoldable pub named : List Device → ℕ → Option Device
@@ -88,18 +93,21 @@ unfoldable pub packetsOn : Device → Bool
 packetsOn G = false
 packetsOn S = true
 packetsOn (C b) = false
+packetsOn B = false
 
 -- whether the device has offcore and latency requests: "G only"
 unfoldable pub offcoreOn : Device → Bool
 offcoreOn G = true
 offcoreOn S = false
 offcoreOn (C b) = false
+offcoreOn B = false
 
--- whether an event is judged as a pair of code and mask, as on G: on S and C the code has to be listed, and then the mask be one of its own
+-- whether an event is judged as a pair of code and mask, as on G and B: on S and C the code has to be listed, and then the mask be one of its own
 unfoldable pub pairsJudged : Device → Bool
 pairsJudged G = true
 pairsJudged S = false
 pairsJudged (C b) = false
+pairsJudged B = true
 
 -- whether a usable set is neither 0 nor above all counters
 unfoldable pub usableSet : Device → CounterSet → Bool

@@ -1,4 +1,4 @@
--- Document 01, tries H and I, the cases beside them, and order 1: requests, and the numbers that refuse them.
+-- Document 01, tries H and I, the cases beside them, and orders 1, 3, 5 and 12: requests, and the numbers that refuse them.
 use mathlib.Core.Path.{_≡_}
 use mathlib.Core.List.{List, [], _∷_, map}
 use mathlib.Core.Option.{Option, none, some}
@@ -8,7 +8,7 @@ use Rattle.requests.specs.Askings.{unasked}
 use Rattle.requests.specs.Checks.{requestRefusal}
 use Rattle.requests.specs.declared.CounterSet.{CounterSet}
 use Rattle.requests.specs.declared.Device.{Device}
-use Rattle.requests.specs.declared.Device.the-variants.{G, S, C}
+use Rattle.requests.specs.declared.Device.the-variants.{G, S, C, B}
 use Rattle.requests.specs.declared.Request.{Request}
 use Rattle.requests.specs.declared.Request.the-variants.{Event, Packet, Offcore, Latency}
 
@@ -140,6 +140,22 @@ examples =
     ∷ example (C 0) (Packet 0 0 six) (some 7)
     ∷ example (C 0) (Offcore 0x10001 six) (some 7)
     ∷ example (C 0) (Latency 0x0001 six six) (some 7)
+    -- B: G's pairs "and two more, 8 as on G"; their masks are those of no other code
+    ∷ example B (Event 0xC0 0x00 all) none
+    ∷ example B (Event 0xC0 0x01 all) none
+    ∷ example B (Event 0xCD 0x02 all) none
+    ∷ example B (Event 0xCD 0x01 all) (some 8)
+    ∷ example B (Event 0xC0 0x02 all) (some 8)
+    ∷ example B (Event 0xCD 0x00 all) (some 8)
+    ∷ example G (Event 0xC0 0x01 all) (some 8)
+    ∷ example G (Event 0xCD 0x02 all) (some 8)
+    -- a rule of counters narrows the allowed set and does not bound it: without counter 1 it is no matter of 10, and 16 is
+    ∷ example B (Event 0xC0 0x01 (record { 0 = 13 })) none
+    ∷ example B (Event 0xC0 0x01 (record { 0 = 16 })) (some 10)
+    -- "without packet, offcore or latency requests"
+    ∷ example B (Packet 0 0 all) (some 7)
+    ∷ example B (Offcore 0x10001 all) (some 7)
+    ∷ example B (Latency 0x0001 all all) (some 7)
     ∷ []
 
 -- the number that refuses the request of an example

@@ -10,7 +10,7 @@ use Rattle.requests.specs.declared.CounterSet.{CounterSet}
 use Rattle.requests.specs.declared.Core.{Core}
 use Rattle.requests.specs.declared.Core.the-variants.{NoCore, At}
 use Rattle.requests.specs.declared.Device.{Device}
-use Rattle.requests.specs.declared.Device.the-variants.{G, S, C}
+use Rattle.requests.specs.declared.Device.the-variants.{G, S, C, B}
 use Rattle.requests.specs.declared.Request.{Request}
 use Rattle.requests.specs.declared.Request.the-variants.{Event, Packet, Offcore, Latency}
 use Rattle.requests.specs.declared.Fault.{Fault}
@@ -40,7 +40,7 @@ opening letter usable fixed box freeze core t =
 
 unfoldable pub faultExamples : List Example
 faultExamples =
-    -- a letter of no device, G, S and C
+    -- a letter of no device, G, S, C and B
     opening 88 0 9 9 2 (At 9) (some (3, 1))
     ∷ opening 71 16 8 1 2 NoCore (some (3, 2))
     ∷ opening 71 0 0 0 0 NoCore (some (3, 2))
@@ -54,10 +54,18 @@ faultExamples =
     ∷ opening 67 63 0 7 2 (At 9) (some (10, 5))
     ∷ opening 67 63 0 7 1 (At 9) (some (10, 6))
     ∷ opening 67 63 0 7 1 (At 7) none
+    ∷ opening 66 16 8 1 2 NoCore (some (3, 2))
+    ∷ opening 66 15 8 1 0 NoCore (some (3, 3))
+    ∷ opening 66 15 7 1 0 NoCore (some (3, 4))
+    ∷ opening 66 15 0 0 1 NoCore (some (7, 0))
+    ∷ opening 66 15 0 0 0 (At 9) (some (7, 0))
+    ∷ opening 66 15 7 0 0 NoCore none
     -- "8 gives the code's field", also where the mask alone is wrong
     ∷ on G (Event 0xC1 0x00 (set 15)) (some (8, 2))
     ∷ on G (Event 0xC0 0x05 (set 16)) (some (8, 2))
     ∷ on S (Event 0x50 0x05 (set 16)) (some (8, 2))
+    ∷ on B (Event 0xCD 0x01 (set 16)) (some (8, 2))
+    ∷ on B (Event 0xC0 0x02 (set 15)) (some (8, 2))
     -- "where several fields fail under one number, the leftmost"
     ∷ on G (Event 0xC0 0x00 (set 16)) (some (10, 4))
     ∷ on S (Event 0x51 0x04 (set 16)) (some (10, 3))
@@ -65,6 +73,8 @@ faultExamples =
     ∷ on S (Event 0x51 0x00 (set 15)) (some (9, 3))
     ∷ on (C 7) (Event 0x0B 0x00 (set 63)) (some (9, 3))
     ∷ on (C 7) (Event 0x0B 0x00 (set 64)) (some (10, 4))
+    ∷ on B (Event 0xC0 0x01 (set 16)) (some (10, 4))
+    ∷ on B (Latency 0x0040 (set 16) (set 16)) (some (7, 0))
     ∷ on G (Packet 0 0 (set 16)) (some (7, 0))
     ∷ on S (Packet 0x8000000000000000 0x8000000000000000 (set 16)) (some (10, 3))
     ∷ on S (Packet 0 0 (set 16)) (some (10, 4))

@@ -16,7 +16,7 @@ use Rattle.requests.specs.RefusedRequests as rows
 use Rattle.requests.specs.Faults.{refusalIn, openingFault, requestFault}
 use Rattle.requests.specs.declared.CounterSet.{CounterSet}
 use Rattle.requests.specs.declared.Device.{Device}
-use Rattle.requests.specs.declared.Device.the-variants.{G, S, C}
+use Rattle.requests.specs.declared.Device.the-variants.{G, S, C, B}
 use Rattle.requests.specs.declared.Core.the-variants.{At}
 use Rattle.requests.specs.declared.Setup.{Setup}
 use Rattle.requests.specs.declared.Opening.{Opening}
@@ -58,6 +58,7 @@ abbrev pub freezeAt : Device → ℕ
 freezeAt G = 4
 freezeAt S = 4
 freezeAt (C b) = 5
+freezeAt B = 4
 
 -- the opening fails under this refusal in this field
 pub data OpeningFailsAt (o : Opening) : Refusal → ℕ → Type 0 where
@@ -68,9 +69,9 @@ pub data OpeningFailsAt (o : Opening) : Refusal → ℕ → Type 0 where
   usable-above : (d : Device) → o .device ≡ letterCode d → mostUsable d < o .usable .0 → OpeningFailsAt o BadOpening 2
   -- fixed enables that the device has not
   fixed-above : (d : Device) → o .device ≡ letterCode d → mostFixed d < o .fixed → OpeningFailsAt o BadOpening 3
-  -- a box that the device has not, over the calls also one on G or S
+  -- a box that the device has not, over the calls also one on G, S or B
   box-above : (d : Device) → o .device ≡ letterCode d → mostBox d < o .cbox → OpeningFailsAt o BadOpening 4
-  -- 7: "asking on G"
+  -- 7: "asking on G", and on B
   asked-elsewhere : NotAsked o → ¬ NothingAsked (o .overflow) → OpeningFailsAt o KindNotOnDevice 0
   -- 10: "freeze 0 or 1 (else 10)", "A core number that does not fit the field"
   freeze-above : (d : Device) → o .device ≡ letterCode d → 1 < o .overflow .freeze → OpeningFailsAt o OutOfRange (freezeAt d)

@@ -6,6 +6,7 @@ pub mod Devices
 pub mod MaskRules
 pub mod CBoxEvents
 pub mod Catalogue
+pub mod EventRules
 pub mod Checks
 pub mod Faults
 -- Statements: what is claimed of it.
@@ -15,6 +16,7 @@ pub mod WellFormedRequests
 pub mod FaultFields
 pub mod PrintedEvents
 pub mod CBoxPages
+pub mod RuledEvents
 pub mod Rounds
 pub mod Examples
 pub mod FaultExamples

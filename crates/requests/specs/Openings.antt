@@ -11,42 +11,47 @@ use Rattle.requests.specs.Refusals.{answerNumber}
 use Rattle.requests.specs.Askings.{asked}
 use Rattle.requests.specs.Devices.{allCounters, letterOf, boxOf, setupOf, openingOf, openedBy, openedAnswer}
 use Rattle.requests.specs.declared.Device.{Device}
-use Rattle.requests.specs.declared.Device.the-variants.{G, S, C}
+use Rattle.requests.specs.declared.Device.the-variants.{G, S, C, B}
 use Rattle.requests.specs.declared.Core.{Core}
 use Rattle.requests.specs.declared.Core.the-variants.{NoCore, At}
 use Rattle.requests.specs.declared.Overflow.{Overflow}
 use Rattle.requests.specs.declared.Opening.{Opening}
 use Rattle.requests.specs.declared.Setup.{Setup}
 
--- the codes of the letters G, S and C
+-- the codes of the letters G, S, C and B
 abbrev pub letterCode : Device → ℕ
 letterCode G = 71
 letterCode S = 83
 letterCode (C b) = 67
+letterCode B = 66
 
 -- the largest usable set: "3 and 10 use that bound"
 abbrev pub mostUsable : Device → ℕ
 mostUsable G = 15
 mostUsable S = 15
 mostUsable (C b) = 63
+mostUsable B = 15
 
--- the largest number of fixed enables: bits 32 to 34 on G, none elsewhere
+-- the largest number of fixed enables: bits 32 to 34 on G and B (order 12: "fixed enables as on G"), none elsewhere
 abbrev pub mostFixed : Device → ℕ
 mostFixed G = 7
 mostFixed S = 0
 mostFixed (C b) = 0
+mostFixed B = 7
 
 -- the largest number of a box: document 004 has the C-Boxes 0 to 7
 abbrev pub mostBox : Device → ℕ
 mostBox G = 0
 mostBox S = 0
 mostBox (C b) = 7
+mostBox B = 0
 
--- "A session on S or C may ask"
+-- "A session on S or C may ask"; B is "without .. order 7's askings"
 abbrev pub MayAsk : Device → Type 0
 MayAsk G = ⊥
 MayAsk S = Unit {0}
 MayAsk (C b) = Unit {0}
+MayAsk B = ⊥
 
 -- "0 and `-`"
 abbrev pub NothingAsked : Overflow → Type 0

@@ -11,7 +11,7 @@ use Rattle.requests.specs.Catalogue.{eventsOf}
 use Rattle.requests.specs.Checks.{kindNotOn, notListed, incomplete, outOfRange, conflicting}
 use Rattle.requests.specs.declared.CounterSet.{CounterSet}
 use Rattle.requests.specs.declared.Device.{Device}
-use Rattle.requests.specs.declared.Device.the-variants.{G, S, C}
+use Rattle.requests.specs.declared.Device.the-variants.{G, S, C, B}
 use Rattle.requests.specs.declared.Request.{Request}
 use Rattle.requests.specs.declared.Request.the-variants.{Event, Packet, Offcore, Latency}
 
@@ -54,6 +54,7 @@ PairListed d c m = (masks : MaskRule) × InCatalogue d c masks × Lists masks m
 -- where the pair of code and mask is listed as one
 pub data PairsOn : Device → Type 0 where
   on-G : PairsOn G
+  on-B : PairsOn B
 
 -- where a listed code has its own masks
 pub data CodesOn : Device → Type 0 where
@@ -83,7 +84,7 @@ pub data KindNotOn : Device → Request → Type 0 where
 
 -- 8
 pub data NotListed : Device → Request → Type 0 where
-  -- "G: pair not listed"
+  -- "G: pair not listed", B "8 as on G"
   pair : {d : Device} {c m : ℕ} {a : CounterSet} → PairsOn d → ¬ PairListed d c m → NotListed d (Event c m a)
   -- "S: code not listed", C "8 as on S"
   code : {d : Device} {c m : ℕ} {a : CounterSet} → CodesOn d → ¬ CodeListed d c → NotListed d (Event c m a)

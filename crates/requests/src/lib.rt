@@ -6,11 +6,12 @@ pub const CAPACITY: usize = 8;
 // A set of counters: counter k is 2^k.
 pub struct CounterSet(pub u64);
 
-// G: one Goldmont core. S: S-Box 0 of the Xeon 7500. C: one of its C-Boxes, by number.
+// G: one Goldmont core. S: S-Box 0 of the Xeon 7500. C: one of its C-Boxes, by number. B: one Sandy Bridge core.
 pub enum Device {
     G,
     S,
     C(u64),
+    B,
 }
 
 // The core that gets an interrupt, if any.
@@ -76,6 +77,13 @@ pub enum Request {
 pub struct Listing {
     pub code: bool,
     pub pair: bool,
+}
+
+// Where an event runs: on any counter, on one only, or on one with every other counter quiet.
+pub enum EventRule {
+    Anywhere,
+    OnlyOn(u64),
+    AloneOn(u64),
 }
 
 // Where a search by halving stands: the rows from low to below high are left. The row with the code, or 0 until it is found.
