@@ -17,6 +17,7 @@ pub fn overflow_on(d: Device) -> bool
         Device::G => false,
         Device::S => true,
         Device::C(_) => true,
+        Device::B => false,
     }
 }
 

@@ -85,6 +85,25 @@ fn on_core(code: u8, mask: u8) -> Listing
     }
 }
 
+// The look-up on B: the pairs of G, and the two precise events.
+fn on_precise_core(code: u8, mask: u8) -> Listing
+    ensures { λ r. ⌜ r ≡ listingOf Device.B code mask ⌝ }
+{
+    match code {
+        // Instruction Retired, INST_RETIRED.ALL
+        0xC0 => Listing {
+            code: true,
+            pair: is_either(mask, 0x00, 0x01),
+        },
+        // MEM_TRANS_RETIRED.PRECISE_STORE
+        0xCD => Listing {
+            code: true,
+            pair: mask == 0x02,
+        },
+        _ => on_core(code, mask),
+    }
+}
+
 // The look-up on C by halving: the row found says what is listed.
 fn by_halving(code: u8, mask: u8) -> Listing
     ensures { λ r. ⌜ r ≡ listedBy (halvingSearch (map rowOf cboxEvents) code .row) mask ⌝ }
@@ -112,5 +131,6 @@ pub fn look_up(device: Device, code: u8, mask: u8) -> Listing
         Device::G => on_core(code, mask),
         Device::S => row_by_row(code, mask),
         Device::C(_) => by_halving(code, mask),
+        Device::B => on_precise_core(code, mask),
     }
 }

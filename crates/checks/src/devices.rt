@@ -21,6 +21,7 @@ pub fn counter_count(d: Device) -> u64
         Device::G => 4,
         Device::S => 4,
         Device::C(_) => 6,
+        Device::B => 4,
     }
 }
 
@@ -40,6 +41,7 @@ pub fn fixed_count(d: Device) -> u64
         Device::G => 3,
         Device::S => 0, // none
         Device::C(_) => 0, // none
+        Device::B => 3,
     }
 }
 
@@ -59,6 +61,7 @@ pub fn letter_of(d: Device) -> u64
         Device::G => b'G' as u64,
         Device::S => b'S' as u64,
         Device::C(_) => b'C' as u64,
+        Device::B => b'B' as u64,
     }
 }
 
@@ -70,6 +73,7 @@ pub fn box_count(d: Device) -> u64
         Device::G => 1,
         Device::S => 1,
         Device::C(_) => 8,
+        Device::B => 1,
     }
 }
 
@@ -81,14 +85,15 @@ pub fn box_of(d: Device) -> u64
         Device::G => 0,
         Device::S => 0,
         Device::C(number) => number,
+        Device::B => 0,
     }
 }
 
 // A device of each letter, where the box has the number.
-pub fn devices(cbox: u64) -> [Device; 3]
+pub fn devices(cbox: u64) -> [Device; 4]
     ensures { λ r. ⌜ r ≡ devices cbox ⌝ }
 {
-    [Device::G, Device::S, Device::C(cbox)]
+    [Device::G, Device::S, Device::C(cbox), Device::B]
 }
 
 // Whether the device has packet requests.
@@ -99,6 +104,7 @@ pub fn packets_on(d: Device) -> bool
         Device::G => false,
         Device::S => true,
         Device::C(_) => false,
+        Device::B => false,
     }
 }
 
@@ -110,6 +116,7 @@ pub fn offcore_on(d: Device) -> bool
         Device::G => true,
         Device::S => false,
         Device::C(_) => false,
+        Device::B => false,
     }
 }
 
@@ -121,6 +128,7 @@ pub fn pairs_judged(d: Device) -> bool
         Device::G => true,
         Device::S => false,
         Device::C(_) => false,
+        Device::B => true,
     }
 }
 

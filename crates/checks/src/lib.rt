@@ -10,5 +10,6 @@ pub mod fields;
 mod halving;
 mod mask_rules;
 pub mod refusals;
+pub mod rules;
 mod sbox_events;
 pub mod set;

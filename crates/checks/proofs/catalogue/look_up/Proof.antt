@@ -1,4 +1,4 @@
--- `catalogue::look_up` meets its contract: by the code on G, row by row on S, and on C by the row that halving finds.
+-- `catalogue::look_up` meets its contract: by the code on G and B, row by row on S, and on C by the row that halving finds.
 -- Assumes nothing.
 use mathlib.Core.Path.{sym}
 use native.Mathlib.Omega.{arith}
@@ -19,6 +19,9 @@ returns-3 : tie.Need-returns-3
 unfolding rowsOf eventsOf
 returns-3 c = rw (c .by-halving .ensures, c .before .enum-told3 .given .1) (sym (halved-listing _ _ _))
 
+returns-4 : tie.Need-returns-4
+returns-4 c = rw (c .before .enum-told4 .given .1) (c .on-precise-core .ensures)
+
 pub look-up-spec : {M : Type 1} → statement M
 look-up-spec =
     tie.close
@@ -29,6 +32,9 @@ look-up-spec =
     (λ c κs. search needs)
     (λ c. search needs)
     (λ c κs. search needs)
+    (λ c. search needs)
+    (λ c κs. search needs)
     returns
     returns-2
-    returns-3)
+    returns-3
+    returns-4)

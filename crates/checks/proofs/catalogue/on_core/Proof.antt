@@ -7,7 +7,7 @@ use borrow.Author.Needs.{needs}
 use borrow.Author.Tests.{ne-eqb}
 use Rattle.requests.specs.Choice.{both, either}
 use Rattle.requests.specs.MaskRules.{allows}
-use Rattle.requests.specs.Catalogue.{eventsOf, codeIn, pairIn}
+use Rattle.requests.specs.Catalogue.{architecturalEvents, eventsOf, codeIn, pairIn}
 use Rattle.requests.specs.Lookup.{listingOf}
 use Rattle.requests.proofs.Tests.{either-false}
 use Rattle.requests.specs.declared.Device.the-variants.{G}
@@ -20,27 +20,27 @@ abbrev with-pair : Bool → Listing
 with-pair p = record { code = true; pair = p }
 
 listed-3C : (m : ℕ) → listingOf G 0x3C m ≡ with-pair (either (eqb m 0x00) (eqb m 0x01))
-unfolding listingOf eventsOf codeIn pairIn allows both either
+unfolding listingOf eventsOf architecturalEvents codeIn pairIn allows both either
 listed-3C m = ap (λ (b : Bool). with-pair (either (eqb m 0x00) b)) (either-false (eqb m 0x01))
 
 listed-2E : (m : ℕ) → listingOf G 0x2E m ≡ with-pair (either (eqb m 0x4F) (eqb m 0x41))
-unfolding listingOf eventsOf codeIn pairIn allows both either
+unfolding listingOf eventsOf architecturalEvents codeIn pairIn allows both either
 listed-2E m = ap (λ (b : Bool). with-pair (either (eqb m 0x4F) b)) (either-false (eqb m 0x41))
 
 listed-C0 : (m : ℕ) → listingOf G 0xC0 m ≡ with-pair (eqb m 0x00)
-unfolding listingOf eventsOf codeIn pairIn allows both either
+unfolding listingOf eventsOf architecturalEvents codeIn pairIn allows both either
 listed-C0 m = ap with-pair (either-false (eqb m 0x00))
 
 listed-C4 : (m : ℕ) → listingOf G 0xC4 m ≡ with-pair (eqb m 0x00)
-unfolding listingOf eventsOf codeIn pairIn allows both either
+unfolding listingOf eventsOf architecturalEvents codeIn pairIn allows both either
 listed-C4 m = ap with-pair (either-false (eqb m 0x00))
 
 listed-C5 : (m : ℕ) → listingOf G 0xC5 m ≡ with-pair (eqb m 0x00)
-unfolding listingOf eventsOf codeIn pairIn allows both either
+unfolding listingOf eventsOf architecturalEvents codeIn pairIn allows both either
 listed-C5 m = ap with-pair (either-false (eqb m 0x00))
 
 unlisted : (c m : ℕ) → eqb c 0x3C ≡ false → eqb c 0xC0 ≡ false → eqb c 0x2E ≡ false → eqb c 0xC4 ≡ false → eqb c 0xC5 ≡ false → listingOf G c m ≡ record { code = false; pair = false }
-unfolding listingOf eventsOf codeIn pairIn allows both either
+unfolding listingOf eventsOf architecturalEvents codeIn pairIn allows both either
 unlisted c m a b d e f = rw (a, b, d, e, f)
 
 returns : tie.Need-returns
