@@ -1,7 +1,7 @@
 -- One request more behind the first plan: any plan of all has a plan of the front and a place behind it, and neither comes before. Assumes nothing.
 use mathlib.Core.Path.{_≡_, refl, sym, ap, subst, _∙_}
 use mathlib.Core.Logic.{_≢_, _⊎_, inl, inr}
-use mathlib.Core.List.{List, [], _∷_, _++_, flatMap, append-nil, append-assoc}
+use mathlib.Core.List.{List, [], _∷_, _++_, flatMap, append-nil, append-assoc, List·Memᴰ, List·Memᴰ·head, List·Memᴰ·tail}
 use mathlib.Core.Bool.{true}
 use mathlib.Core.Option.{Option, none, some}
 use Prim.Native.Nat.{ℕ, suc, _+_, _*_, _^_, _<_, _≤_}
@@ -15,15 +15,17 @@ use Rattle.requests.specs.declared.Setup.{Setup}
 use Rattle.requests.specs.declared.Request.{Request}
 use Rattle.requests.specs.declared.Request.the-variants.{Event, Packet}
 use Rattle.requests.specs.Devices.{has}
+use Rattle.requests.specs.RuledEvents.{Lone}
+use Rattle.requests.proofs.RuledEvents.{ruled-events}
 use Rattle.plans.specs.declared.Place.{Place}
 use Rattle.plans.specs.declared.Place.the-variants.{Counter}
 use Rattle.plans.specs.Lists.{All, nil, cons, Pairwise, empty, add, OneValue, Each, none as each-none, and}
 use Rattle.plans.specs.Places.{first, second, countedOf, countersOf}
-use Rattle.plans.specs.Legal.{Allowed, event, packet, Usable, wordsOf, packetsOf, ofAll, counters, Legal}
+use Rattle.plans.specs.Legal.{Allowed, event, packet, Usable, Ruled, wordsOf, packetsOf, ofAll, counters, Legal}
 use Rattle.plans.specs.Order.{Earlier, Before, here, later, First}
 use Rattle.plans.specs.Search.{firstPlan}
 use Rattle.plans.specs.Packed.{codeOf}
-use Rattle.plans.specs.Extends.{OneCounter, event as one-event, packet as one-packet, Unused, LeastUnused, Extends}
+use Rattle.plans.specs.Extends.{OneCounter, event as one-event, packet as one-packet, Unused, LeastUnused, MayFollow, Extends}
 use Rattle.plans.proofs.FirstFound.{first-plan}
 
 -- ---- lists with one element more
@@ -40,6 +42,10 @@ module _ {A : Type 0} where
   pub all-join : {P : A → Type 0} {l m : List A} → All P l → All P m → All P (l ++ m)
   all-join nil h = h
   all-join (cons p ps) h = cons p (all-join ps h)
+
+  all-member : {P : A → Type 0} {l : List A} → All P l → {a : A} → List·Memᴰ a l → P a
+  all-member {P = P} (cons p ps) (List·Memᴰ·head e) = subst P (sym e) p
+  all-member (cons p ps) (List·Memᴰ·tail m) = all-member ps m
 
 -- k differs from each of a list
 abbrev Away : List ℕ → ℕ → Type 0
@@ -109,13 +115,18 @@ packets-front rs r v = (v .0, go rs (v .1))
     go [] h = nil
     go (q ∷ qs) h = all-join (all-front (packetsOf q) (flatMap packetsOf (qs ++ r ∷ [])) h) (go qs (all-back (packetsOf q) (flatMap packetsOf (qs ++ r ∷ [])) h))
 
-each-more : {rs : List Request} {ps : List Place} {r : Request} {p : Place} → Each Allowed rs ps → Allowed r p → Each Allowed (rs ++ r ∷ []) (ps ++ p ∷ [])
+each-more : {R : Request → Place → Type 0} {rs : List Request} {ps : List Place} {r : Request} {p : Place} → Each R rs ps → R r p → Each R (rs ++ r ∷ []) (ps ++ p ∷ [])
 each-more each-none h = and h each-none
 each-more (and g e) h = and g (each-more e h)
 
 each-front : (rs : List Request) {r : Request} {qs : List Place} → Each Allowed (rs ++ r ∷ []) qs → (ps : List Place) × (p : Place) × (qs ≡ ps ++ p ∷ []) × Each Allowed rs ps × Allowed r p
 each-front [] (and {b = p} h each-none) = ([], p, refl, each-none, h)
 each-front (q ∷ rs) (and {b = b} g e) = let f = each-front rs e in (b ∷ f .0, f .1, ap (λ (l : List Place). b ∷ l) (f .2), and g (f .3), f .4)
+
+-- the same of a front whose places are known
+each-before : {R : Request → Place → Type 0} {rs : List Request} {ps : List Place} (r : Request) (p : Place) → Each Allowed rs ps → Each R (rs ++ r ∷ []) (ps ++ p ∷ []) → Each R rs ps
+each-before r p each-none e = each-none
+each-before r p (and h hs) (and g gs) = and g (each-before r p hs gs)
 
 -- ---- the order
 
@@ -129,7 +140,19 @@ before-last (x ∷ ps) p q e = later (before-last ps p q e)
 
 -- ---- the first plan
 
-module _ (s : Setup) (rs : List Request) (r : Request) (a : CounterSet) (o : OneCounter r a) where
+module _ (s : Setup) (rs : List Request) (r : Request) (a : CounterSet) (o : OneCounter r a) (may : MayFollow s rs r) where
+  -- none of the requests is lone, nor is the one behind them
+  front-lone : (q : Request) → List·Memᴰ q rs → ¬ Lone (s .device) q
+  front-lone q m = all-member (may .beside) m
+
+  never-lone : (q : Request) → List·Memᴰ q (rs ++ r ∷ []) → ¬ Lone (s .device) q
+  never-lone q m l = go rs (may .beside) m
+    where
+      go : (xs : List Request) → All (λ (x : Request). ¬ Lone (s .device) x) xs → List·Memᴰ q (xs ++ r ∷ []) → ⊥
+      go [] h (List·Memᴰ·head e) = let c = ruled-events .counted (s .device) r (subst (Lone (s .device)) e l) in may .anywhere (c .0) (c .1)
+      go (x ∷ xs) (cons n h) (List·Memᴰ·head e) = n (subst (Lone (s .device)) e l)
+      go (x ∷ xs) (cons n h) (List·Memᴰ·tail t) = go xs h t
+
   legal-more : {ps : List Place} {k : ℕ} → OneValue (flatMap packetsOf (rs ++ r ∷ [])) → has a k ≡ true → Unused s ps k → Legal s rs ps → Legal s (rs ++ r ∷ []) (ps ++ Counter k ∷ [])
   legal-more {ps} {k} v h u l = record {
     differ = rw (counters-more ps k) (differ-more (l .differ) (u .1));
@@ -137,6 +160,9 @@ module _ (s : Setup) (rs : List Request) (r : Request) (a : CounterSet) (o : One
     allowed = each-more (l .allowed) (allowed-at o h);
     one-word = λ i b. rw (words-more o i (Counter k) (l .allowed)) (l .one-word i b);
     one-packet = v;
+    ruled = each-more (l .ruled) (λ j runs. absurd (may .anywhere j runs));
+    alone = λ q m lone. absurd (never-lone q m lone);
+    quiet = λ q m lone. absurd (never-lone q m lone);
   }
 
   -- a legal plan of all: one of the front, and an allowed counter that it leaves
@@ -164,6 +190,9 @@ module _ (s : Setup) (rs : List Request) (r : Request) (a : CounterSet) (o : One
               allowed = f;
               one-word = λ i b. rw (words-more o i (Counter k) f) at (m .one-word i b);
               one-packet = packets-front rs r (m .one-packet);
+              ruled = each-before r (Counter k) f (m .ruled);
+              alone = λ q t lone. absurd (front-lone q t lone);
+              quiet = λ q t lone. absurd (front-lone q t lone);
             },
             h,
             (head (all-back (counters ps) (k ∷ []) u), d .1),
@@ -211,9 +240,9 @@ number (p ∷ ps) k =
 
 pub extends : Extends
 extends = record {
-  first = λ s rs r a ps k o v n f. extended s rs r a o ps k v n f;
-  event = λ s rs c m a ps k n e.
+  first = λ s rs r a ps k o may v n f. extended s rs r a o may ps k v n f;
+  event = λ s rs c m a ps k may n e.
       let f = first-plan .sound s rs ps e in
-      found-first s (rs ++ Event c m a ∷ []) (ps ++ Counter k ∷ []) (extended s rs (Event c m a) a one-event ps k (rw (no-packet rs c m a) (f .legal .one-packet)) n f);
+      found-first s (rs ++ Event c m a ∷ []) (ps ++ Counter k ∷ []) (extended s rs (Event c m a) a one-event may ps k (rw (no-packet rs c m a) (f .legal .one-packet)) n f);
   number = number;
 }

@@ -1,4 +1,4 @@
--- Requests can be placed one after another exactly where the plan is legal. Assumes nothing.
+-- Requests can be placed one after another exactly where the plan fits. Assumes nothing.
 use mathlib.Core.Path.{_≡_, refl, ap, sym, subst, _∙_}
 use mathlib.Core.Bool.{Bool, true, false}
 use mathlib.Core.List.{List, [], _∷_, _++_, flatMap}
@@ -24,10 +24,11 @@ use Rattle.plans.specs.declared.Admission.{Admission}
 use Rattle.plans.specs.declared.Admission.the-variants.{Admitted, NoRoom}
 use Rattle.plans.specs.Lists.{All, nil, cons, OneValue, Each, none, and}
 use Rattle.plans.specs.Places.{countedOf, countersOf}
-use Rattle.plans.specs.Legal.{Allowed, event, packet, offcore, latency, wordsOf, packetsOf, ofAll, counters, Legal}
+use Rattle.plans.specs.Legal.{Allowed, event, packet, offcore, latency, wordsOf, packetsOf, ofAll, counters}
 use Rattle.plans.specs.Search.{emptyRoom, holds, holdsPacket, takeCounter, takeWord, takePacket, andThen, placeOf, admit, width}
 use Rattle.plans.proofs.Sets.{less, all-imp, all-join, Takes, takes-all, all-takes}
 use Rattle.plans.proofs.Placing.{Placed, none-left, next}
+use Rattle.plans.proofs.Fits.{Fits}
 
 -- words that a register holds one after another
 module _ {A S : Type 0} (ok : S → A → Bool) (put : A → S) where
@@ -236,8 +237,8 @@ one-word rs ps g h zero l = agree-same holds Word Unused 0 (λ w. refl) eqb-true
 one-word rs ps g h (suc zero) l = agree-same holds Word Unused 0 (λ w. refl) eqb-true eq-eqb (ofAll (wordsOf 1) rs ps) h
 one-word rs ps g h (suc (suc i)) l = absurd (omega arith)
 
-pub placed-legal : (s : Setup) (rs : List Request) (ps : List Place) → Placed (counterCount (s .device)) rs (emptyRoom s) ps → Legal s rs ps
-placed-legal s rs ps d =
+pub placed-fits : (s : Setup) (rs : List Request) (ps : List Place) → Placed (counterCount (s .device)) rs (emptyRoom s) ps → Fits s rs ps
+placed-fits s rs ps d =
     let h = placed-has (counterCount (s .device)) d in
     let t = takes-all (s .usable) (counters ps) (h .can .0) in
     record {
@@ -248,8 +249,8 @@ placed-legal s rs ps d =
       one-packet = agree-same okPacket putPacket Off (0, 0) (λ w. refl) packet-told packet-made (flatMap packetsOf rs) (h .can .3);
     }
 
-pub legal-placed : (s : Setup) (rs : List Request) (ps : List Place) → Legal s rs ps → Placed (counterCount (s .device)) rs (emptyRoom s) ps
-legal-placed s rs ps l =
+pub fits-placed : (s : Setup) (rs : List Request) (ps : List Place) → Fits s rs ps → Placed (counterCount (s .device)) rs (emptyRoom s) ps
+fits-placed s rs ps l =
     let w0 = l .one-word 0 (omega arith) in
     let w1 = l .one-word 1 (omega arith) in
     has-placed (counterCount (s .device)) (emptyRoom s) (l .allowed) (all-imp (λ k u. u .0) (l .usable-only)) (

@@ -1,6 +1,8 @@
 pub mod Placing
 pub mod Sets
+pub mod Fits
 pub mod Lawful
+pub mod Narrowing
 pub mod Strict
 pub mod FirstFound
 pub mod PlanTestHolds

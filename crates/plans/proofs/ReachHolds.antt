@@ -4,12 +4,11 @@ use mathlib.Core.Path.{_≡_, refl, ap, sym, _∙_}
 use mathlib.Core.Bool.{Bool, true, false}
 use mathlib.Core.List.{List, [], _∷_, _++_, flatMap}
 use Prim.Native.Nat.{ℕ, zero, suc, _+_, _-_, _/_, _%_, _^_, _<_, _≤_, max}
-use native.Mathlib.Nat.{one-mul, div-eq-of-lt}
 use native.Mathlib.Omega.{arith}
 use lib.Arith.{digits-mod}
 use lib.Bits.{bitAnd, bitOr, or-step, or-shr}
 use lib.Dec.{eqb}
-use lib.Pow.{shl-shr, shr-shr, pow-pos}
+use lib.Pow.{shr-shr}
 use borrow.Author.Tests.{eqb-true, eqb-false}
 use Rattle.requests.specs.declared.CounterSet.{CounterSet}
 use Rattle.requests.specs.declared.Setup.{Setup}
@@ -25,7 +24,7 @@ use Rattle.plans.specs.Lists.{All, cons, Each, none, and}
 use Rattle.plans.specs.Places.{countedOf, countersOf}
 use Rattle.plans.specs.Legal.{Allowed, event, packet, offcore, latency, counters, HasPlan}
 use Rattle.plans.specs.Reach.{setsWith, taking, takingOne, leftBy, leftFrom, leftOf, Reach}
-use Rattle.plans.proofs.Sets.{has-le, less, Takes, all-takes, all-imp}
+use Rattle.plans.proofs.Sets.{no-bit, own-bit, has-le, less, Takes, all-takes, all-imp}
 
 -- ---- bits
 
@@ -97,11 +96,6 @@ module _ (f : CounterSet) (fits : f .0 < 64) (sets : ℕ) (there : bit (f .0) se
 
 -- ---- all requests
 
--- where no set is left, there is no bit
-no-bit : (k : ℕ) → bit k 0 ≡ true → ⊥
-unfolding bit
-no-bit k h = let one : 0 / 2 ^ k % 2 ≡ 1 = eqb-true _ _ h in let none : 0 / 2 ^ k ≡ 0 = div-eq-of-lt (pow-pos k) in omega arith
-
 less-fits : (f : CounterSet) (k : ℕ) → f .0 < 64 → less f k .0 < 64
 less-fits f k l = omega arith
 
@@ -121,11 +115,6 @@ left-some n b (and (latency {a = a} {b = c} {j = j} {k = k} g h) rest) f fits t 
     let second = any-taken e (less-fits f j fits) (takingOne n a sets) first n c k b m h (t .1 .0) in
     left-some n b rest (less e k) (less-fits e k (less-fits f j fits)) (t .1 .1) ls (takingOne n c (takingOne n a sets)) second z
 
--- the usable set is the one that is left before the first request
-first-bit : (k : ℕ) → bit k (2 ^ k) ≡ true
-unfolding bit
-first-bit k = let e : 2 ^ k / 2 ^ k ≡ 1 = rw one-mul at (shl-shr 1 k) in rw e
-
 unplanned : (s : Setup) (rs : List Request) → s .usable .0 < 64 → leftOf s rs ≡ 0 → ¬ HasPlan s rs
 unfolding leftOf
 unplanned s rs fits z h =
@@ -135,7 +124,7 @@ unplanned s rs fits z h =
     (all-takes (s .usable) (counters (h .0)) (all-imp (λ k u. u .1) (l .usable-only)) (l .differ))
     (all-imp (λ k u. u .0) (l .usable-only))
     (2 ^ s .usable .0)
-    (first-bit (s .usable .0))
+    (own-bit (s .usable .0))
     z
 
 grows-from : (n sets : ℕ) (rs : List Request) (r : Request) → leftFrom n sets (rs ++ r ∷ []) ≡ leftBy n r (leftFrom n sets rs)

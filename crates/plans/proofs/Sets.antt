@@ -4,16 +4,25 @@ use mathlib.Core.Logic.{_≢_}
 use mathlib.Core.Bool.{true}
 use mathlib.Core.List.{List, [], _∷_, _++_}
 use Prim.Native.Nat.{ℕ, zero, suc, _-_, _/_, _%_, _^_, _≤_}
-use native.Mathlib.Nat.{pow-succ', le-div-iff-mul-le, one-mul}
+use native.Mathlib.Nat.{pow-succ', le-div-iff-mul-le, one-mul, div-eq-of-lt}
 use native.Mathlib.Omega.{arith}
 use lib.Dec.{eqb}
-use lib.Pow.{pow-pos}
+use lib.Pow.{shl-shr, pow-pos}
 use borrow.Author.Tests.{eqb-true}
 use Rattle.requests.specs.declared.CounterSet.{CounterSet}
 use Rattle.requests.specs.Bits.{bit}
 use Rattle.requests.specs.Devices.{has}
 use Rattle.requests.proofs.Words.{half-div}
 use Rattle.plans.specs.Lists.{All, nil, cons, Pairwise, empty, add}
+
+-- 0 has no bit, and 2^k has bit k
+pub no-bit : (k : ℕ) → bit k 0 ≡ true → ⊥
+unfolding bit
+no-bit k h = let one : 0 / 2 ^ k % 2 ≡ 1 = eqb-true _ _ h in let none : 0 / 2 ^ k ≡ 0 = div-eq-of-lt (pow-pos k) in omega arith
+
+pub own-bit : (k : ℕ) → bit k (2 ^ k) ≡ true
+unfolding bit
+own-bit k = let e : 2 ^ k / 2 ^ k ≡ 1 = rw one-mul at (shl-shr 1 k) in rw e
 
 -- a counter that is in the set is one of its bits
 pub has-le : (s : CounterSet) (k : ℕ) → has s k ≡ true → 2 ^ k ≤ s .0

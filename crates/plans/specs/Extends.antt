@@ -1,5 +1,6 @@
 -- The first plan with one request more: an event or a packet request takes the least counter that it allows and the plan leaves, and the
--- others keep their places. So nothing is searched for it. Where the plan leaves it no counter, nothing is claimed: the others may move.
+-- others keep their places. So nothing is searched for it. Where the plan leaves it no counter, nothing is claimed: the others may move. Nor is
+-- anything of an event that runs on one counter only, or behind a request that has none beside it.
 use mathlib.Core.Path.{_≡_}
 use mathlib.Core.Logic.{_≢_}
 use mathlib.Core.List.{List, [], _∷_, _++_, flatMap}
@@ -12,6 +13,7 @@ use Rattle.requests.specs.declared.Setup.{Setup}
 use Rattle.requests.specs.declared.Request.{Request}
 use Rattle.requests.specs.declared.Request.the-variants.{Event, Packet}
 use Rattle.requests.specs.Devices.{has}
+use Rattle.requests.specs.RuledEvents.{RunsOn, Lone}
 use Rattle.plans.specs.declared.Place.{Place}
 use Rattle.plans.specs.declared.Place.the-variants.{Counter}
 use Rattle.plans.specs.Lists.{All, OneValue}
@@ -35,12 +37,17 @@ pub record LeastUnused (s : Setup) (a : CounterSet) (ps : List Place) (k : ℕ) 
   pub unused : Unused s ps k
   pub least : (j : ℕ) → has a j ≡ true → Unused s ps j → k ≤ j
 
+-- the request may run on every counter, and beside each of these
+pub record MayFollow (s : Setup) (rs : List Request) (r : Request) : Type 0 where
+  pub anywhere : (k : ℕ) → ¬ RunsOn (s .device) r k
+  pub beside : All (λ (q : Request). ¬ Lone (s .device) q) rs
+
 pub record Extends : Type 0 where
   -- the first plan of the requests with one more behind them
-  pub first : (s : Setup) (rs : List Request) (r : Request) (a : CounterSet) (ps : List Place) (k : ℕ) → OneCounter r a
+  pub first : (s : Setup) (rs : List Request) (r : Request) (a : CounterSet) (ps : List Place) (k : ℕ) → OneCounter r a → MayFollow s rs r
       → OneValue (flatMap packetsOf (rs ++ r ∷ [])) → LeastUnused s a ps k → First s rs ps → First s (rs ++ r ∷ []) (ps ++ Counter k ∷ [])
   -- so an event, which asks for no match and mask
-  pub event : (s : Setup) (rs : List Request) (c m : ℕ) (a : CounterSet) (ps : List Place) (k : ℕ)
+  pub event : (s : Setup) (rs : List Request) (c m : ℕ) (a : CounterSet) (ps : List Place) (k : ℕ) → MayFollow s rs (Event c m a)
       → LeastUnused s a ps k → firstPlan s rs ≡ some ps → firstPlan s (rs ++ Event c m a ∷ []) ≡ some (ps ++ Counter k ∷ [])
   -- its number has six bits more, below the bit 1
   pub number : (ps : List Place) (k : ℕ) → codeOf (ps ++ Counter k ∷ []) ≡ codeOf ps + (63 + k * 8) * 2 ^ (6 * length ps)

@@ -1,17 +1,19 @@
--- Document 01's legal plans, in its words. Nothing here names the search.
+-- Document 01's legal plans, in its words, and order 12's for the events of B. Nothing here names the search.
 use mathlib.Core.Path.{_≡_}
 use mathlib.Core.Logic.{_≢_}
-use mathlib.Core.List.{List, [], _∷_, _++_, flatMap}
+use mathlib.Core.List.{List, [], _∷_, _++_, flatMap, List·Memᴰ}
 use mathlib.Core.Bool.{true}
 use Prim.Native.Nat.{ℕ, _<_}
 use lib.Dec.{eqb}
 use Rattle.requests.specs.declared.CounterSet.{CounterSet}
+use Rattle.requests.specs.declared.Device.{Device}
 use Rattle.requests.specs.declared.Setup.{Setup}
 use Rattle.requests.specs.declared.Request.{Request}
 use Rattle.requests.specs.declared.Request.the-variants.{Event, Packet, Offcore, Latency}
 use Rattle.requests.specs.Choice.{pick}
 use Rattle.requests.specs.Bits.{latencyWord}
-use Rattle.requests.specs.Devices.{has, counterCount}
+use Rattle.requests.specs.Devices.{has, counterCount, allCounters}
+use Rattle.requests.specs.RuledEvents.{RunsOn, Lone}
 use Rattle.plans.specs.Lists.{All, Pairwise, OneValue, Each}
 use Rattle.plans.specs.Places.{countersOf}
 use Rattle.plans.specs.declared.Place.{Place}
@@ -51,6 +53,10 @@ ofAll f [] ps = []
 ofAll f (r ∷ rs) [] = []
 ofAll f (r ∷ rs) (p ∷ ps) = f r p ++ ofAll f rs ps
 
+-- a request that runs on one counter has its place there
+abbrev pub Ruled : Device → Request → Place → Type 0
+Ruled d r p = (k : ℕ) → RunsOn d r k → p ≡ Counter k
+
 -- all counters of a plan
 unfoldable pub counters : List Place → List ℕ
 counters ps = flatMap countersOf ps
@@ -67,6 +73,12 @@ pub record Legal (s : Setup) (rs : List Request) (ps : List Place) : Type 0 wher
   pub one-word : (i : ℕ) → i < 2 → OneValue (ofAll (wordsOf i) rs ps)
   -- "all packet requests have equal match and equal mask"
   pub one-packet : OneValue (flatMap packetsOf rs)
+  -- order 12: "runs on counter 1", "runs on counter 3 only"
+  pub ruled : Each (Ruled (s .device)) rs ps
+  -- "A legal plan with the first has no other request in it"
+  pub alone : (r : Request) → List·Memᴰ r rs → Lone (s .device) r → rs ≡ r ∷ []
+  -- "and needs the usable set 15", which is all counters
+  pub quiet : (r : Request) → List·Memᴰ r rs → Lone (s .device) r → s .usable .0 ≡ allCounters (s .device)
 
 -- some plan of the requests is legal
 abbrev pub HasPlan : Setup → List Request → Type 0

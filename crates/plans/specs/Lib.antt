@@ -3,6 +3,7 @@ pub mod Lists
 pub mod Places
 pub mod Legal
 pub mod Order
+pub mod Narrowed
 pub mod Search
 -- Statements: what is claimed of it.
 pub mod FirstPlan

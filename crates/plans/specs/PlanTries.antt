@@ -1,5 +1,5 @@
--- Document 01, 'Bench tries': the first plans that tries A to G turn on, those of packets on S, and those of six counters on C; and the sets of counters that the
--- requests of some of them can leave.
+-- Document 01, 'Bench tries': the first plans that tries A to G turn on, those of packets on S, those of six counters on C, and those of order 12's
+-- events on B; and the sets of counters that the requests of some of them can leave.
 use mathlib.Core.Path.{_≡_}
 use mathlib.Core.List.{List, [], _∷_, map}
 use mathlib.Core.Option.{Option, none, some}
@@ -7,7 +7,7 @@ use Prim.Native.Nat.{ℕ, _+_, _^_}
 use Rattle.requests.specs.Askings.{unasked}
 use Rattle.requests.specs.declared.CounterSet.{CounterSet}
 use Rattle.requests.specs.declared.Device.{Device}
-use Rattle.requests.specs.declared.Device.the-variants.{G, S, C}
+use Rattle.requests.specs.declared.Device.the-variants.{G, S, C, B}
 use Rattle.requests.specs.declared.Setup.{Setup}
 use Rattle.requests.specs.declared.Request.{Request}
 use Rattle.requests.specs.declared.Request.the-variants.{Event, Packet, Offcore, Latency}
@@ -49,6 +49,14 @@ bypass allowed = Event 0x51 0x03 (set allowed)
 -- TRANS_IRQ with an allowed set
 abbrev transactions : ℕ → Request
 transactions allowed = Event 0x19 0x00 (set allowed)
+
+-- INST_RETIRED.ALL in its PDIR use with an allowed set
+abbrev lone : ℕ → Request
+lone allowed = Event 0xC0 0x01 (set allowed)
+
+-- MEM_TRANS_RETIRED.PRECISE_STORE with an allowed set
+abbrev stores : ℕ → Request
+stores allowed = Event 0xCD 0x02 (set allowed)
 
 -- an offcore word at any counter
 abbrev offcore : ℕ → Request
@@ -119,6 +127,32 @@ planTries =
     ∷ row (C 7) 63 (transactions 32 ∷ []) (some (counter 5 ∷ []))
     ∷ row (C 1) 48 (transactions 63 ∷ transactions 63 ∷ []) (some (counter 4 ∷ counter 5 ∷ []))
     ∷ row (C 0) 127 (transactions 64 ∷ []) none
+    -- B: C0/01 "runs on counter 1", where its allowed set has that
+    ∷ row B 15 (lone 15 ∷ []) (some (counter 1 ∷ []))
+    ∷ row B 15 (lone 2 ∷ []) (some (counter 1 ∷ []))
+    ∷ row B 15 (lone 13 ∷ []) none
+    -- "has no other request in it", before it or behind it
+    ∷ row B 15 (lone 15 ∷ instructions 15 ∷ []) none
+    ∷ row B 15 (instructions 15 ∷ lone 15 ∷ []) none
+    ∷ row B 15 (lone 15 ∷ stores 15 ∷ []) none
+    ∷ row B 15 (stores 15 ∷ lone 15 ∷ []) none
+    ∷ row B 15 (lone 15 ∷ lone 15 ∷ []) none
+    -- "needs the usable set 15"
+    ∷ row B 14 (lone 15 ∷ []) none
+    ∷ row B 7 (lone 15 ∷ []) none
+    ∷ row B 2 (lone 15 ∷ []) none
+    ∷ row B 31 (lone 15 ∷ []) none
+    -- CD/02 "runs on counter 3 only", beside others, and two of them share no turn
+    ∷ row B 15 (instructions 15 ∷ stores 8 ∷ []) (some (counter 0 ∷ counter 3 ∷ []))
+    ∷ row B 15 (stores 15 ∷ instructions 15 ∷ cycles 15 ∷ cycles 15 ∷ []) (some (counter 3 ∷ counter 0 ∷ counter 1 ∷ counter 2 ∷ []))
+    ∷ row B 15 (instructions 8 ∷ stores 15 ∷ []) none
+    ∷ row B 15 (stores 15 ∷ stores 15 ∷ []) none
+    ∷ row B 15 (stores 7 ∷ []) none
+    ∷ row B 14 (stores 15 ∷ []) (some (counter 3 ∷ []))
+    ∷ row B 7 (stores 15 ∷ []) none
+    -- other events of B, and these pairs on another device, run anywhere
+    ∷ row B 15 (instructions 15 ∷ cycles 1 ∷ []) (some (counter 1 ∷ counter 0 ∷ []))
+    ∷ row G 15 (stores 15 ∷ lone 15 ∷ []) (some (counter 0 ∷ counter 1 ∷ []))
     ∷ []
 
 -- a plan as document 01 prints it
@@ -171,6 +205,8 @@ leftTries =
     -- C: four of six counters, and two requests for one
     ∷ leaves (C 0) 63 (transactions 1 ∷ transactions 2 ∷ transactions 4 ∷ transactions 8 ∷ []) (2 ^ 48)
     ∷ leaves (C 0) 63 (transactions 32 ∷ transactions 32 ∷ []) 0
+    -- B: the sets of all counters that are allowed, since rules are not looked at
+    ∷ leaves B 15 (stores 12 ∷ []) (2 ^ 11 + 2 ^ 7)
     ∷ []
 
 -- the sets that the requests leave

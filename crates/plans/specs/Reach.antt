@@ -1,5 +1,6 @@
 -- The sets of counters that requests can leave free. They are the bits of one number: bit f stands for the set f, of at most six counters.
--- Where no set is left no plan is legal, and nothing needs to be searched. The converse is not claimed: registers are not looked at.
+-- Where no set is left no plan is legal, and nothing needs to be searched. The converse is not claimed: neither registers nor the
+-- rules of events are looked at.
 use mathlib.Core.Path.{_≡_}
 use mathlib.Core.List.{List, [], _∷_, _++_}
 use Prim.Native.Nat.{ℕ, zero, suc, _/_, _^_, _<_, _≤_}

@@ -1,5 +1,5 @@
 -- The first plan, found by placing requests one after another and going on with the rest.
-use mathlib.Core.List.{List, [], _∷_}
+use mathlib.Core.List.{List, [], _∷_, map}
 use mathlib.Core.Bool.{Bool, true}
 use mathlib.Core.Option.{Option, none, some}
 use Prim.Native.Nat.{ℕ, zero, suc, _*_, _-_, _/_, _%_, _^_}
@@ -11,6 +11,7 @@ use Rattle.requests.specs.declared.Request.the-variants.{Event, Packet, Offcore
 use Rattle.requests.specs.Choice.{both, pick, isSome}
 use Rattle.requests.specs.Bits.{latencyWord}
 use Rattle.requests.specs.Devices.{has, counterCount}
+use Rattle.plans.specs.Narrowed.{narrowed, quietKept}
 use Rattle.plans.specs.declared.Place.{Place}
 use Rattle.plans.specs.declared.Place.the-variants.{Counter, WithRsp, Pair}
 use Rattle.plans.specs.declared.Register.{Register}
@@ -114,9 +115,9 @@ unfoldable pub planIn : ℕ → List Request → Room → Option (List Place)
 planIn n [] m = some []
 planIn n (r ∷ rs) m = firstFrom (tryNumber (planIn n rs) n r m) 0 (n * width n r)
 
--- the first plan of the requests
+-- the first plan of the requests, as the rules of the device's events leave them
 unfoldable pub firstPlan : Setup → List Request → Option (List Place)
-firstPlan s rs = planIn (counterCount (s .device)) rs (emptyRoom s)
+firstPlan s rs = pick (quietKept s rs) (planIn (counterCount (s .device)) (map (narrowed (s .device)) rs) (emptyRoom s)) none
 
 -- whether the requests have a plan
 unfoldable pub hasPlan : Setup → List Request → Bool
