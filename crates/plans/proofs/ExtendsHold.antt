@@ -21,7 +21,7 @@ use Rattle.plans.specs.declared.Place.{Place}
 use Rattle.plans.specs.declared.Place.the-variants.{Counter}
 use Rattle.plans.specs.Lists.{All, nil, cons, Pairwise, empty, add, OneValue, Each, none as each-none, and}
 use Rattle.plans.specs.Places.{first, second, countedOf, countersOf}
-use Rattle.plans.specs.Legal.{Allowed, event, packet, Usable, Ruled, wordsOf, packetsOf, ofAll, counters, Legal}
+use Rattle.plans.specs.Legal.{Allowed, event, packet, Usable, wordsOf, packetsOf, ofAll, counters, Legal}
 use Rattle.plans.specs.Order.{Earlier, Before, here, later, First}
 use Rattle.plans.specs.Search.{firstPlan}
 use Rattle.plans.specs.Packed.{codeOf}

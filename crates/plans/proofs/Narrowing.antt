@@ -1,7 +1,7 @@
 -- The rules of events, as the search keeps them: a plan of the narrowed requests is one in which each request is at its counter, and `quietKept` says that
 -- a lone request is alone and all counters are usable. Assumes nothing.
-use mathlib.Core.Path.{_≡_, refl, ap, ap₂, sym, subst, _∙_}
-use mathlib.Core.Logic.{_⊎_, ⊎-elim}
+use mathlib.Core.Path.{_≡_, refl, ap, ap₂, sym, _∙_}
+use mathlib.Core.Logic.{⊎-elim}
 use mathlib.Core.Bool.{Bool, true, false, not, false≢true}
 use mathlib.Core.List.{List, [], _∷_, _++_, map, flatMap, List·Memᴰ, List·Memᴰ·head, List·Memᴰ·tail}
 use Prim.Native.Nat.{ℕ, _-_, _^_}
@@ -13,12 +13,11 @@ use borrow.Author.Tests.{eqb-true, eq-eqb, not-true}
 use Rattle.requests.specs.declared.CounterSet.{CounterSet}
 use Rattle.requests.specs.declared.Device.{Device}
 use Rattle.requests.specs.declared.EventRule.{EventRule}
-use Rattle.requests.specs.declared.EventRule.the-variants.{Anywhere, OnlyOn, AloneOn}
+use Rattle.requests.specs.declared.EventRule.the-variants.{Anywhere}
 use Rattle.requests.specs.declared.Request.{Request}
 use Rattle.requests.specs.declared.Request.the-variants.{Event, Packet, Offcore, Latency}
 use Rattle.requests.specs.declared.Setup.{Setup}
 use Rattle.requests.specs.Choice.{both, either, pick}
-use Rattle.requests.specs.Bits.{bit}
 use Rattle.requests.specs.Devices.{has, allCounters}
 use Rattle.requests.specs.EventRules.{ruleOf, ruleFor, wantsQuiet}
 use Rattle.requests.specs.RuledEvents.{RunsOn, instructions, stores, Lone, Unruled}

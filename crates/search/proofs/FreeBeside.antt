@@ -12,6 +12,7 @@ use Rattle.requests.specs.declared.Setup.{Setup}
 use Rattle.requests.specs.declared.Request.the-variants.{Event, Packet, Offcore}
 use Rattle.requests.specs.Choice.{both, pick}
 use Rattle.requests.specs.Devices.{has, counterCount}
+use Rattle.requests.specs.RuledEvents.{Unruled}
 use Rattle.plans.specs.declared.Place.{Place}
 use Rattle.plans.specs.Lists.{All, nil, cons, empty, add, OneValue, none, and}
 use Rattle.plans.specs.declared.Place.the-variants.{Counter, WithRsp}
@@ -22,6 +23,7 @@ use Rattle.search.specs.Counters.{available, NextIn, without}
 use Rattle.plans.specs.Extends.{Unused, LeastUnused}
 use Rattle.search.specs.Beside.{Without, LeftFree, AnyUsable}
 use Rattle.plans.proofs.Sets.{has-other, has-self}
+use Rattle.plans.proofs.Narrowing.{fits-legal}
 use Rattle.search.proofs.CounterBits.{has-below, chosen-free}
 use Rattle.search.proofs.OwnCounters.{ownSet, has-own, own-below}
 use Rattle.plans.proofs.ExtendsHold.{all-front, all-back, all-join, counters-behind}
@@ -104,49 +106,49 @@ module _ (s : Setup) (ps : List Place) (a free choice : CounterSet) (chosen : (k
       go j h u (yes f) = let e : has choice j ≡ true = rw (chosen j, h) (l .all j u) in never e (n .none-between j (omega arith) f)
       go j h u (no f) = omega arith
 
--- ---- a request alone
+-- ---- a request alone, where no event has a rule
 
 module _ (s : Setup) where
-  pub any-usable : (a free choice : CounterSet) → ((k : ℕ) → has choice k ≡ available a free k) → LeftFree s [] free → (r : ℕ) → NextIn choice 0 r → r < 64 → AnyUsable s a
-  any-usable a free choice chosen l r n b = let u = least-unused s [] a free choice chosen l r n b in (r, u .allowed, u .unused .0)
+  pub any-usable : (a free choice : CounterSet) → ((k : ℕ) → has choice k ≡ available a free k) → LeftFree s [] free → Unruled (s .device) → (r : ℕ) → NextIn choice 0 r → r < 64 → AnyUsable s a
+  any-usable a free choice chosen l unruled r n b = let u = least-unused s [] a free choice chosen l r n b in (r, u .allowed, u .unused .0, unruled)
 
   pub event-alone : (c m : ℕ) (a : CounterSet) → AnyUsable s a → HasPlan s (Event c m a ∷ [])
   unfolding counters countersOf countedOf ofAll wordsOf packetsOf flatMap
   event-alone c m a u = (
     Counter (u .0) ∷ [],
-    record {
+    fits-legal s (u .3) (Event c m a ∷ []) (Counter (u .0) ∷ []) (record {
       differ = add nil empty;
       usable-only = cons (u .2) nil;
       allowed = and (event (u .1)) none;
       one-word = λ i b. (0, nil);
       one-packet = ((0, 0), nil);
-    },
+    }),
   )
 
   pub packet-alone : (x y : ℕ) (a : CounterSet) → AnyUsable s a → HasPlan s (Packet x y a ∷ [])
   unfolding counters countersOf countedOf ofAll wordsOf packetsOf flatMap
   packet-alone x y a u = (
     Counter (u .0) ∷ [],
-    record {
+    fits-legal s (u .3) (Packet x y a ∷ []) (Counter (u .0) ∷ []) (record {
       differ = add nil empty;
       usable-only = cons (u .2) nil;
       allowed = and (packet (u .1)) none;
       one-word = λ i b. (0, nil);
       one-packet = ((x, y), cons refl nil);
-    },
+    }),
   )
 
   pub offcore-alone : (w : ℕ) (a : CounterSet) → AnyUsable s a → HasPlan s (Offcore w a ∷ [])
   unfolding counters countersOf countedOf ofAll wordsOf packetsOf flatMap
   offcore-alone w a u = (
     WithRsp (u .0) 0 ∷ [],
-    record {
+    fits-legal s (u .3) (Offcore w a ∷ []) (WithRsp (u .0) 0 ∷ []) (record {
       differ = add nil empty;
       usable-only = cons (u .2) nil;
       allowed = and (offcore {i = 0} (u .1) (omega arith)) none;
       one-word = λ i b. words (eqb 0 i);
       one-packet = ((0, 0), nil);
-    },
+    }),
   )
     where
       words : (b : Bool) → OneValue (pick b (w ∷ []) [] ++ [])

@@ -1,5 +1,5 @@
 -- A plan looks at the device's counters alone: the first plan in the usable set is the first in the part of it that the device has, since
--- the same plans are legal. Assumes nothing.
+-- the same plans fit. Assumes nothing.
 use mathlib.Core.Path.{_≡_, refl, ap, sym, _∙_}
 use mathlib.Core.List.{List}
 use mathlib.Core.Option.{Option, none, some}
@@ -17,11 +17,10 @@ use Rattle.requests.specs.Bits.{bit}
 use Rattle.requests.specs.Devices.{has, counterCount, allCounters}
 use Rattle.plans.specs.declared.Place.{Place}
 use Rattle.search.specs.Rows.{setOf}
-use Rattle.plans.specs.Legal.{Legal}
-use Rattle.plans.specs.Order.{First}
-use Rattle.plans.specs.Search.{firstPlan}
+use Rattle.plans.specs.Search.{emptyRoom, planIn}
 use Rattle.plans.proofs.Sets.{all-imp}
-use Rattle.plans.proofs.FirstFound.{first-plan}
+use Rattle.plans.proofs.Fits.{Fits}
+use Rattle.plans.proofs.FirstFound.{not-after-both, fit-found, fit-first, fit-none}
 
 -- the counters of the set that the device has
 abbrev pub ownSet : Device → CounterSet → CounterSet
@@ -49,31 +48,30 @@ has-own d set k l =
     ap (λ (y : ℕ). eqb (y % 2) 1) digits ∙ ap (λ (y : ℕ). eqb y 1) (mod-mod-pow (x / 2 ^ k) (n - k - 1) 1)
 
 -- two setups of a device whose usable sets have the same counters of the device
-legal-as : (s t : Setup) (rs : List Request) (ps : List Place) → s .device ≡ t .device → ((k : ℕ) → k < counterCount (s .device) → has (s .usable) k ≡ has (t .usable) k)
-    → Legal s rs ps → Legal t rs ps
-legal-as s t rs ps one same l = record {
-  differ = l .differ;
-  usable-only = all-imp (λ k usable. (rw (← one) (usable .0), sym (same k (usable .0)) ∙ usable .1)) (l .usable-only);
-  allowed = l .allowed;
-  one-word = l .one-word;
-  one-packet = l .one-packet;
+fits-as : (s t : Setup) (rs : List Request) (ps : List Place) → s .device ≡ t .device → ((k : ℕ) → k < counterCount (s .device) → has (s .usable) k ≡ has (t .usable) k)
+    → Fits s rs ps → Fits t rs ps
+fits-as s t rs ps one same f = record {
+  differ = f .differ;
+  usable-only = all-imp (λ k usable. (rw (← one) (usable .0), sym (same k (usable .0)) ∙ usable .1)) (f .usable-only);
+  allowed = f .allowed;
+  one-word = f .one-word;
+  one-packet = f .one-packet;
 }
 
 module _ (s : Setup) (rs : List Request) where
-  legal-own : (ps : List Place) → Legal s rs ps → Legal (own s) rs ps
-  legal-own ps = legal-as s (own s) rs ps refl (λ k l. sym (has-own (s .device) (s .usable) k l))
+  fits-own : (ps : List Place) → Fits s rs ps → Fits (own s) rs ps
+  fits-own ps = fits-as s (own s) rs ps refl (λ k l. sym (has-own (s .device) (s .usable) k l))
 
-  own-legal : (ps : List Place) → Legal (own s) rs ps → Legal s rs ps
-  own-legal ps = legal-as (own s) s rs ps refl (has-own (s .device) (s .usable))
+  own-fits : (ps : List Place) → Fits (own s) rs ps → Fits s rs ps
+  own-fits ps = fits-as (own s) s rs ps refl (has-own (s .device) (s .usable))
 
-  first-own : (ps : List Place) → First s rs ps → First (own s) rs ps
-  first-own ps f = record { legal = legal-own ps (f .legal); earliest = λ qs l. f .earliest qs (own-legal qs l) }
-
-  pub own-plan : firstPlan (own s) rs ≡ firstPlan s rs
-  own-plan = go (firstPlan (own s) rs) (firstPlan s rs) refl refl
+  pub own-plan : planIn (counterCount (s .device)) rs (emptyRoom (own s)) ≡ planIn (counterCount (s .device)) rs (emptyRoom s)
+  own-plan = go (planIn (counterCount (s .device)) rs (emptyRoom (own s))) (planIn (counterCount (s .device)) rs (emptyRoom s)) refl refl
     where
-      go : (x y : Option (List Place)) → firstPlan (own s) rs ≡ x → firstPlan s rs ≡ y → x ≡ y
+      go : (x y : Option (List Place)) → planIn (counterCount (s .device)) rs (emptyRoom (own s)) ≡ x → planIn (counterCount (s .device)) rs (emptyRoom s) ≡ y → x ≡ y
       go none none e f = refl
-      go none (some qs) e f = absurd (first-plan .complete (own s) rs e (qs, legal-own qs (first-plan .sound s rs qs f .legal)))
-      go (some ps) none e f = absurd (first-plan .complete s rs f (ps, own-legal ps (first-plan .sound (own s) rs ps e .legal)))
-      go (some ps) (some qs) e f = ap some (first-plan .only (own s) rs ps qs (first-plan .sound (own s) rs ps e) (first-own qs (first-plan .sound s rs qs f)))
+      go none (some qs) e f = absurd (fit-none (own s) rs e qs (fits-own qs (fit-found s rs qs f)))
+      go (some ps) none e f = absurd (fit-none s rs f ps (own-fits ps (fit-found (own s) rs ps e)))
+      go (some ps) (some qs) e f =
+          ap some
+          (not-after-both ps qs (fit-first (own s) rs ps qs e (fits-own qs (fit-found s rs qs f))) (fit-first s rs qs ps f (own-fits ps (fit-found (own s) rs ps e))))

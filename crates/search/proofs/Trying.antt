@@ -21,7 +21,7 @@ use Rattle.search.specs.declared.left.Left.{Left}
 use Rattle.plans.specs.declared.Admission.{Admission}
 use Rattle.plans.specs.declared.Admission.the-variants.{Admitted, NoRoom}
 use Rattle.plans.specs.Places.{first, second}
-use Rattle.plans.specs.Search.{emptyRoom, holdsPacket, takeCounter, placeOf, admit, width, firstFrom, putFirst, thenRest, tryNumber, planIn, firstPlan}
+use Rattle.plans.specs.Search.{emptyRoom, holdsPacket, takeCounter, placeOf, admit, width, firstFrom, putFirst, thenRest, tryNumber, planIn}
 use Rattle.search.specs.Rows.{requestAt, rowsFrom}
 use Rattle.search.specs.Counters.{available}
 use Rattle.search.specs.Left.{withoutCounter, withPacket}
@@ -249,6 +249,5 @@ module _ (n : ℕ) (rows : List ℕ) (next count : ℕ) (a : CounterSet) (room :
   counter-done k l = try-done counters k n l
 
 -- the search from the first row on
-pub whole-plan : (s : Setup) (rows : List ℕ) (count : ℕ) → planFrom (counterCount (s .device)) rows 0 count (emptyRoom s) ≡ firstPlan s (rowsFrom rows 0 count)
-unfolding firstPlan
+pub whole-plan : (s : Setup) (rows : List ℕ) (count : ℕ) → planFrom (counterCount (s .device)) rows 0 count (emptyRoom s) ≡ planIn (counterCount (s .device)) (rowsFrom rows 0 count) (emptyRoom s)
 whole-plan s rows count = rw (sub-zero count)

@@ -2,21 +2,21 @@
 --     none-packed, some-packed   a number that is 0 stands for no plan, and any other for a plan
 --     plan-packed                .. so that it tells whether the requests have a plan
 --     plan-unpacked              the places read out of the number are those of the plan
-use mathlib.Core.Path.{_≡_, refl, _∙_}
-use mathlib.Core.Bool.{not}
-use mathlib.Core.List.{List, [], _∷_}
+use mathlib.Core.Path.{_≡_, refl, ap₂, sym, _∙_}
+use mathlib.Core.Bool.{Bool, true, false, not}
+use mathlib.Core.List.{List, [], _∷_, map}
 use mathlib.Core.Option.{Option, none, some}
 use Prim.Native.Nat.{ℕ, zero, suc, _+_, _-_, _*_, _/_, _%_, _^_, _<_, _≤_}
 use native.Mathlib.Omega.{arith}
 use lib.Dec.{eqb}
 use lib.Pow.{shr-shr}
-use lib.ListN.{length}
+use lib.ListN.{length, length-map}
 use borrow.Author.Tests.{ne-eqb}
 use Rattle.requests.specs.declared.Device.{Device}
 use Rattle.requests.specs.declared.Setup.{Setup}
 use Rattle.requests.specs.declared.Request.{Request}
 use Rattle.requests.specs.declared.Request.the-variants.{Event, Packet, Offcore, Latency}
-use Rattle.requests.specs.Choice.{isSome}
+use Rattle.requests.specs.Choice.{isSome, pick}
 use Rattle.requests.specs.Devices.{counterCount}
 use Rattle.requests.proofs.DeviceNumbers.{numbers}
 use Rattle.plans.specs.declared.Place.{Place}
@@ -24,11 +24,13 @@ use Rattle.plans.specs.declared.Room.{Room}
 use Rattle.plans.specs.declared.Admission.{Admission}
 use Rattle.plans.specs.declared.Admission.the-variants.{Admitted, NoRoom}
 use Rattle.plans.specs.Places.{first, second}
+use Rattle.plans.specs.Narrowed.{narrowed, quietKept}
 use Rattle.plans.specs.Search.{emptyRoom, placeOf, width, planIn, firstPlan, hasPlan}
 use Rattle.search.specs.Rows.{rowsFrom}
 use Rattle.search.specs.Remaining.{planAfter}
 use Rattle.plans.specs.Packed.{codeOf, packed, placeAt, placesFrom}
 use Rattle.plans.proofs.Placing.{Placed, none-left, next, plan-placed}
+use Rattle.plans.proofs.FirstFound.{found-kept}
 use Rattle.search.proofs.RequestRows.{rows-length}
 
 -- ---- the two numbers of a place
@@ -99,9 +101,27 @@ placed-back n few (next {r = r} {k = k} {j = j} {ps = ps} f g a d) code i e =
     let rest : code / 2 ^ (6 * (i + 1)) ≡ codeOf ps = rw (shift, ← shr-shr code (6 * i) 6) (omega (arith, whole, f, g, wide, few)) in
     rw (high, low, placed-back n few d code (i + 1) rest)
 
+-- the places of requests as the rules leave them
+place-narrowed : (d : Device) (r : Request) (k j : ℕ) → placeOf (narrowed d r) k j ≡ placeOf r k j
+unfolding narrowed placeOf
+place-narrowed d (Event c m a) k j = refl
+place-narrowed d (Packet x y a) k j = refl
+place-narrowed d (Offcore w a) k j = refl
+place-narrowed d (Latency t a b) k j = refl
+
+places-narrowed : (d : Device) (code i : ℕ) (rs : List Request) → placesFrom code i (map (narrowed d) rs) ≡ placesFrom code i rs
+unfolding placesFrom placeAt
+places-narrowed d code i [] = refl
+places-narrowed d code i (r ∷ rs) =
+    ap₂ (λ (p : Place) (ps : List Place). p ∷ ps) (place-narrowed d r (code / 2 ^ (6 * i) / 8 % 8) (code / 2 ^ (6 * i) % 8)) (places-narrowed d code (i + 1) rs)
+
 pub plan-unpacked : (s : Setup) (rs : List Request) (ps : List Place) → firstPlan s rs ≡ some ps → placesFrom (packed (firstPlan s rs)) 0 rs ≡ ps
-unfolding firstPlan packed
-plan-unpacked s rs ps e = placed-back (counterCount (s .device)) (counters-few (s .device) .1) (plan-placed (counterCount (s .device)) rs (emptyRoom s) ps e) (packed (firstPlan s rs)) 0 (rw e (omega arith))
+unfolding packed
+plan-unpacked s rs ps e =
+    let n = counterCount (s .device) in
+    let found = found-kept s rs ps e .1 in
+    sym (places-narrowed (s .device) (packed (firstPlan s rs)) 0 rs)
+    ∙ placed-back n (counters-few (s .device) .1) (plan-placed n (map (narrowed (s .device)) rs) (emptyRoom s) ps found) (packed (firstPlan s rs)) 0 (rw e (omega arith))
 
 -- ---- how large the number is
 
@@ -136,6 +156,17 @@ plan-code n few rs m l = go (planIn n rs m) refl
     go : (o : Option (List Place)) → planIn n rs m ≡ o → packed o < 8796093022208
     go none e = omega arith
     go (some ps) e = omega (arith, placed-code n few (plan-placed n rs m ps e), limit-le (length rs) l)
+
+pub first-code : (s : Setup) (rs : List Request) → length rs ≤ 7 → packed (firstPlan s rs) < 8796093022208
+unfolding firstPlan packed
+first-code s rs l = go (quietKept s rs)
+  where
+    plan : Option (List Place)
+    plan = planIn (counterCount (s .device)) (map (narrowed (s .device)) rs) (emptyRoom s)
+
+    go : (b : Bool) → packed (pick b plan none) < 8796093022208
+    go true = plan-code (counterCount (s .device)) (counters-few (s .device) .1) (map (narrowed (s .device)) rs) (emptyRoom s) (omega (arith, length-map rs (narrowed (s .device))))
+    go false = omega arith
 
 pub rest-code : (n : ℕ) → n ≤ 8 → (rows : List ℕ) (at count : ℕ) (a : Admission) (x : ℕ) → count - at ≤ 7 → x ≡ packed (planAfter n rows at count a) → x < 8796093022208
 unfolding packed

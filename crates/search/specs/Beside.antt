@@ -9,6 +9,7 @@ use Rattle.requests.specs.declared.Setup.{Setup}
 use Rattle.requests.specs.declared.Request.{Request}
 use Rattle.requests.specs.declared.Request.the-variants.{Event}
 use Rattle.requests.specs.Devices.{has}
+use Rattle.requests.specs.RuledEvents.{Unruled}
 use Rattle.plans.specs.declared.Place.{Place}
 use Rattle.plans.specs.Lists.{All}
 use Rattle.plans.specs.Legal.{Usable}
@@ -25,10 +26,10 @@ pub record LeftFree (s : Setup) (ps : List Place) (r : CounterSet) : Type 0 wher
   pub unused : (i : ℕ) → has r i ≡ true → Unused s ps i
   pub all : (i : ℕ) → Unused s ps i → has r i ≡ true
 
--- the request is an event, and k its counter behind the plan
+-- the request is an event that runs anywhere beside any other, and k its counter behind the plan
 pub data Beside (s : Setup) (ps : List Place) : Request → ℕ → Type 0 where
-  event : {c m : ℕ} {a : CounterSet} {k : ℕ} → LeastUnused s a ps k → Beside s ps (Event c m a) k
+  event : {c m : ℕ} {a : CounterSet} {k : ℕ} → Unruled (s .device) → LeastUnused s a ps k → Beside s ps (Event c m a) k
 
--- some allowed counter is usable
+-- some allowed counter is usable, and no rule says which
 abbrev pub AnyUsable : Setup → CounterSet → Type 0
-AnyUsable s a = (k : ℕ) × (has a k ≡ true) × Usable s k
+AnyUsable s a = (k : ℕ) × (has a k ≡ true) × Usable s k × Unruled (s .device)

@@ -15,6 +15,7 @@ use crate::packed::place_at;
 use crate::rows::ROW_NUMBERS;
 use crate::rows::request_at;
 use checks::devices::all_counters;
+use checks::rules::has_rules;
 use checks::set::has;
 use plans::Place;
 use requests::CounterSet;
@@ -67,7 +68,7 @@ fn free_beside(setup: Setup, code: u64, rows: &[u64; ROW_NUMBERS], count: usize)
     free
 }
 
-// The least counter of an event beside a packed plan; 64 or more where there is none, and for any other request.
+// The least counter of an event beside a packed plan; 64 or more where there is none, for any other request, and on a device whose events have rules.
 pub fn counter_beside(
     setup: Setup,
     code: u64,
@@ -78,6 +79,10 @@ pub fn counter_beside(
     requires { ⌜ count ≤ 8 ⌝ }
     ensures { λ r. ⌜ (r < 64 → Beside setup (placesFrom code 0 (rowsFrom (now (rows .entry)) 0 count)) request r) ⌝ }
 {
+    let device = setup.device;
+    if has_rules(device) {
+        return 64;
+    }
     match request {
         Request::Event {
             code: _,
@@ -101,10 +106,14 @@ pub fn counter_beside(
     }
 }
 
-// Whether some allowed counter is usable.
+// Whether some allowed counter is usable; nothing is said on a device whose events have rules.
 pub fn any_usable(setup: Setup, allowed: CounterSet) -> bool
     ensures { λ r. ⌜ (r ≡ true → AnyUsable setup allowed) ⌝ }
 {
+    let device = setup.device;
+    if has_rules(device) {
+        return false;
+    }
     next_in(available(allowed, own_counters(setup)), 0) < 64
 }
 

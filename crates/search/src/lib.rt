@@ -15,6 +15,7 @@ pub mod plan_rows;
 pub mod reach;
 mod remaining;
 pub mod rows;
+mod ruled;
 
 // What one request is given.
 pub struct Given {
