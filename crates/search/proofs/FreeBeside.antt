@@ -9,10 +9,11 @@ use native.Mathlib.Decide.{decLt}
 use lib.Dec.{eqb}
 use Rattle.requests.specs.declared.CounterSet.{CounterSet}
 use Rattle.requests.specs.declared.Setup.{Setup}
+use Rattle.requests.specs.declared.Request.{Request}
 use Rattle.requests.specs.declared.Request.the-variants.{Event, Packet, Offcore}
 use Rattle.requests.specs.Choice.{both, pick}
 use Rattle.requests.specs.Devices.{has, counterCount}
-use Rattle.requests.specs.RuledEvents.{Unruled}
+use Rattle.requests.specs.RuledEvents.{Lone, Unruled}
 use Rattle.plans.specs.declared.Place.{Place}
 use Rattle.plans.specs.Lists.{All, nil, cons, empty, add, OneValue, none, and}
 use Rattle.plans.specs.declared.Place.the-variants.{Counter, WithRsp}
@@ -20,10 +21,10 @@ use Rattle.plans.specs.Places.{countedOf, countersOf}
 use Rattle.plans.specs.Legal.{event, packet, offcore, Usable, wordsOf, packetsOf, ofAll, counters, HasPlan}
 use Rattle.search.specs.Rows.{setOf}
 use Rattle.search.specs.Counters.{available, NextIn, without}
-use Rattle.plans.specs.Extends.{Unused, LeastUnused}
+use Rattle.plans.specs.Extends.{Unused, LeastUnused, MayFollow}
 use Rattle.search.specs.Beside.{Without, LeftFree, AnyUsable}
 use Rattle.plans.proofs.Sets.{has-other, has-self}
-use Rattle.plans.proofs.Narrowing.{fits-legal}
+use Rattle.plans.proofs.Narrowing.{never-lone, fits-legal}
 use Rattle.search.proofs.CounterBits.{has-below, chosen-free}
 use Rattle.search.proofs.OwnCounters.{ownSet, has-own, own-below}
 use Rattle.plans.proofs.ExtendsHold.{all-front, all-back, all-join, counters-behind}
@@ -106,7 +107,16 @@ module _ (s : Setup) (ps : List Place) (a free choice : CounterSet) (chosen : (k
       go j h u (yes f) = let e : has choice j ≡ true = rw (chosen j, h) (l .all j u) in never e (n .none-between j (omega arith) f)
       go j h u (no f) = omega arith
 
--- ---- a request alone, where no event has a rule
+-- ---- where no event has a rule, any request follows any others
+
+pub unruled-follows : (s : Setup) (rs : List Request) (r : Request) → Unruled (s .device) → MayFollow s rs r
+unruled-follows s rs r free = record { anywhere = free r; beside = go rs }
+  where
+    go : (qs : List Request) → All (λ (q : Request). ¬ Lone (s .device) q) qs
+    go [] = nil
+    go (q ∷ qs) = cons (never-lone s free q) (go qs)
+
+-- ---- a request alone there
 
 module _ (s : Setup) where
   pub any-usable : (a free choice : CounterSet) → ((k : ℕ) → has choice k ≡ available a free k) → LeftFree s [] free → Unruled (s .device) → (r : ℕ) → NextIn choice 0 r → r < 64 → AnyUsable s a
