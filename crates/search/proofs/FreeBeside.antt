@@ -119,14 +119,15 @@ unruled-follows s rs r free = record { anywhere = free r; beside = go rs }
 -- ---- a request alone there
 
 module _ (s : Setup) where
-  pub any-usable : (a free choice : CounterSet) → ((k : ℕ) → has choice k ≡ available a free k) → LeftFree s [] free → Unruled (s .device) → (r : ℕ) → NextIn choice 0 r → r < 64 → AnyUsable s a
-  any-usable a free choice chosen l unruled r n b = let u = least-unused s [] a free choice chosen l r n b in (r, u .allowed, u .unused .0, unruled)
+  pub any-usable : (a free choice : CounterSet) → ((k : ℕ) → has choice k ≡ available a free k) → LeftFree s [] free → (r : ℕ) → NextIn choice 0 r → r < 64 → AnyUsable s a
+  any-usable a free choice chosen l r n b = let u = least-unused s [] a free choice chosen l r n b in (r, u .allowed, u .unused .0)
 
+module _ (s : Setup) (free : Unruled (s .device)) where
   pub event-alone : (c m : ℕ) (a : CounterSet) → AnyUsable s a → HasPlan s (Event c m a ∷ [])
   unfolding counters countersOf countedOf ofAll wordsOf packetsOf flatMap
   event-alone c m a u = (
     Counter (u .0) ∷ [],
-    fits-legal s (u .3) (Event c m a ∷ []) (Counter (u .0) ∷ []) (record {
+    fits-legal s free (Event c m a ∷ []) (Counter (u .0) ∷ []) (record {
       differ = add nil empty;
       usable-only = cons (u .2) nil;
       allowed = and (event (u .1)) none;
@@ -139,7 +140,7 @@ module _ (s : Setup) where
   unfolding counters countersOf countedOf ofAll wordsOf packetsOf flatMap
   packet-alone x y a u = (
     Counter (u .0) ∷ [],
-    fits-legal s (u .3) (Packet x y a ∷ []) (Counter (u .0) ∷ []) (record {
+    fits-legal s free (Packet x y a ∷ []) (Counter (u .0) ∷ []) (record {
       differ = add nil empty;
       usable-only = cons (u .2) nil;
       allowed = and (packet (u .1)) none;
@@ -152,7 +153,7 @@ module _ (s : Setup) where
   unfolding counters countersOf countedOf ofAll wordsOf packetsOf flatMap
   offcore-alone w a u = (
     WithRsp (u .0) 0 ∷ [],
-    fits-legal s (u .3) (Offcore w a ∷ []) (WithRsp (u .0) 0 ∷ []) (record {
+    fits-legal s free (Offcore w a ∷ []) (WithRsp (u .0) 0 ∷ []) (record {
       differ = add nil empty;
       usable-only = cons (u .2) nil;
       allowed = and (offcore {i = 0} (u .1) (omega arith)) none;

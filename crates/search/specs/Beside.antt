@@ -30,6 +30,6 @@ pub record LeftFree (s : Setup) (ps : List Place) (r : CounterSet) : Type 0 wher
 pub data Beside (s : Setup) (ps : List Place) : Request → ℕ → Type 0 where
   event : {c m : ℕ} {a : CounterSet} {k : ℕ} → Unruled (s .device) → LeastUnused s a ps k → Beside s ps (Event c m a) k
 
--- some allowed counter is usable, and no rule says which
+-- some allowed counter is usable
 abbrev pub AnyUsable : Setup → CounterSet → Type 0
-AnyUsable s a = (k : ℕ) × (has a k ≡ true) × Usable s k × Unruled (s .device)
+AnyUsable s a = (k : ℕ) × (has a k ≡ true) × Usable s k

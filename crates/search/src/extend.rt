@@ -106,21 +106,21 @@ pub fn counter_beside(
     }
 }
 
-// Whether some allowed counter is usable; nothing is said on a device whose events have rules.
+// Whether some allowed counter is usable.
 pub fn any_usable(setup: Setup, allowed: CounterSet) -> bool
     ensures { λ r. ⌜ (r ≡ true → AnyUsable setup allowed) ⌝ }
+{
+    next_in(available(allowed, own_counters(setup)), 0) < 64
+}
+
+// Whether a request that takes one counter has one, and so a plan alone. Nothing is said of the others, nor where events have rules.
+pub fn counter_alone(setup: Setup, request: Request) -> bool
+    ensures { λ r. ⌜ (r ≡ true → HasPlan setup (request ∷ [])) ⌝ }
 {
     let device = setup.device;
     if has_rules(device) {
         return false;
     }
-    next_in(available(allowed, own_counters(setup)), 0) < 64
-}
-
-// Whether a request that takes one counter has one, and so a plan alone. Nothing is said of the others.
-pub fn counter_alone(setup: Setup, request: Request) -> bool
-    ensures { λ r. ⌜ (r ≡ true → HasPlan setup (request ∷ [])) ⌝ }
-{
     match request {
         Request::Event {
             code: _,
