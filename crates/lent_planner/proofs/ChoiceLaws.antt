@@ -11,7 +11,6 @@ use lib.ListN.{length, take, set, replicate, length-append}
 use lib.Seq.{take-at}
 use Rattle.requests.specs.declared.Setup.{Setup}
 use Rattle.requests.specs.declared.Entry.{Entry}
-use Rattle.plans.specs.Search.{firstPlan, planIn}
 use Rattle.plans.specs.Packed.{codeOf, packed, placesFrom}
 use Rattle.plans.specs.Reach.{leftBy, leftOf}
 use Rattle.plans.proofs.ReachHolds.{reach}
@@ -22,6 +21,7 @@ use Rattle.search.specs.Rows.{rowsFrom}
 use Rattle.search.proofs.RequestRows.{rows-length}
 use Rattle.plans.proofs.PlanLengthHolds.{plan-length}
 use Rattle.plans.proofs.PartsHold.{parts}
+use Rattle.plans.proofs.FirstFound.{first-empty}
 use Rattle.sessions.specs.Turns.{requestsOf, taken, placesOf}
 use Rattle.sessions.specs.Sessions.{vacant}
 use Rattle.sessions.proofs.TakenPlan.{requests-length}
@@ -162,7 +162,7 @@ pub chosen-none : (s : Setup) (usable counters end left : ℕ) (rows : List ℕ)
       at = inArray capacity nowhere [];
       count = 0;
     })
-unfolding marks marksAfter rowsFrom requestsOf firstPlan planIn packed codeOf
+unfolding marks marksAfter rowsFrom requestsOf packed codeOf
 chosen-none s usable counters end left rows u n l h =
     record {
       setup = refl;
@@ -170,7 +170,7 @@ chosen-none s usable counters end left rows u n l h =
       counters = n;
       rows-length = h;
       rows-taken = rw (taking s .taken-none);
-      plan-found = rw (taking s .taken-none);
+      plan-found = rw (taking s .taken-none, first-empty s);
       plan-some = λ e. omega (arith, e);
       left-sets = λ small. left-none s left (l small);
       taken-array = rw (taking s .taken-none);

@@ -3,6 +3,7 @@ use crate::Survey;
 use checks::catalogue::look_up;
 use checks::check::request_refusal;
 use checks::devices::all_counters;
+use checks::rules::has_rules;
 use checks::set::has;
 use planner::add::plans_alone;
 use planner::ids::outside_ids;
@@ -49,8 +50,8 @@ pub fn all_zero(request: Request) -> bool
     }
 }
 
-// Whether the request is a listed event that asks for no counter but the device's, one of them usable. Most requests are, and nothing else has to
-// be asked of them.
+// Whether the request is a listed event that asks for no counter but the device's, one of them usable, where no event has a rule. Most requests are,
+// and nothing else has to be asked of them.
 fn fits_at_once(setup: Setup, request: Request) -> bool
     ensures { λ r. ⌜ (r ≡ true → (formed setup request ≡ true) × (hasPlan setup (request ∷ []) ≡ true)) ⌝ }
 {
@@ -61,6 +62,9 @@ fn fits_at_once(setup: Setup, request: Request) -> bool
             allowed,
         } => {
             let device = setup.device;
+            if has_rules(device) {
+                return false;
+            }
             let all = all_counters(device);
             if all.0 < allowed.0 {
                 return false;

@@ -12,18 +12,20 @@ use lib.ListN.{length, take}
 use lib.Seq.{take-at}
 use Rattle.requests.specs.declared.Setup.{Setup}
 use Rattle.requests.specs.declared.Request.{Request}
-use Rattle.requests.specs.Devices.{size, counterCount, capacity}
+use Rattle.requests.specs.declared.Request.the-variants.{Event}
+use Rattle.requests.specs.Devices.{size}
 use Rattle.plans.specs.Legal.{HasPlan}
 use Rattle.plans.specs.declared.Place.{Place}
-use Rattle.plans.specs.Search.{emptyRoom, firstPlan, hasPlan}
+use Rattle.plans.specs.Search.{firstPlan, hasPlan}
 use Rattle.plans.specs.Parts.{usableCount}
 use Rattle.search.specs.Rows.{requestAt, rowsFrom, setRequest}
 use Rattle.plans.specs.Packed.{packed, placesFrom}
 use Rattle.search.specs.Beside.{Beside, event}
 use Rattle.plans.proofs.FirstFound.{first-plan}
 use Rattle.search.proofs.RequestRows.{put-length, rows-length, rows-last, rows-put}
-use Rattle.search.proofs.Unpacking.{some-packed, none-packed, plan-packed, plan-unpacked, plan-code}
+use Rattle.search.proofs.Unpacking.{some-packed, none-packed, plan-packed, plan-unpacked, first-code}
 use Rattle.search.proofs.Giving.{places-length}
+use Rattle.search.proofs.FreeBeside.{unruled-follows}
 use Rattle.plans.proofs.ExtendsHold.{extends}
 use Rattle.plans.specs.Reach.{leftOf}
 use Rattle.plans.specs.FilterWords.{crowded}
@@ -97,13 +99,11 @@ searched-crowded s rows count r next put back size more =
 
 -- its counter is one of the few that a device has
 pub beside-few : {s : Setup} {ps : List Place} {r : Request} {k : ℕ} → Beside s ps r k → k < 8
-beside-few {s} (event n) = omega (arith, n .unused .0 .0, reach .few (s .device))
+beside-few {s} (event u n) = omega (arith, n .unused .0 .0, reach .few (s .device))
 
 -- and the number of the plan has room for it
 pub code-few : (s : Setup) (rows : List ℕ) (count code : ℕ) → code ≡ packed (firstPlan s (rowsFrom rows 0 count)) → count ≤ 7 → code < 8796093022208
-unfolding firstPlan capacity
-code-few s rows count code e h =
-    rw e (plan-code (counterCount (s .device)) (plan-length .device-at-most (s .device)) (rowsFrom rows 0 count) (emptyRoom s) (rw rows-length h))
+code-few s rows count code e h = rw e (first-code s (rowsFrom rows 0 count) (rw rows-length h))
 
 -- the number of the plan with the event's counter behind it
 extended : (s : Setup) (rs : List Request) (r : Request) (k : ℕ) → (packed (firstPlan s rs) ≡ 0 → ⊥) → Beside s (placesFrom (packed (firstPlan s rs)) 0 rs) r k
@@ -117,7 +117,8 @@ extended s rs r k exists b =
   where
     go : {q : Request} (ps : List Place) → firstPlan s rs ≡ some ps → length rs ≡ length ps → Beside s ps q k
         → packed (firstPlan s rs) + (63 + k * 8) * 2 ^ (6 * length rs) ≡ packed (firstPlan s (rs ++ (q ∷ [])))
-    go ps e long (event {c = c} {m = m} {a = a} n) = rw (extends .event s rs c m a ps k n e, e, long) (sym (extends .number ps k))
+    go ps e long (event {c = c} {m = m} {a = a} u n) =
+        rw (extends .event s rs c m a ps k (unruled-follows s rs (Event c m a) u) n e, e, long) (sym (extends .number ps k))
 
 pub searched-extended : (s : Setup) (rows : List ℕ) (count : ℕ) (r : Request) (next : List ℕ) → next ≡ setRequest rows count r → requestAt next count ≡ r → length rows ≡ 32
     → (code : ℕ) → code ≡ packed (firstPlan s (rowsFrom rows 0 count)) → (code ≡ 0 → ⊥) → (k : ℕ) → Beside s (placesFrom code 0 (rowsFrom rows 0 count)) r k

@@ -13,7 +13,7 @@ use Rattle.requests.specs.declared.Entry.{Entry}
 use Rattle.requests.specs.Devices.{capacity, counterCount}
 use Rattle.plans.specs.declared.Place.{Place}
 use Rattle.plans.specs.Legal.{HasPlan}
-use Rattle.plans.specs.Search.{firstPlan, planIn}
+use Rattle.plans.specs.Search.{firstPlan}
 use Rattle.plans.specs.Parts.{usableCount}
 use Rattle.search.specs.Rows.{rowsFrom}
 use Rattle.plans.specs.Packed.{codeOf, packed, placesFrom}
@@ -23,6 +23,7 @@ use Rattle.plans.proofs.ReachHolds.{reach}
 use Rattle.search.proofs.Unpacking.{some-packed, plan-unpacked}
 use Rattle.plans.proofs.PartsHold.{parts}
 use Rattle.plans.proofs.PlanLengthHolds.{plan-length}
+use Rattle.plans.proofs.FirstFound.{first-empty}
 use Rattle.sessions.specs.Turns.{requestsOf, taken, placesOf}
 use Rattle.sessions.specs.Sessions.{vacant}
 use Rattle.planner.specs.declared.Chosen.{Chosen}
@@ -39,11 +40,11 @@ abbrev pub unchosen : Chosen
 unchosen = record { code = 1; count = 0; rest = 0 }
 
 pub selected-none : (s : Setup) (queue : List Entry) (rows ts ps : List ℕ) → length ts ≡ 8 → length ps ≡ 16 → Selected s queue [] rows ts ps unchosen
-unfolding rowsFrom requestsOf firstPlan planIn packed codeOf entriesAt
+unfolding rowsFrom requestsOf packed codeOf entriesAt
 selected-none s queue rows ts ps eight sixteen =
     record {
       rows-taken = rw (taking s .taken-none);
-      plan-found = rw (taking s .taken-none);
+      plan-found = rw (taking s .taken-none, first-empty s);
       plan-some = λ e. omega (arith, e);
       taken-entries = rw (taking s .taken-none);
       taken-usable = omega arith;

@@ -10,9 +10,9 @@ use lib.Seq.{take-suc-set, drop-set-lt, drop-drop, getD-take, getD-drop, ext-get
 use Rattle.requests.specs.declared.Setup.{Setup}
 use Rattle.requests.specs.declared.Entry.{Entry}
 use Rattle.requests.specs.declared.Request.{Request}
-use Rattle.plans.specs.Search.{firstPlan, planIn}
 use Rattle.search.specs.Rows.{requestAt, rowsFrom}
 use Rattle.plans.specs.Packed.{codeOf, packed, placesFrom}
+use Rattle.plans.proofs.FirstFound.{first-empty}
 use Rattle.search.proofs.RequestRows.{rows-length}
 use Rattle.layouts.specs.declared.Settings.{Settings}
 use Rattle.layouts.specs.Layout.{tabulate}
@@ -37,13 +37,13 @@ idOf e = e .id
 -- ---- before the first entry
 
 pub parted-none : (s : Setup) (l : List Entry) (ids rows : List ℕ) → length ids ≡ 8 → length rows ≡ 32 → Parted s [] l ids rows unchosen
-unfolding rowsFrom requestsOf firstPlan planIn packed codeOf
+unfolding rowsFrom requestsOf packed codeOf
 parted-none s l ids rows eight many =
     record {
       passed-front = rw (taking s .passed-none);
       ids-taken = rw (taking s .taken-none);
       rows-taken = rw (taking s .taken-none);
-      plan-found = rw (taking s .taken-none);
+      plan-found = rw (taking s .taken-none, first-empty s);
       plan-some = λ e. omega (arith, e);
       taken-usable = omega arith;
       all = refl;
