@@ -10,5 +10,5 @@ mod Trying
 mod SecondCounters
 pub mod Giving
 mod LoopSteps
-mod RuledRows
+pub mod RuledRows
 pub mod FreeBeside

@@ -1,13 +1,13 @@
 -- Requests in rows, as the rules of events leave them: one row more. Assumes nothing.
-use mathlib.Core.Path.{_≡_, ap, sym, _∙_}
-use mathlib.Core.Bool.{Bool, true, false}
+use mathlib.Core.Path.{_≡_, refl, ap, sym, _∙_}
+use mathlib.Core.Bool.{Bool, true, false, not}
 use mathlib.Core.List.{List, [], _∷_, _++_, map, map-append}
 use Prim.Native.Nat.{ℕ, _+_, _-_, _<_}
 use native.Mathlib.Numerals.{add-one}
 use native.Mathlib.Omega.{arith}
 use lib.Dec.{eqb}
 use lib.ListN.{length}
-use borrow.Author.Tests.{ne-eqb}
+use borrow.Author.Tests.{ne-eqb, not-true, not-false}
 use Rattle.requests.specs.declared.Device.{Device}
 use Rattle.requests.specs.declared.Request.{Request}
 use Rattle.requests.specs.declared.Setup.{Setup}
@@ -19,6 +19,7 @@ use Rattle.plans.specs.Narrowed.{narrowed, anyLone, quietKept}
 use Rattle.plans.specs.Search.{emptyRoom, planIn, firstPlan}
 use Rattle.plans.specs.Packed.{packed}
 use Rattle.plans.proofs.Narrowing.{all-kept, unnarrowed}
+use Rattle.search.specs.Counters.{withCounters}
 use Rattle.search.specs.Rows.{requestAt, setRequest, rowsFrom}
 use Rattle.search.proofs.RequestRows.{rows-next, rows-last, rows-put}
 
@@ -60,17 +61,22 @@ narrowed-on d rows old new i r q at is put back same =
 
 -- ---- the search of what is left
 
+-- a plan asks of a setup its device and its usable counters
+pub plan-alike : (s : Setup) (rs : List Request) (x : ℕ) → x ≡ packed (firstPlan (withCounters (s .device) (s .usable)) rs) → x ≡ packed (firstPlan s rs)
+unfolding firstPlan quietKept
+plan-alike s rs x e = e
+
 module _ (s : Setup) (rs : List Request) where
   -- where the rules let nothing through, there is no plan
-  pub plan-unkept : quietKept s rs ≡ false → 0 ≡ packed (firstPlan s rs)
+  pub plan-unkept : (b : Bool) → b ≡ quietKept s rs → not b ≡ true → 0 ≡ packed (firstPlan s rs)
   unfolding firstPlan packed
-  plan-unkept e = rw (e, firstPlan)
+  plan-unkept b is off = rw (sym is ∙ not-true b off, firstPlan)
 
-  pub plan-kept : quietKept s rs ≡ true → (qs : List Request) → qs ≡ map (narrowed (s .device)) rs
+  pub plan-kept : (b : Bool) → b ≡ quietKept s rs → not b ≡ false → (qs : List Request) → qs ≡ map (narrowed (s .device)) rs
       → (x : ℕ) → x ≡ packed (planIn (counterCount (s .device)) qs (emptyRoom s)) → x ≡ packed (firstPlan s rs)
   unfolding firstPlan
-  plan-kept e qs is x found = found ∙ rw (e, firstPlan, is)
+  plan-kept b is on qs as-left x found = found ∙ rw (sym is ∙ not-false b on, firstPlan, as-left)
 
   -- where no event has a rule, they are searched as they are
   pub plan-unruled : Unruled (s .device) → (x : ℕ) → x ≡ packed (planIn (counterCount (s .device)) rs (emptyRoom s)) → x ≡ packed (firstPlan s rs)
-  plan-unruled free x found = plan-kept (all-kept s free rs) rs (sym (unnarrowed s free rs)) x found
+  plan-unruled free x found = plan-kept true (sym (all-kept s free rs)) refl rs (sym (unnarrowed s free rs)) x found

@@ -1,10 +1,17 @@
--- Counters taken from the free ones.
+-- Counters taken from the free ones, and what a plan asks of a setup: its device and its usable counters.
 use mathlib.Core.Bool.{Bool, true, false}
 use mathlib.Core.Path.{_≡_}
 use Prim.Native.Nat.{ℕ, _-_, _^_, _<_, _≤_}
 use Rattle.requests.specs.declared.CounterSet.{CounterSet}
 use Rattle.requests.specs.Choice.{both}
+use Rattle.requests.specs.Askings.{unasked}
 use Rattle.requests.specs.Devices.{has}
+use Rattle.requests.specs.declared.Device.{Device}
+use Rattle.requests.specs.declared.Setup.{Setup}
+
+-- a setup of the device with these usable counters
+abbrev pub withCounters : Device → CounterSet → Setup
+withCounters d usable = record { device = d; usable = usable; fixed = 0; overflow = unasked }
 
 -- whether counter k is allowed and free
 unfoldable pub available : CounterSet → CounterSet → ℕ → Bool

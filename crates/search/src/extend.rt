@@ -1,8 +1,9 @@
 // A plan extended by an event, without a search: the event takes the least counter that it allows and the plan leaves free.
-ghost use mathlib.Core.Bool.{true};
+ghost use mathlib.Core.Bool.{true, false};
 ghost use mathlib.Core.Path.{_≡_};
 ghost use mathlib.Core.List.{[], _∷_};
 ghost use Prim.Native.Nat.{_+_, _*_, _^_, _<_, _≤_};
+ghost use Rattle.requests.specs.EventRules.{hasRules};
 ghost use Rattle.plans.specs.Places.{countersOf};
 ghost use Rattle.plans.specs.Legal.{HasPlan};
 ghost use Rattle.search.specs.Rows.{rowsFrom};
@@ -15,7 +16,6 @@ use crate::packed::place_at;
 use crate::rows::ROW_NUMBERS;
 use crate::rows::request_at;
 use checks::devices::all_counters;
-use checks::rules::has_rules;
 use checks::set::has;
 use plans::Place;
 use requests::CounterSet;
@@ -68,7 +68,7 @@ fn free_beside(setup: Setup, code: u64, rows: &[u64; ROW_NUMBERS], count: usize)
     free
 }
 
-// The least counter of an event beside a packed plan; 64 or more where there is none, for any other request, and on a device whose events have rules.
+// The least counter of an event beside a packed plan, where events have no rules; 64 or more where there is none, and for any other request.
 pub fn counter_beside(
     setup: Setup,
     code: u64,
@@ -76,13 +76,9 @@ pub fn counter_beside(
     count: usize,
     request: Request,
 ) -> u64
-    requires { ⌜ count ≤ 8 ⌝ }
+    requires { ⌜ (count ≤ 8) × (hasRules (setup .device) ≡ false) ⌝ }
     ensures { λ r. ⌜ (r < 64 → Beside setup (placesFrom code 0 (rowsFrom (now (rows .entry)) 0 count)) request r) ⌝ }
 {
-    let device = setup.device;
-    if has_rules(device) {
-        return 64;
-    }
     match request {
         Request::Event {
             code: _,
@@ -113,14 +109,11 @@ pub fn any_usable(setup: Setup, allowed: CounterSet) -> bool
     next_in(available(allowed, own_counters(setup)), 0) < 64
 }
 
-// Whether a request that takes one counter has one, and so a plan alone. Nothing is said of the others, nor where events have rules.
+// Whether a request that takes one counter has one, and so a plan alone, where events have no rules. Nothing is said of the others.
 pub fn counter_alone(setup: Setup, request: Request) -> bool
+    requires { ⌜ hasRules (setup .device) ≡ false ⌝ }
     ensures { λ r. ⌜ (r ≡ true → HasPlan setup (request ∷ [])) ⌝ }
 {
-    let device = setup.device;
-    if has_rules(device) {
-        return false;
-    }
     match request {
         Request::Event {
             code: _,

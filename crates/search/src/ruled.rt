@@ -5,6 +5,7 @@ ghost use Prim.Native.Nat.{_≤_};
 ghost use lib.ListN.{length};
 ghost use Rattle.requests.specs.EventRules.{wantsQuiet};
 ghost use Rattle.plans.specs.Narrowed.{onlyCounter, allowedBy, narrowed, anyLone, quietKept};
+ghost use Rattle.search.specs.Counters.{withCounters};
 ghost use Rattle.search.specs.Rows.{rowsFrom};
 use crate::rows::ROW_NUMBERS;
 use crate::rows::put_request;
@@ -17,7 +18,6 @@ use requests::CounterSet;
 use requests::Device;
 use requests::EventRule;
 use requests::Request;
-use requests::Setup;
 
 // Counter k alone, where the set has it.
 fn only_counter(k: u64, set: CounterSet) -> CounterSet
@@ -106,14 +106,17 @@ fn any_lone(device: Device, rows: &[u64; ROW_NUMBERS], count: usize) -> bool
 }
 
 // Whether every other counter is quiet where a request wants it: it is the only request, and all counters are usable.
-pub fn quiet_kept(setup: Setup, rows: &[u64; ROW_NUMBERS], count: usize) -> bool
+pub fn quiet_kept(
+    device: Device,
+    usable: CounterSet,
+    rows: &[u64; ROW_NUMBERS],
+    count: usize,
+) -> bool
     requires { ⌜ count ≤ 8 ⌝ }
-    ensures { λ r. ⌜ r ≡ quietKept setup (rowsFrom (now (rows .entry)) 0 count) ⌝ }
+    ensures { λ r. ⌜ r ≡ quietKept (withCounters device usable) (rowsFrom (now (rows .entry)) 0 count) ⌝ }
 {
-    let device = setup.device;
     if any_lone(device, rows, count) {
         if count == 1 {
-            let usable = setup.usable;
             let all = all_counters(device);
             return usable.0 == all.0;
         }

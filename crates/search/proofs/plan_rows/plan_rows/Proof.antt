@@ -1,18 +1,18 @@
--- Where no event of the device has a rule, the requests are searched as they are (`plan-unruled`).
+-- On either kind of device by its function; a plan asks of a setup its device and its usable counters (`plan-alike`).
 use mathlib.Core.Path.{sym, _∙_}
 use borrow.Author.Needs.{needs}
-use Rattle.requests.proofs.RuledEvents.{ruled-events}
 use Rattle.search.specs.Rows.{rowsFrom}
-use Rattle.search.proofs.RuledRows.{plan-unruled}
+use Rattle.search.proofs.RuledRows.{plan-alike}
 use Rattle.search.proofs.plan_rows.plan_rows.Statement.{statement}
 use Rattle.search.proofs.plan_rows.plan_rows.Tie as tie
 
-returns-2 : tie.Need-returns-2
-returns-2 c =
-    let t = c .before in
-    let a = t .before .before .args in
-    let free = ruled-events .unruled (a .setup .device) .0 (sym (t .before .has-rules .ensures) ∙ t .if1 .left) in
-    plan-unruled (a .setup) (rowsFrom (a .rows .now) 0 (a .count)) free _ (c .plan-as-is .ensures)
+returns : tie.Need-returns
+returns c =
+    let a = c .before .before .before .before .args in
+    plan-alike (a .setup) (rowsFrom (a .rows .now) 0 (a .count)) _ (c .plan-ruled .ensures)
+
+plan-unruled-requires : tie.Need-plan-unruled-requires
+plan-unruled-requires c κs = (c .before .before .pre, sym (c .before .has-rules .ensures) ∙ c .if1 .left)
 
 pub plan-rows-spec : {M : Type 1} → statement M
-plan-rows-spec = tie.close (tie.spec (λ c κs. search needs) (λ c κs. search needs) (λ c. search needs) (λ c κs. search needs) returns-2)
+plan-rows-spec = tie.close (tie.spec (λ c κs. search needs) (λ c κs. search needs) returns plan-unruled-requires (λ c. search needs))

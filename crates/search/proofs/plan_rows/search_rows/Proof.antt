@@ -8,14 +8,15 @@ use Rattle.requests.specs.declared.Setup.{Setup}
 use Rattle.requests.specs.Devices.{counterCount}
 use Rattle.plans.specs.Search.{emptyRoom, planIn}
 use Rattle.search.specs.Rows.{setOf, rowsFrom}
+use Rattle.search.specs.Counters.{withCounters}
 use Rattle.search.specs.Filters.{roomOf}
 use Rattle.search.specs.Remaining.{planFrom}
 use Rattle.plans.specs.Packed.{packed}
 use Rattle.search.proofs.Unpacking.{counters-few}
 use Rattle.search.proofs.OwnCounters.{ownSet, own, masked, own-below, own-plan}
 use Rattle.search.proofs.Trying.{whole-plan}
-use Rattle.search.proofs.plan_rows.plan_as_is.Statement.{statement}
-use Rattle.search.proofs.plan_rows.plan_as_is.Tie as tie
+use Rattle.search.proofs.plan_rows.search_rows.Statement.{statement}
+use Rattle.search.proofs.plan_rows.search_rows.Tie as tie
 
 -- before the first request no register has a user
 searched : (s : Setup) (rows : List ℕ) (count free x : ℕ) → free ≡ ownSet (s .device) (s .usable) .0
@@ -25,24 +26,23 @@ searched s rows count free x e found = rw (found, e, whole-plan (own s) rows cou
 
 place-from-requires : tie.Need-place-from-requires
 place-from-requires c κs =
-    let s = c .before .before .before .before .before in
-    let u = s .args .setup in
-    let few = counters-few (u .device) in (
+    let s = c .before .before .before .before in
+    let few = counters-few (s .args .device) in (
       s .pre,
       omega arith,
       (omega arith, omega arith, omega arith),
       rw (c .counter-count .ensures) (record {
         some = few .0;
         few = few .1;
-        below = rw (masked (u .device) (u .usable) _ (c .before .before .before .all-counters .ensures)) (own-below (u .device) (u .usable));
+        below = rw (masked (s .args .device) (s .args .usable) _ (c .before .before .before .all-counters .ensures)) (own-below (s .args .device) (s .args .usable));
       }),
     )
 
 returns : tie.Need-returns
 returns c =
-    let a = c .before .before .before .before .before .before .args in
-    searched (a .setup) (a .rows .now) (a .count) _ _ (masked (a .setup .device) (a .setup .usable) _ (c .before .before .before .before .all-counters .ensures))
+    let a = c .before .before .before .before .before .args in
+    searched (withCounters (a .device) (a .usable)) (a .rows .now) (a .count) _ _ (masked (a .device) (a .usable) _ (c .before .before .before .before .all-counters .ensures))
     (rw (c .before .counter-count .ensures) at (c .place-from .ensures))
 
-pub plan-as-is-spec : {M : Type 1} → statement M
-plan-as-is-spec = tie.close (tie.spec (λ c κs. search needs) (λ c κs. search needs) place-from-requires returns)
+pub search-rows-spec : {M : Type 1} → statement M
+search-rows-spec = tie.close (tie.spec (λ c κs. search needs) (λ c κs. search needs) place-from-requires returns)
