@@ -3,6 +3,7 @@ use crate::Chosen;
 use crate::Extended;
 use crate::queue::bounded;
 use checks::devices::counter_count;
+use checks::rules::has_rules;
 use checks::set::size_of;
 use requests::CAPACITY;
 use requests::CounterSet;
@@ -11,7 +12,8 @@ use requests::Setup;
 use search::extend::counter_beside;
 use search::extend::with_counter;
 use search::filter_words::crowded_by_last;
-use search::plan_rows::plan_rows;
+use search::plan_rows::plan_ruled;
+use search::plan_rows::plan_unruled;
 use search::reach::left_at_first;
 use search::reach::left_by;
 use search::rows::ROW_NUMBERS;
@@ -55,7 +57,7 @@ fn none_left(usable: CounterSet, left: u64) -> bool
 
 // The plan of the requests taken with one more behind them. No plan has more requests than counters are usable, so that nothing is looked
 // for once as many are taken, nor where the requests leave no set of counters or ask for more filter words than the registers hold. An event
-// that has a counter beside the plan of those taken extends it; only for the others is a plan searched.
+// that has a counter beside the plan of those taken extends it; only for the others is a plan searched, and for all where events have rules.
 pub fn plan_with(
     setup: Setup,
     usable: usize,
@@ -80,6 +82,14 @@ pub fn plan_with(
     if none_left(own, left_then) {
         return Extended { code: 0, left };
     }
+    let device = setup.device;
+    if has_rules(device) {
+        put_request(rows, count, request);
+        return Extended {
+            code: plan_ruled(device, own, rows, count + 1),
+            left: left_then,
+        };
+    }
     let counter = counter_beside(setup, code, rows, count, request);
     put_request(rows, count, request);
     if counter < 64 {
@@ -92,7 +102,7 @@ pub fn plan_with(
         return Extended { code: 0, left };
     }
     Extended {
-        code: plan_rows(setup, rows, count + 1),
+        code: plan_unruled(setup, rows, count + 1),
         left: left_then,
     }
 }
