@@ -9,7 +9,7 @@ use mathlib.Core.List.{List, [], _∷_}
 use Prim.Native.Nat.{ℕ, zero, suc, _+_, _*_, _%_, _^_, _≤_, _<_}
 use native.Mathlib.Omega.{arith}
 use lib.ListN.{length, getD, List·getD-eq-default}
-use Rattle.requests.specs.Choice.{both, either, every}
+use Rattle.requests.specs.Choice.{both, either, every, pick}
 use Rattle.requests.specs.declared.Device.{Device}
 use Rattle.requests.specs.declared.Device.the-variants.{G, S, C}
 use Rattle.requests.specs.Bits.{bit, inList, onlyBits, rising, field}
@@ -19,7 +19,7 @@ use Rattle.requests.specs.Askings.{overflowOn}
 use Rattle.requests.specs.Devices.{capacity, counterCount, fixedCount}
 use Rattle.plans.specs.Lists.{All, nil, cons}
 use Rattle.plans.proofs.PlanLengthHolds.{plan-length}
-use Rattle.layouts.specs.Layout.{tabulate, globalBits, controlBits, enabledOn, offcoreCode, cboxGlobals, cboxGlobal, layoutOf, controlAt, counterAt, filtersAt, rsp0At, rsp1At, mmCfgAt, matchAt, maskAt, uboxAt}
+use Rattle.layouts.specs.Layout.{tabulate, globalBits, controlBits, enabledOn, offcoreCode, cboxGlobals, cboxGlobal, layoutOf, controlAt, counterAt, filtersAt, rsp0At, rsp1At, mmCfgAt, matchAt, maskAt, uboxAt, pebsAt, pebsOn}
 use Rattle.layouts.specs.WriteCount.{writeLimit}
 use Rattle.layouts.proofs.ListedEvents.{allBelow, belowMask, table}
 
@@ -50,6 +50,12 @@ pub record Apart (d : Device) : Type 0 where
   pub ubox-control : (k : ℕ) → k < capacity → uboxAt ≡ controlAt d k → ⊥
   pub ubox-counter : (k : ℕ) → k < capacity → uboxAt ≡ counterAt d k → ⊥
   pub ubox-filter : All (λ (a : ℕ). a ≡ uboxAt → ⊥) (filtersAt d)
+  -- nor that of IA32_PEBS_ENABLE
+  pub pebs-global : pebsAt ≡ layoutOf d .global → ⊥
+  pub pebs-control : (k : ℕ) → k < capacity → pebsAt ≡ controlAt d k → ⊥
+  pub pebs-counter : (k : ℕ) → k < capacity → pebsAt ≡ counterAt d k → ⊥
+  pub pebs-filter : All (λ (a : ℕ). a ≡ pebsAt → ⊥) (filtersAt d)
+  pub pebs-ubox : pebsAt ≡ uboxAt → ⊥
 
 pub record DeviceFacts (d : Device) : Type 0 where
   -- the bits that every event word has: some of 23 to 16, and none below
@@ -68,10 +74,10 @@ pub record DeviceFacts (d : Device) : Type 0 where
   pub fixed-enables : every (fixedCount d) (λ k. inList (globalBits d) (32 + k)) ≡ true
   -- listed codes and masks have 8 bits, and no listed code is that of a filter event
   pub events : table (filterCode d) (eventsOf d) ≡ true
-  -- the writes of all counters and of the filter registers are within the limit
+  -- the writes of all counters, of the filter registers and of IA32_PEBS_ENABLE are within the limit
   pub filter-small : filterRoom d ≤ 4
-  pub write-room : 2 + 3 * counterCount d + filterRoom d ≤ writeLimit d false
-  pub frame-room : overflowOn d ≡ true → 4 + 3 * counterCount d + filterRoom d ≤ writeLimit d true
+  pub write-room : 2 + 3 * counterCount d + filterRoom d + pick (pebsOn d) 1 0 ≤ writeLimit d false
+  pub frame-room : overflowOn d ≡ true → 4 + 3 * counterCount d + filterRoom d + pick (pebsOn d) 1 0 ≤ writeLimit d true
   -- addresses have 16 bits, and a step is at most 2
   pub control-small : layoutOf d .control ≤ 0xFFFF
   pub counter-small : layoutOf d .counter ≤ 0xFFFF
@@ -107,7 +113,7 @@ unfolding cboxGlobal cboxGlobals
 cbox-past b l = List·getD-eq-default cboxGlobals 0x0D00 l
 
 pub facts : (d : Device) → DeviceFacts d
-unfolding capacity counterCount fixedCount layoutOf controlAt counterAt filtersAt rsp0At rsp1At mmCfgAt matchAt maskAt uboxAt enabledOn overflowOn controlBits globalBits field tabulate inList bit onlyBits every both either belowMask table allBelow eventsOf cboxEvents sinkMasks ringMasks starvedMasks bypassMasks filterCode offcoreCode filterRoom writeLimit rising
+unfolding capacity counterCount fixedCount layoutOf controlAt counterAt filtersAt rsp0At rsp1At mmCfgAt matchAt maskAt uboxAt pebsAt enabledOn overflowOn controlBits globalBits field tabulate inList bit onlyBits every both either belowMask table allBelow eventsOf cboxEvents sinkMasks ringMasks starvedMasks bypassMasks filterCode offcoreCode filterRoom pebsOn writeLimit rising
 facts G =
     record {
       enabled-some = omega arith;
@@ -140,6 +146,11 @@ facts G =
         ubox-control = λ k l e. omega arith;
         ubox-counter = λ k l e. omega arith;
         ubox-filter = cons {a = rsp0At} (λ e. omega arith) (cons {a = rsp1At} (λ e. omega arith) nil);
+        pebs-global = λ e. omega arith;
+        pebs-control = λ k l e. omega arith;
+        pebs-counter = λ k l e. omega arith;
+        pebs-filter = cons {a = rsp0At} (λ e. omega arith) (cons {a = rsp1At} (λ e. omega arith) nil);
+        pebs-ubox = λ e. omega arith;
       };
     }
 facts S =
@@ -174,6 +185,11 @@ facts S =
         ubox-control = λ k l e. omega arith;
         ubox-counter = λ k l e. omega arith;
         ubox-filter = cons {a = mmCfgAt} (λ e. omega arith) (cons {a = matchAt} (λ e. omega arith) (cons {a = maskAt} (λ e. omega arith) nil));
+        pebs-global = λ e. omega arith;
+        pebs-control = λ k l e. omega arith;
+        pebs-counter = λ k l e. omega arith;
+        pebs-filter = cons {a = mmCfgAt} (λ e. omega arith) (cons {a = matchAt} (λ e. omega arith) (cons {a = maskAt} (λ e. omega arith) nil));
+        pebs-ubox = λ e. omega arith;
       };
     }
 facts (C b) =
@@ -208,6 +224,11 @@ facts (C b) =
         ubox-control = λ k l e. omega (arith, cbox-range b .0);
         ubox-counter = λ k l e. omega (arith, cbox-range b .0);
         ubox-filter = nil;
+        pebs-global = λ e. omega (arith, cbox-range b .0);
+        pebs-control = λ k l e. omega (arith, cbox-range b .0);
+        pebs-counter = λ k l e. omega (arith, cbox-range b .0);
+        pebs-filter = nil;
+        pebs-ubox = λ e. omega arith;
       };
     }
 

@@ -27,10 +27,10 @@ use Rattle.requests.proofs.Tests.{both-parts, every-at, either-cases}
 use Rattle.plans.specs.Lists.{All, cons}
 use Rattle.plans.specs.Legal.{Usable, Legal, wordsOf, packetsOf, ofAll, counters}
 use Rattle.plans.proofs.Sets.{all-imp}
-use Rattle.layouts.specs.Layout.{layoutOf, controlAt, filtersAt, matchAt, maskAt, uboxAt, mmEnable, rspWord, packetWord}
+use Rattle.layouts.specs.Layout.{layoutOf, controlAt, filtersAt, matchAt, maskAt, uboxAt, pebsAt, pebsOn, mmEnable, rspWord, packetWord}
 use Rattle.layouts.specs.Settings.{wordAt, setFrom, headOr, nonempty}
-use Rattle.layouts.specs.Writes.{rows, lastGlobal, writes, apply}
-use Rattle.layouts.specs.Read.{ours, noCounter, count, controlFits, rsp0Fits, rsp1Fits, latencyFits, filtersFit, uboxFits, accepts, filterWord, packetsFit}
+use Rattle.layouts.specs.Writes.{rows, lastGlobal, pebsEnable, writes, apply}
+use Rattle.layouts.specs.Read.{ours, noCounter, count, controlFits, rsp0Fits, rsp1Fits, latencyFits, filtersFit, uboxFits, pebsFits, accepts, filterWord, packetsFit}
 use Rattle.layouts.specs.ExactReader.{FiltersShow, LeavesValues}
 use Rattle.layouts.specs.declared.RegisterValues.{RegisterValues}
 use Rattle.layouts.proofs.ListLaws.{all-member}
@@ -41,7 +41,7 @@ use Rattle.layouts.proofs.Counts.{hits}
 use Rattle.layouts.proofs.UsableSets.{on, Within, usable-counter}
 use Rattle.layouts.proofs.ControlWords.{word-some, plan-words}
 use Rattle.layouts.proofs.FormedRequests.{form-all, passes-described}
-use Rattle.layouts.proofs.PlanWords.{usesIn, used-word, count-uses, control-left, global-left, ubox-left, ubox-stays}
+use Rattle.layouts.proofs.PlanWords.{usesIn, used-word, count-uses, control-left, global-left, pebs-left, ubox-left, ubox-stays}
 use Rattle.layouts.proofs.PlanFilters.{enabled-by, rsp-hits, packet-hits, rsp-some, packet-some}
 use Rattle.layouts.proofs.LeftValues.{rsp0-left, rsp1-left, mm-cfg-left, match-left, mask-left, kept, zero-fits}
 use Rattle.layouts.proofs.BuiltPlans.{Built}
@@ -53,9 +53,9 @@ use Rattle.layouts.proofs.FoundPlans.{Words, plain-G, plain-S, plain-ba
 every-counter : Device → CounterSet
 every-counter d = record { 0 = setFrom (counterCount d) 0 (λ k. true) }
 
--- registers that hold the value of the U-Box, and the match and mask words
+-- registers that hold the values of the U-Box and of IA32_PEBS_ENABLE, and the match and mask words
 around : RegisterValues → ℕ → ℕ
-around v a = pick (eqb uboxAt a) (v .ubox) (pick (eqb matchAt a) (v .filters .«match_word») (v .filters .«mask_word»))
+around v a = pick (eqb uboxAt a) (v .ubox) (pick (eqb pebsAt a) (v .pebs) (pick (eqb matchAt a) (v .filters .«match_word») (v .filters .«mask_word»)))
 
 -- and the control values
 before : Device → RegisterValues → ℕ → ℕ
@@ -85,12 +85,16 @@ before-ubox : (d : Device) (v : RegisterValues) → before d v uboxAt ≡ v .ubo
 unfolding around
 before-ubox d v = before-other d v uboxAt (λ k l e. apart d .ubox-control k l (sym e)) ∙ rw (eq-eqb uboxAt uboxAt refl)
 
+before-pebs : (d : Device) (v : RegisterValues) → before d v pebsAt ≡ v .pebs
+unfolding around uboxAt pebsAt
+before-pebs d v = before-other d v pebsAt (λ k l e. apart d .pebs-control k l (sym e))
+
 before-match : (v : RegisterValues) → before S v matchAt ≡ v .filters .«match_word»
-unfolding filtersAt around uboxAt matchAt
+unfolding filtersAt around uboxAt pebsAt matchAt
 before-match v = before-filter S v matchAt (List·Memᴰ·tail (List·Memᴰ·head refl))
 
 before-mask : (v : RegisterValues) → before S v maskAt ≡ v .filters .«mask_word»
-unfolding filtersAt around uboxAt matchAt maskAt
+unfolding filtersAt around uboxAt pebsAt matchAt maskAt
 before-mask v = before-filter S v maskAt (List·Memᴰ·tail (List·Memᴰ·tail (List·Memᴰ·head refl)))
 
 -- ---- a plan that is found leaves the values
@@ -99,6 +103,12 @@ before-mask v = before-filter S v maskAt (List·Memᴰ·tail (List·Memᴰ·tail
 head-is : (v : ℕ) (ws : List ℕ) → All (λ (w : ℕ). w ≡ v) ws → (length ws ≡ 0 → v ≡ 0) → headOr 0 ws ≡ v
 head-is v [] h e = sym (e refl)
 head-is v (w ∷ ws) (cons h hs) e = h
+
+-- the values that are neither control nor filter values pass the test
+record OthersFit (s : Setup) (v : RegisterValues) : Type 0 where
+  pub global : v .global ≡ lastGlobal s (setFrom (counterCount (s .device)) 0 (λ k. not (eqb (ours s v k) 0)))
+  pub ubox : uboxFits s (v .ubox) ≡ true
+  pub pebs : pebsFits (s .device) (ours s v) (v .pebs) ≡ true
 
 module _ (s : Setup) (v : RegisterValues) (a b : ℕ) (q : ℕ × ℕ) (built : Built s a b q (ours s v)) where
   abbrev us : List (ℕ × ℕ)
@@ -130,10 +140,9 @@ module _ (s : Setup) (v : RegisterValues) (a b : ℕ) (q : ℕ × ℕ) (built : 
   built-count : (w : ℕ) → (w ≡ 0 → ⊥) → count (counterCount (s .device)) (ours s v) w ≡ hits w us
   built-count w n = ap (λ (f : ℕ → ℕ). count (counterCount (s .device)) f w) (sym built-words) ∙ count-uses s (built .requests) (built .places) built-legal w n
 
-  built-leaves : FiltersShow (s .device) (v .filters) (apply (writes s (built .requests) (built .places)) (before (s .device) v))
-      → v .global ≡ lastGlobal s (setFrom (counterCount (s .device)) 0 (λ k. not (eqb (ours s v k) 0))) → uboxFits s (v .ubox) ≡ true → LeavesValues s v
-  unfolding ours uboxFits either
-  built-leaves shown e fits =
+  built-leaves : FiltersShow (s .device) (v .filters) (apply (writes s (built .requests) (built .places)) (before (s .device) v)) → OthersFit s v → LeavesValues s v
+  unfolding ours uboxFits pebsFits either
+  built-leaves shown fit =
       record {
         requests = built .requests;
         places = built .places;
@@ -144,33 +153,33 @@ module _ (s : Setup) (v : RegisterValues) (a b : ℕ) (q : ℕ × ℕ) (built : 
           control = λ k l. sym (control-left s (built .requests) (built .places) (before (s .device) v) k l
               ∙ rw (built-used k, built .words k, before-control (s .device) v k l) (looked-at k (has (s .usable) k)));
           filters = shown;
-          global = e
+          global = fit .global
               ∙ ap (lastGlobal s) (set-same (counterCount (s .device)) 0 (λ k. not (eqb (ours s v k) 0)) (inList (counters (built .places))) (λ k l. sym (built-used (0 + k))))
               ∙ sym (global-left s (built .requests) (built .places) (before (s .device) v));
           ubox = ubox-shown (asked s) refl;
+          pebs = sym (pebs-left s (built .requests) (built .places) (before (s .device) v) ∙ pebs-shown (pebsOn (s .device)) refl);
         };
       }
     where
       ubox-shown : (b : Bool) → asked s ≡ b → v .ubox ≡ apply (writes s (built .requests) (built .places)) (before (s .device) v) uboxAt
-      ubox-shown true h = eqb-true _ _ (rw h at fits) ∙ sym (ubox-left s (built .requests) (built .places) (before (s .device) v) h)
+      ubox-shown true h = eqb-true _ _ (rw h at (fit .ubox)) ∙ sym (ubox-left s (built .requests) (built .places) (before (s .device) v) h)
       ubox-shown false h = sym (ubox-stays s (built .requests) (built .places) (before (s .device) v) h ∙ before-ubox (s .device) v)
+
+      pebs-shown : (b : Bool) → pebsOn (s .device) ≡ b → pick b (pebsEnable (wordAt us)) (before (s .device) v pebsAt) ≡ v .pebs
+      pebs-shown true h = ap pebsEnable built-words ∙ sym (eqb-true _ _ (rw h at (fit .pebs)))
+      pebs-shown false h = before-pebs (s .device) v
 
       looked-at : (k : ℕ) (h : Bool) → pick (not (eqb (pick h (getD (v .control) k 0) 0) 0)) (pick h (getD (v .control) k 0) 0) (pick h 0 (getD (v .control) k 0)) ≡ getD (v .control) k 0
       looked-at k true = kept (getD (v .control) k 0)
       looked-at k false = refl
 
 module _ (u : Setup) (v : RegisterValues) where
-  -- the global value that the test asks for
-  abbrev Counted : Device → Type 0
-  Counted d = v .global ≡ lastGlobal (on d u) (setFrom (counterCount d) 0 (λ k. not (eqb (ours (on d u) v k) 0)))
-
   -- an RSP register without a counter is 0
   abbrev ZeroUnused : ℕ → ℕ → Type 0
   ZeroUnused i w = count (counterCount G) (ours (on G u) v) (rspWord (on G u) i) ≡ 0 → w ≡ 0
 
-  leaves-G : Built (on G u) (v .filters .rsp0) (v .filters .rsp1) (0, 0) (ours (on G u) v) → ZeroUnused 0 (v .filters .rsp0) → ZeroUnused 1 (v .filters .rsp1) → Counted G
-      → uboxFits (on G u) (v .ubox) ≡ true → LeavesValues (on G u) v
-  leaves-G built zero0 zero1 e fits =
+  leaves-G : Built (on G u) (v .filters .rsp0) (v .filters .rsp1) (0, 0) (ours (on G u) v) → ZeroUnused 0 (v .filters .rsp0) → ZeroUnused 1 (v .filters .rsp1) → OthersFit (on G u) v → LeavesValues (on G u) v
+  leaves-G built zero0 zero1 fit =
       let s = on G u in
       let w0 = v .filters .rsp0 in
       let w1 = v .filters .rsp1 in
@@ -179,7 +188,7 @@ module _ (u : Setup) (v : RegisterValues) where
       built-leaves s v w0 w1 (0, 0) built (
         sym (rsp0-left u (built .requests) (built .places) (before G v) ∙ head-is w0 (ofAll (wordsOf 0) (built .requests) (built .places)) (built .rsp0) (λ z. zero0 (on0 ∙ z))),
         sym (rsp1-left u (built .requests) (built .places) (before G v) ∙ head-is w1 (ofAll (wordsOf 1) (built .requests) (built .places)) (built .rsp1) (λ z. zero1 (on1 ∙ z))),
-      ) e fits
+      ) fit
 
   -- the words of the match/mask register, where a packet request asks for them or nobody does
   packet-words : (asked : List (ℕ × ℕ)) (x y : ℕ) → All (λ (p : ℕ × ℕ). p ≡ (x, y)) asked
@@ -188,8 +197,8 @@ module _ (u : Setup) (v : RegisterValues) where
   packet-words (p ∷ ps) x y (cons h hs) = (sym (ap (λ (r : ℕ × ℕ). r .0) h), sym (ap (λ (r : ℕ × ℕ). r .1) h))
 
   leaves-S : Built (on S u) 0 0 (v .filters .«match_word», v .filters .«mask_word») (ours (on S u) v)
-      → v .filters .«mm_cfg» ≡ pick (eqb (count (counterCount S) (ours (on S u) v) (packetWord (on S u))) 0) 0 (2 ^ mmEnable) → Counted S → uboxFits (on S u) (v .ubox) ≡ true → LeavesValues (on S u) v
-  leaves-S built m e fits =
+      → v .filters .«mm_cfg» ≡ pick (eqb (count (counterCount S) (ours (on S u) v) (packetWord (on S u))) 0) 0 (2 ^ mmEnable) → OthersFit (on S u) v → LeavesValues (on S u) v
+  leaves-S built m fit =
       let s = on S u in
       let x = v .filters .«match_word» in
       let y = v .filters .«mask_word» in
@@ -200,7 +209,7 @@ module _ (u : Setup) (v : RegisterValues) where
         m ∙ ap (λ (n : ℕ). pick (eqb n 0) 0 (2 ^ mmEnable)) packets ∙ sym (enabled-by asked) ∙ sym (mm-cfg-left u (built .requests) (built .places) (before S v)),
         sym (match-left u (built .requests) (built .places) (before S v) ∙ rw (before-match v) (sym (held .0))),
         sym (mask-left u (built .requests) (built .places) (before S v) ∙ rw (before-mask v) (sym (held .1))),
-      ) e fits
+      ) fit
 
 -- ---- from the test to a plan
 
@@ -224,9 +233,9 @@ ours-words s v within t = record { fits = λ k. fit k (has (s .usable) k) refl; 
     placed k false h = inl refl
 
 module _ (u : Setup) (v : RegisterValues) where
-  found-G : Within (on G u) → Words (on G u) (ours (on G u) v) → filtersFit (on G u) (ours (on G u) v) (v .filters) ≡ true → Counted u v G → uboxFits (on G u) (v .ubox) ≡ true → LeavesValues (on G u) v
+  found-G : Within (on G u) → Words (on G u) (ours (on G u) v) → filtersFit (on G u) (ours (on G u) v) (v .filters) ≡ true → OthersFit (on G u) v → LeavesValues (on G u) v
   unfolding filtersFit rsp0Fits rsp1Fits latencyFits
-  found-G within w t e fits =
+  found-G within w t fit =
       let s = on G u in
       let f = ours (on G u) v in
       let w0 = v .filters .rsp0 in
@@ -239,9 +248,9 @@ module _ (u : Setup) (v : RegisterValues) where
       let second : (n1 ≡ 0) ⊎ Described s (Offcore w1 noCounter) =
       ⊎-elim (λ z. inl z) (λ h. inr (passes-described s (Offcore w1 noCounter) h)) (pick-cases n1 (eqb w1 0) (formed s (Offcore w1 noCounter)) (parts .0)) in
       ⊎-elim
-      (λ z. leaves-G u v (plain-G u within w0 w1 (0, 0) f w (inl z) second) zero0 zero1 e fits)
+      (λ z. leaves-G u v (plain-G u within w0 w1 (0, 0) f w (inl z) second) zero0 zero1 fit)
       (λ h. ⊎-elim
-      (λ offcore. leaves-G u v (plain-G u within w0 w1 (0, 0) f w (inr (passes-described s (Offcore w0 noCounter) offcore)) second) zero0 zero1 e fits)
+      (λ offcore. leaves-G u v (plain-G u within w0 w1 (0, 0) f w (inr (passes-described s (Offcore w0 noCounter) offcore)) second) zero0 zero1 fit)
       (λ latency.
       let types = w0 % 2 ^ outstanding in
       let first-part = both-parts _ _ latency in
@@ -251,13 +260,13 @@ module _ (u : Setup) (v : RegisterValues) where
       let held0 : latencyWord 0 types ≡ w0 = sym (eqb-true w0 (latencyWord 0 types) (first-part .0)) in
       let held1 : latencyWord 1 types ≡ w1 = sym (eqb-true w1 (latencyWord 1 types) (second-part .0)) in
       leaves-G u v
-      (subst (λ (x : ℕ). Built s x w1 (0, 0) f) held0 (subst (λ (y : ℕ). Built s (latencyWord 0 types) y (0, 0) f) held1 built)) zero0 zero1 e fits)
+      (subst (λ (x : ℕ). Built s x w1 (0, 0) f) held0 (subst (λ (y : ℕ). Built s (latencyWord 0 types) y (0, 0) f) held1 built)) zero0 zero1 fit)
       (either-cases _ _ h))
       (pick-cases n0 (eqb w0 0) _ (parts .1))
 
-  found-S : Within (on S u) → Words (on S u) (ours (on S u) v) → filtersFit (on S u) (ours (on S u) v) (v .filters) ≡ true → Counted u v S → uboxFits (on S u) (v .ubox) ≡ true → LeavesValues (on S u) v
+  found-S : Within (on S u) → Words (on S u) (ours (on S u) v) → filtersFit (on S u) (ours (on S u) v) (v .filters) ≡ true → OthersFit (on S u) v → LeavesValues (on S u) v
   unfolding filtersFit packetsFit
-  found-S within w t e fits =
+  found-S within w t fit =
       let s = on S u in
       let n = count (counterCount S) (ours (on S u) v) (packetWord (on S u)) in
       let x = v .filters .«match_word» in
@@ -270,13 +279,13 @@ module _ (u : Setup) (v : RegisterValues) where
         | yes z ↦ rw (eq-eqb n 0 z) (eqb-true c 0 (pick-zero n (eqb c 0) _ t z))
         | no o ↦ rw (ne-eqb n 0 o) (eqb-true c (2 ^ mmEnable) (both-parts _ _ (rw (ne-eqb n 0 o) at t) .0))
       ] in
-      leaves-S u v (plain-S u within 0 0 (x, y) (ours (on S u) v) w filtered) set e fits
+      leaves-S u v (plain-S u within 0 0 (x, y) (ours (on S u) v) w filtered) set fit
 
-  found : (d : Device) → Within (on d u) → Words (on d u) (ours (on d u) v) → filtersFit (on d u) (ours (on d u) v) (v .filters) ≡ true → Counted u v d → uboxFits (on d u) (v .ubox) ≡ true → LeavesValues (on d u) v
+  found : (d : Device) → Within (on d u) → Words (on d u) (ours (on d u) v) → filtersFit (on d u) (ours (on d u) v) (v .filters) ≡ true → OthersFit (on d u) v → LeavesValues (on d u) v
   unfolding filterWord
-  found G within w t e fits = found-G within w t e fits
-  found S within w t e fits = found-S within w t e fits
-  found (C b) within w t e fits = built-leaves (on (C b) u) v 0 0 (0, 0) (plain-bare u (C b) (λ x. refl) within 0 0 (0, 0) (ours (on (C b) u) v) w) tt e fits
+  found G within w t fit = found-G within w t fit
+  found S within w t fit = found-S within w t fit
+  found (C b) within w t fit = built-leaves (on (C b) u) v 0 0 (0, 0) (plain-bare u (C b) (λ x. refl) within 0 0 (0, 0) (ours (on (C b) u) v) w) tt fit
 
 pub accepted-left : (s : Setup) (v : RegisterValues) → Within s → accepts s v ≡ true → LeavesValues s v
 unfolding accepts
@@ -284,5 +293,6 @@ accepted-left s v within h =
     let words = both-parts _ _ h in
     let rest = both-parts _ _ (words .1) in
     let registers = both-parts _ _ (rest .1) in
+    let last = both-parts _ _ (registers .1) in
     found s v (s .device) within (ours-words s v within (words .0)) (registers .0)
-    (eqb-true (v .global) (lastGlobal s (setFrom (counterCount (s .device)) 0 (λ k. not (eqb (ours s v k) 0)))) (rest .0)) (registers .1)
+    (record { global = eqb-true (v .global) (lastGlobal s (setFrom (counterCount (s .device)) 0 (λ k. not (eqb (ours s v k) 0)))) (rest .0); ubox = last .0; pebs = last .1 })

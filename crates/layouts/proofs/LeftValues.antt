@@ -24,10 +24,10 @@ use Rattle.plans.specs.declared.Place.{Place}
 use Rattle.plans.specs.Lists.{All, nil, OneValue}
 use Rattle.plans.specs.Legal.{Legal, wordsOf, packetsOf, ofAll, counters}
 use Rattle.plans.proofs.Sets.{all-imp}
-use Rattle.layouts.specs.Layout.{filtersAt, rsp0At, rsp1At, mmCfgAt, matchAt, maskAt, mmEnable, eventWord, rspWord, packetWord}
+use Rattle.layouts.specs.Layout.{filtersAt, rsp0At, rsp1At, mmCfgAt, matchAt, maskAt, pebsOn, mmEnable, eventWord, rspWord, packetWord}
 use Rattle.layouts.specs.Settings.{wordAt, setFrom, headOr, nonempty, settingsOf}
-use Rattle.layouts.specs.Writes.{lastGlobal, uboxValue, offcoreWrites, packetWrites, filterWrites, writes, apply}
-use Rattle.layouts.specs.Read.{ours, noCounter, filterWord, controlFits, uboxFits, accepts, tell, cell, readingOf}
+use Rattle.layouts.specs.Writes.{lastGlobal, uboxValue, offcoreWrites, packetWrites, filterWrites, pebsEnable, writes, apply}
+use Rattle.layouts.specs.Read.{ours, noCounter, filterWord, controlFits, uboxFits, pebsFits, accepts, tell, cell, readingOf}
 use Rattle.layouts.specs.Told.{notOurs, told, toldBy, toldOf, toldAt, toldPlan}
 use Rattle.layouts.specs.ExactReader.{FiltersShow, LeavesValues}
 use Rattle.layouts.specs.declared.FilterValues.{FilterValues}
@@ -41,7 +41,7 @@ use Rattle.layouts.proofs.UsableSets.{on, Within, usable-counter}
 use Rattle.layouts.proofs.ControlWords.{ControlWord, listed-event, rsp-event, packet-event, listed, word-parts, word-some, plan-words, word-at}
 use Rattle.layouts.proofs.AskedWords.{none-within}
 use Rattle.layouts.proofs.FormedRequests.{describe-all, described-passes}
-use Rattle.layouts.proofs.PlanWords.{usesIn, used-word, unused-word, control-left, global-left, filter-left, ubox-left}
+use Rattle.layouts.proofs.PlanWords.{usesIn, used-word, unused-word, control-left, global-left, filter-left, pebs-left, ubox-left}
 use Rattle.layouts.proofs.PlanFilters.{devices-differ, c-not-g, c-not-s, LeftFilters, filters-fit}
 use Rattle.layouts.proofs.PlanTold.{Holds, tell-plan}
 
@@ -209,6 +209,15 @@ module _ (s : Setup) (v : RegisterValues) (within : Within s) (plan : LeavesValu
       go true h = eq-eqb _ _ (plan .shown .ubox ∙ ubox-left s (plan .requests) (plan .places) (plan .before) h)
       go false h = refl
 
+  -- and IA32_PEBS_ENABLE its value where the device has it
+  pebs : pebsFits (s .device) (wordAt us) (v .pebs) ≡ true
+  unfolding pebsFits either
+  pebs = go (pebsOn (s .device)) refl
+    where
+      go : (b : Bool) → pebsOn (s .device) ≡ b → either (not b) (eqb (v .pebs) (pebsEnable (wordAt us))) ≡ true
+      go true h = eq-eqb _ _ (plan .shown .pebs ∙ pebs-left s (plan .requests) (plan .places) (plan .before) ∙ rw h)
+      go false h = refl
+
   pub left-accepted : accepts s v ≡ true
   unfolding accepts
   left-accepted =
@@ -216,7 +225,7 @@ module _ (s : Setup) (v : RegisterValues) (within : Within s) (plan : LeavesValu
       (true-both _ _ (every-true (counterCount d) (λ k. controlFits s (wordAt us k))
       (λ k l. word-at (λ w. controlFits s w ≡ true) us k (zero-fits s) (all-imp (λ u w. control-fits s (u .1) w) words)))
       (true-both _ _ (eq-eqb _ _ global)
-      (true-both _ _ (filters-fit d s (plan .requests) (plan .places) (v .filters) plan-described (plan .legal) (filters .0)) ubox)))
+      (true-both _ _ (filters-fit d s (plan .requests) (plan .places) (v .filters) plan-described (plan .legal) (filters .0)) (true-both _ _ ubox pebs))))
 
   pub left-told : toldBy (readingOf s v) ≡ toldPlan s (plan .requests) (plan .places)
   unfolding toldBy readingOf toldPlan told

@@ -27,9 +27,9 @@ use Rattle.plans.specs.declared.Place.{Place}
 use Rattle.plans.specs.Lists.{All, nil, cons, Each}
 use Rattle.plans.specs.Legal.{Allowed, Legal, wordsOf, packetsOf, ofAll}
 use Rattle.plans.proofs.Sets.{all-imp}
-use Rattle.layouts.specs.Layout.{tabulate, Register, registersOf, layoutOf, controlAt, counterAt, filtersAt, rsp0At, rsp1At, mmCfgAt, matchAt, maskAt, uboxAt, mmEnable, frzAll, enAll, coreSel, uboxBits, globalBits, controlBits}
+use Rattle.layouts.specs.Layout.{tabulate, Register, registersOf, layoutOf, controlAt, counterAt, filtersAt, rsp0At, rsp1At, mmCfgAt, matchAt, maskAt, uboxAt, pebsAt, pebsOn, pebsBits, mmEnable, frzAll, enAll, coreSel, preciseStore, isEvent, uboxBits, globalBits, controlBits}
 use Rattle.layouts.specs.Settings.{usesOf, wordAt, headOr, nonempty, settingsOf}
-use Rattle.layouts.specs.Writes.{Write, firstGlobal, lastGlobal, offcoreWrites, packetWrites, filterWrites, coreBit, uboxValue, writes}
+use Rattle.layouts.specs.Writes.{Write, firstGlobal, lastGlobal, offcoreWrites, packetWrites, filterWrites, pebsEnable, preciseWrites, coreBit, uboxValue, writes}
 use Rattle.layouts.specs.Read.{noCounter}
 use Rattle.layouts.specs.NoReservedBit.{Clean, AsksOutstanding, NoReservedBit}
 use Rattle.layouts.proofs.UsableSets.{on}
@@ -37,7 +37,7 @@ use Rattle.layouts.proofs.ListLaws.{all-member, all-head, tabulate-memb
 use Rattle.layouts.proofs.Tabulated.{getD-tabulate}
 use Rattle.layouts.proofs.WordBits.{bit-zero, zero-only}
 use Rattle.layouts.proofs.DeviceFacts.{in-room, apart}
-use Rattle.layouts.proofs.RegistersAfter.{box-all, writes-all}
+use Rattle.layouts.proofs.RegistersAfter.{precise-addresses, row-all, box-all, writes-all}
 use Rattle.layouts.proofs.GlobalValues.{first-permitted, last-permitted}
 use Rattle.layouts.proofs.ControlWords.{word-clean, plan-words, word-at}
 use Rattle.layouts.proofs.OffcoreWords.{offcore-clean, first-clean}
@@ -60,10 +60,10 @@ filter-among S =
 filter-among (C b) = nil
 
 -- what holds of each of them
-registers-all : (d : Device) (P : Register → Type 0) → P (layoutOf d .global, globalBits d) → All P (filterRegisters d) → P (uboxAt, uboxBits)
+registers-all : (d : Device) (P : Register → Type 0) → P (layoutOf d .global, globalBits d) → All P (filterRegisters d) → P (uboxAt, uboxBits) → P (pebsAt, pebsBits)
     → ((k : ℕ) → k < counterCount d → P (controlAt d k, controlBits d)) → (r : Register) → List·Memᴰ r (registersOf d) → P r
 unfolding registersOf filterRegisters
-registers-all d P global filters ubox controls r m = go d global filters controls m
+registers-all d P global filters ubox pebs controls r m = go d global filters controls m
   where
     control-among : (d : Device) → ((k : ℕ) → k < counterCount d → P (controlAt d k, controlBits d)) → List·Memᴰ r (tabulate (counterCount d) (λ k. (controlAt d k, controlBits d))) → P r
     control-among d controls m = let t = tabulate-member (counterCount d) (λ k. (controlAt d k, controlBits d)) r m in subst P (sym (t .2)) (controls (t .0) (t .1))
@@ -95,6 +95,7 @@ global-clean s v h =
     (λ e. h)
     (all-imp (λ r m e. absurd (all-member (apart d .filter-global) m (sym e))) (filter-among d))
     (λ e. absurd (apart d .ubox-global (sym e)))
+    (λ e. absurd (apart d .pebs-global (sym e)))
     (λ k l e. absurd (apart d .global-control k (in-room d k l) e))
 
 control-clean : (s : Setup) (k w : ℕ) → k < counterCount (s .device) → onlyBits (controlBits (s .device)) w ≡ true → Clean s (controlAt (s .device) k, w)
@@ -104,6 +105,7 @@ control-clean s k w l h =
     (λ e. absurd (apart d .global-control k (in-room d k l) (sym e)))
     (all-imp (λ r m e. absurd (all-member (apart d .filter-control k (in-room d k l)) m (sym e))) (filter-among d))
     (λ e. absurd (apart d .ubox-control k (in-room d k l) (sym e)))
+    (λ e. absurd (apart d .pebs-control k (in-room d k l) (sym e)))
     (λ j b e. h)
 
 -- a write of a filter register, seen by the filter registers alone
@@ -114,6 +116,7 @@ filter-clean s a w m h =
     (λ e. absurd (all-member (apart d .filter-global) m e))
     h
     (λ e. absurd (all-member (apart d .ubox-filter) m e))
+    (λ e. absurd (all-member (apart d .pebs-filter) m e))
     (λ k l e. absurd (all-member (apart d .filter-control k (in-room d k l)) m e))
 
 -- ---- the U-Box
@@ -125,6 +128,7 @@ ubox-write-clean s v h =
     (λ e. absurd (apart d .ubox-global e))
     (all-imp (λ r m e. absurd (all-member (apart d .ubox-filter) m (sym e))) (filter-among d))
     (λ e. h)
+    (λ e. absurd (apart d .pebs-ubox (sym e)))
     (λ k l e. absurd (apart d .ubox-control k (in-room d k l) e))
 
 -- en_all, with frz_all or without, and with the bit of a core or none
@@ -150,6 +154,30 @@ core-clean off (At c) = go (ltb c 8) refl
 ubox-clean : (s : Setup) → onlyBits uboxBits (uboxValue s) ≡ true
 unfolding uboxValue enAll frzAll
 ubox-clean s = core-clean (eqb (s .overflow .freeze) 0) (s .overflow .core)
+
+-- ---- IA32_PEBS_ENABLE
+
+pebs-write-clean : (s : Setup) (v : ℕ) → onlyBits pebsBits v ≡ true → Clean s (pebsAt, v)
+pebs-write-clean s v h =
+    let d = s .device in
+    registers-all d (λ r. pebsAt ≡ r .0 → onlyBits (r .1) v ≡ true)
+    (λ e. absurd (apart d .pebs-global e))
+    (all-imp (λ r m e. absurd (all-member (apart d .pebs-filter) m (sym e))) (filter-among d))
+    (λ e. absurd (apart d .pebs-ubox e))
+    (λ e. h)
+    (λ k l e. absurd (apart d .pebs-control k (in-room d k l) e))
+
+-- the four values
+precise-values : (a b : Bool) → onlyBits pebsBits (pick a (2 ^ 1) 0 + pick b (2 ^ 3 + 2 ^ 63) 0) ≡ true
+unfolding pebsBits field rising onlyBits both every either bit inList
+precise-values true true = refl
+precise-values true false = refl
+precise-values false true = refl
+precise-values false false = refl
+
+pebs-clean : (f : ℕ → ℕ) → onlyBits pebsBits (pebsEnable f) ≡ true
+unfolding pebsEnable preciseStore
+pebs-clean f = precise-values (isEvent 0xC0 0x01 (f 1)) (isEvent 0xCD 0x02 (f 3))
 
 -- ---- the filter writes of a plan
 
@@ -197,7 +225,7 @@ filters-clean (C b) u rs ps f h = nil
 
 module _ (s : Setup) (rs : List Request) (ps : List Place) (described : All (Described s) rs) (legal : Legal s rs ps) where
   clean : All (Clean s) (writes s rs ps)
-  unfolding writes settingsOf
+  unfolding writes settingsOf preciseWrites
   clean =
       let d = s .device in
       let us = ofAll (usesOf s) rs ps in
@@ -210,6 +238,7 @@ module _ (s : Setup) (rs : List Request) (ps : List Place) (described : All (Des
       (λ k l h. control-clean s k (getD (tabulate capacity (wordAt us)) k 0) l
       (rw (getD-tabulate capacity (wordAt us) k 0 (in-room d k l))
       (word-at (λ w. onlyBits (controlBits d) w ≡ true) us k (zero-only (controlBits d)) (all-imp (λ x w. word-clean s (x .1) w) (plan-words s described (legal .allowed))))))
+      (row-all (Clean s) (pebsOn d) pebsAt _ (λ h. pebs-write-clean s (pebsEnable (λ k. getD (settingsOf s rs ps .words) k 0)) (pebs-clean _)))
       (global-clean s (lastGlobal s (settingsOf s rs ps .used .0)) (last-permitted s rs ps legal)))
 
 -- a word of RSP0 with bit 38 is a latency request's
@@ -247,6 +276,7 @@ latency-only s rs ps w g described legal m held =
     (latency-writes d s rs ps g described (legal .allowed))
     (λ k l h e. absurd (all-member (apart d .filter-counter k (in-room d k l)) filter (sym e)))
     (λ k l h e. absurd (all-member (apart d .filter-control k (in-room d k l)) filter (sym e)))
+    (all-imp (λ x a e. absurd (all-member (apart d .pebs-filter) filter (sym e ∙ a))) (precise-addresses d (settingsOf s rs ps)))
     (λ e. absurd (all-member (apart d .filter-global) filter (sym e)))))
     m refl held
 

@@ -19,10 +19,10 @@ use Rattle.requests.specs.declared.Setup.{Setup}
 use Rattle.requests.specs.declared.Answer.the-variants.{Accepted}
 use Rattle.requests.specs.Devices.{has, counterCount, capacity, setupOf}
 use Rattle.requests.proofs.Tests.{both-parts}
-use Rattle.layouts.specs.Layout.{tabulate, mmEnable, packetWord}
+use Rattle.layouts.specs.Layout.{tabulate, pebsOn, mmEnable, packetWord}
 use Rattle.layouts.specs.Settings.{setFrom}
-use Rattle.layouts.specs.Writes.{lastGlobal, uboxValue}
-use Rattle.layouts.specs.Read.{ours, count, controlFits, packetsFit, filtersFit, uboxFits, accepts, filterOf, tell, cell, readingOf, readOf}
+use Rattle.layouts.specs.Writes.{lastGlobal, uboxValue, pebsEnable}
+use Rattle.layouts.specs.Read.{ours, count, controlFits, packetsFit, filtersFit, uboxFits, pebsFits, accepts, filterOf, tell, cell, readingOf, readOf}
 use Rattle.layouts.specs.NotLookedAt.{SameFilters, SameLookedAt, NotLookedAt}
 use Rattle.layouts.specs.declared.CounterState.the-variants.{NotOurs}
 use Rattle.layouts.specs.declared.FilterValues.{FilterValues}
@@ -77,10 +77,10 @@ tell-same S u f v w k a h l = go (h .1)
 tell-same (C b) u f v w k a h l = refl
 
 -- the test, given the control values that are looked at
-abbrev test : Setup → (ℕ → ℕ) → ℕ → Bool → Bool → Bool
-test s f g filters ubox =
+abbrev test : Setup → (ℕ → ℕ) → ℕ → Bool → Bool → Bool → Bool
+test s f g filters ubox pebs =
     let n = counterCount (s .device) in
-    both (every n (λ k. controlFits s (f k))) (both (eqb g (lastGlobal s (setFrom n 0 (λ k. not (eqb (f k) 0))))) (both filters ubox))
+    both (every n (λ k. controlFits s (f k))) (both (eqb g (lastGlobal s (setFrom n 0 (λ k. not (eqb (f k) 0))))) (both filters (both ubox pebs)))
 
 -- the reading, given the control values that are looked at
 abbrev answer : Setup → (ℕ → ℕ) → FilterValues → Reading
@@ -103,12 +103,22 @@ module _ (o : Opening) (s : Setup) (v w : RegisterValues) (opened : setupOf o �
       go true h = rw (same .ubox h)
       go false h = refl
 
+  pebs-same : pebsFits (s .device) (ours s w) (v .pebs) ≡ pebsFits (s .device) (ours s w) (w .pebs)
+  unfolding pebsFits either
+  pebs-same = go (pebsOn (s .device)) refl
+    where
+      go : (b : Bool) → pebsOn (s .device) ≡ b → either (not b) (eqb (v .pebs) (pebsEnable (ours s w))) ≡ either (not b) (eqb (w .pebs) (pebsEnable (ours s w)))
+      go true h = rw (same .pebs h)
+      go false h = refl
+
   accepts-same : accepts s v ≡ accepts s w
   unfolding accepts
   accepts-same =
-      ap (λ (f : ℕ → ℕ). test s f (v .global) (filtersFit s f (v .filters)) (uboxFits s (v .ubox))) ours-same
-      ∙ ap (λ (g : ℕ). test s (ours s w) g (filtersFit s (ours s w) (v .filters)) (uboxFits s (v .ubox))) (same .global)
-      ∙ ap₂ (λ (b c : Bool). test s (ours s w) (w .global) b c) (filters-fit (s .device) s (ours s w) (v .filters) (w .filters) (same .filters)) ubox-same
+      let d = s .device in
+      ap (λ (f : ℕ → ℕ). test s f (v .global) (filtersFit s f (v .filters)) (uboxFits s (v .ubox)) (pebsFits d f (v .pebs))) ours-same
+      ∙ ap (λ (g : ℕ). test s (ours s w) g (filtersFit s (ours s w) (v .filters)) (uboxFits s (v .ubox)) (pebsFits d (ours s w) (v .pebs))) (same .global)
+      ∙ ap₂ (λ (b c : Bool). test s (ours s w) (w .global) b c (pebsFits d (ours s w) (v .pebs))) (filters-fit d s (ours s w) (v .filters) (w .filters) (same .filters)) ubox-same
+      ∙ ap (λ (b : Bool). test s (ours s w) (w .global) (filtersFit s (ours s w) (w .filters)) (uboxFits s (w .ubox)) b) pebs-same
 
   reading-same : accepts s v ≡ true → readingOf s v ≡ readingOf s w
   unfolding accepts readingOf

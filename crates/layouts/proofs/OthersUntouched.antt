@@ -13,18 +13,18 @@ use Rattle.requests.proofs.Tests.{either-left}
 use Rattle.plans.specs.declared.Place.{Place}
 use Rattle.plans.specs.Legal.{Legal}
 use Rattle.plans.proofs.Sets.{all-imp}
-use Rattle.layouts.specs.Layout.{layoutOf}
+use Rattle.layouts.specs.Layout.{layoutOf, pebsAt, pebsOn}
 use Rattle.layouts.specs.Settings.{settingsOf}
-use Rattle.layouts.specs.Writes.{firstGlobal, lastGlobal, writes, apply}
-use Rattle.layouts.specs.OthersUntouched.{Ours, global, filter, control, counter, ubox, OthersUntouched}
+use Rattle.layouts.specs.Writes.{firstGlobal, lastGlobal, preciseWrites, writes, apply}
+use Rattle.layouts.specs.OthersUntouched.{Ours, global, filter, control, counter, ubox, pebs, OthersUntouched}
 use Rattle.layouts.proofs.ListLaws.{all-member}
 use Rattle.layouts.proofs.DeviceFacts.{in-room, apart}
-use Rattle.layouts.proofs.RegistersAfter.{apply-after, after-other, filter-addresses, box-all, writes-all}
+use Rattle.layouts.proofs.RegistersAfter.{apply-after, after-other, filter-addresses, precise-addresses, row-all, box-all, writes-all}
 use Rattle.layouts.proofs.GlobalValues.{used-usable, first-bit, first-fixed, last-bit, last-fixed}
 
 kept : (s : Setup) (rs : List Request) (ps : List Place) → Legal s rs ps
     → (registers : ℕ → ℕ) (a : ℕ) → ¬ Ours s a → apply (writes s rs ps) registers a ≡ registers a
-unfolding writes
+unfolding writes preciseWrites
 kept s rs ps legal registers a others =
     apply-after (writes s rs ps) registers a
     ∙ after-other a (registers a)
@@ -36,6 +36,7 @@ kept s rs ps legal registers a others =
     (all-imp (λ w m. filter m) (filter-addresses (s .device) (settingsOf s rs ps)))
     (λ k l h. counter (used-usable s rs ps legal k l h))
     (λ k l h. control (used-usable s rs ps legal k l h))
+    (row-all (λ w. Ours s (w .0)) (pebsOn (s .device)) pebsAt _ (λ h. pebs h))
     global)))
 
 -- what holds of both values of the global register holds of each that the list writes to it
@@ -53,6 +54,7 @@ global-all s rs ps P first last v m =
     (all-imp (λ w a e. absurd (all-member (apart d .filter-global) a e)) (filter-addresses d (settingsOf s rs ps)))
     (λ j b g e. absurd (apart d .global-counter j (in-room d j b) (sym e)))
     (λ j b g e. absurd (apart d .global-control j (in-room d j b) (sym e)))
+    (all-imp (λ w a e. absurd (apart d .pebs-global (sym a ∙ e))) (precise-addresses d (settingsOf s rs ps)))
     (λ e. last)))
     m refl
 

@@ -3,12 +3,13 @@
 --     used-word       a counter is used exactly where its word is not 0
 --     unused-word     a counter that is not usable has the word 0
 --     count-uses      the counters have each word as often as the uses ask for it
---     control-left, global-left, filter-left, ubox-left   the registers after the writes of the plan
+--     control-left, global-left, filter-left, pebs-left, ubox-left   the registers after the writes of the plan
 use mathlib.Core.Path.{_≡_, refl, sym, ap, ap₂, subst, _∙_}
 use mathlib.Core.Logic.{_≢_}
 use mathlib.Core.Bool.{Bool, true, false, not, true≢false}
 use mathlib.Core.List.{List, _++_, map, flatMap, List·Memᴰ, map-append}
 use Prim.Native.Nat.{ℕ, _+_, _<_}
+use native.Mathlib.Omega.{arith}
 use borrow.Author.Tests.{ne-eqb}
 use lib.Dec.{eqb}
 use Rattle.requests.specs.Choice.{either, pick}
@@ -22,13 +23,13 @@ use Rattle.plans.specs.Lists.{All, nil, cons, Pairwise, Each, none, and}
 use Rattle.plans.specs.Places.{countedOf, countersOf, first, second}
 use Rattle.plans.specs.Legal.{Allowed, event, packet, offcore, latency, Legal, ofAll, counters}
 use Rattle.plans.proofs.Sets.{all-imp}
-use Rattle.layouts.specs.Layout.{layoutOf, controlAt, filtersAt, uboxAt}
+use Rattle.layouts.specs.Layout.{layoutOf, controlAt, filtersAt, uboxAt, pebsAt, pebsOn}
 use Rattle.layouts.specs.Settings.{usesOf, wordAt, setFrom, settingsOf}
-use Rattle.layouts.specs.Writes.{lastGlobal, filterWrites, uboxValue, writes, apply}
+use Rattle.layouts.specs.Writes.{lastGlobal, filterWrites, uboxValue, pebsEnable, writes, apply}
 use Rattle.layouts.specs.Read.{count}
 use Rattle.layouts.proofs.Tabulated.{getD-tabulate}
 use Rattle.layouts.proofs.DeviceFacts.{in-room}
-use Rattle.layouts.proofs.RegistersAfter.{after, apply-after, control-after, global-after, filter-after, ubox-after, ubox-kept}
+use Rattle.layouts.proofs.RegistersAfter.{after, apply-after, control-after, global-after, filter-after, precise-after, ubox-after, ubox-kept}
 use Rattle.layouts.proofs.Counts.{counterOf, absent, hits, count-hits}
 use Rattle.layouts.proofs.GlobalValues.{used-has}
 
@@ -95,6 +96,14 @@ module _ (s : Setup) (rs : List Request) (ps : List Place) (registers : ℕ → 
   pub filter-left : (a : ℕ) → List·Memᴰ a (filtersAt (s .device)) → apply (writes s rs ps) registers a ≡ after (filterWrites (s .device) (settingsOf s rs ps)) a (registers a)
   unfolding writes
   filter-left a m = apply-after (writes s rs ps) registers a ∙ filter-after s (settingsOf s rs ps) a (registers a) m
+
+  pub pebs-left : apply (writes s rs ps) registers pebsAt ≡ pick (pebsOn (s .device)) (pebsEnable (wordAt (usesIn s rs ps))) (registers pebsAt)
+  unfolding writes settingsOf pebsEnable capacity
+  pebs-left =
+      let us = usesIn s rs ps in
+      apply-after (writes s rs ps) registers pebsAt
+      ∙ precise-after s (settingsOf s rs ps) (registers pebsAt)
+      ∙ rw (getD-tabulate 8 (wordAt us) 1 0 (omega arith), getD-tabulate 8 (wordAt us) 3 0 (omega arith))
 
   pub ubox-left : asked s ≡ true → apply (writes s rs ps) registers uboxAt ≡ uboxValue s
   unfolding writes

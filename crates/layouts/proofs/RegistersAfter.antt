@@ -1,6 +1,6 @@
 -- What a register holds after the write list of settings, from any registers: by `after`, the value at one address.
 --     apply-after, after-append, after-other   the value at an address, write by write
---     control-after, global-after, filter-after   the registers of a device after `writesFor`
+--     control-after, global-after, filter-after, precise-after   the registers of a device after `writesFor`
 --     box-all, writes-all                       what holds of every write of `boxWrites` and of `writesFor`
 --     inside-after, ubox-after                  the frame of the U-Box: other registers, and its own
 use mathlib.Core.Path.{_≡_, refl, sym, ap, ap₂, _∙_}
@@ -22,8 +22,8 @@ use Rattle.requests.specs.Askings.{asked}
 use Rattle.requests.specs.Devices.{has, counterCount, capacity}
 use Rattle.plans.specs.Lists.{All, nil, cons}
 use Rattle.plans.proofs.Sets.{all-append, all-imp}
-use Rattle.layouts.specs.Layout.{layoutOf, controlAt, counterAt, filtersAt, uboxAt}
-use Rattle.layouts.specs.Writes.{Write, row, rows, zeros, firstGlobal, lastGlobal, offcoreWrites, packetWrites, filterWrites, uboxValue, boxWrites, writesFor, store, apply}
+use Rattle.layouts.specs.Layout.{layoutOf, controlAt, counterAt, filtersAt, uboxAt, pebsAt, pebsOn}
+use Rattle.layouts.specs.Writes.{Write, row, rows, zeros, firstGlobal, lastGlobal, offcoreWrites, packetWrites, filterWrites, pebsEnable, preciseWrites, uboxValue, boxWrites, writesFor, store, apply}
 use Rattle.layouts.specs.declared.Settings.{Settings}
 use Rattle.layouts.proofs.ListLaws.{all-member, zero-at}
 use Rattle.layouts.proofs.DeviceFacts.{in-room, apart}
@@ -48,6 +48,10 @@ pub after-other : {ws : List Write} (a x : ℕ) → All (λ (w : Write). w .0 �
 unfolding after
 after-other a x nil = refl
 after-other a x (cons {a = w} h hs) = rw (ne-eqb (w .0) a h) (after-other a x hs)
+
+after-none : (a x : ℕ) → after [] a x ≡ x
+unfolding after
+after-none a x = refl
 
 -- the last write to an address
 after-last : (a v x : ℕ) → after ((a, v) ∷ []) a x ≡ v
@@ -124,6 +128,11 @@ filter-addresses S t = go (t .packets)
     go false = cons (List·Memᴰ·head refl) nil
 filter-addresses (C b) t = nil
 
+-- every write of IA32_PEBS_ENABLE is to it
+pub precise-addresses : (d : Device) (t : Settings) → All (λ (w : Write). w .0 ≡ pebsAt) (preciseWrites d t)
+unfolding preciseWrites
+precise-addresses d t = row-all (λ w. w .0 ≡ pebsAt) (pebsOn d) pebsAt (pebsEnable (λ k. getD (t .words) k 0)) (λ h. refl)
+
 module _ (s : Setup) (t : Settings) where
   abbrev d : Device
   d = s .device
@@ -138,12 +147,14 @@ module _ (s : Setup) (t : Settings) where
       → All P (filterWrites d t)
       → ((k : ℕ) → k < n → has (t .used) k ≡ true → P (counterAt d k, 0))
       → ((k : ℕ) → k < n → has (t .used) k ≡ true → P (controlAt d k, getD (t .words) k 0))
+      → All P (preciseWrites d t)
       → P (layoutOf d .global, lastGlobal s (t .used .0))
       → All P (boxWrites s t)
   unfolding boxWrites controlAt counterAt zeros
-  box-all P first off filters counts words last =
+  box-all P first off filters counts words precise last =
       let l = layoutOf d in
       all-append
+      (all-append
       (all-append
       (all-append
       (all-append
@@ -152,6 +163,7 @@ module _ (s : Setup) (t : Settings) where
       filters)
       (rows-all P (t .used) (l .counter) (l .step) zeros n (λ k b h. rw (zero-at capacity k) (counts k b h))))
       (rows-all P (t .used) (l .control) (l .step) (t .words) n words))
+      precise)
       (cons last nil)
 
   -- what holds of those, and of the writes of the U-Box where something is asked, holds of every write of the list
@@ -171,6 +183,10 @@ module _ (s : Setup) (t : Settings) where
   filters-apart : (a : ℕ) → All (λ (b : ℕ). b ≡ a → ⊥) (filtersAt d) → All (λ (w : Write). w .0 ≡ a → ⊥) (filterWrites d t)
   filters-apart a h = all-imp (λ w m. all-member h m) (filter-addresses d t)
 
+  -- nor is IA32_PEBS_ENABLE
+  precise-apart : (a x : ℕ) → (pebsAt ≡ a → ⊥) → after (preciseWrites d t) a x ≡ x
+  precise-apart a x other = after-other a x (all-imp (λ w e q. other (sym e ∙ q)) (precise-addresses d t))
+
   control-inside : (k x : ℕ) → k < n → after (boxWrites s t) (controlAt d k) x ≡ pick (has (t .used) k) (getD (t .words) k 0) (pick (has (s .usable) k) 0 x)
   unfolding boxWrites controlAt counterAt zeros
   control-inside k x l =
@@ -183,7 +199,8 @@ module _ (s : Setup) (t : Settings) where
       let counts = after-other a (pick (has (s .usable) k) 0 x)
       (rows-all (λ w. w .0 ≡ a → ⊥) (t .used) (lay .counter) (lay .step) zeros n (λ j b h e. apart-d .counter-control j k (in-room d j b) (in-room d k l) e)) in
       let words = rows-at (t .used) (lay .control) (lay .step) (t .words) (apart-d .control-control) n k (pick (has (s .usable) k) 0 x) l in
-      simp (after-append, globals, off, zero-at capacity k, filters, counts, words)
+      let precise : (y : ℕ) → after (preciseWrites d t) a y ≡ y = λ y. precise-apart a y (apart-d .pebs-control k (in-room d k l)) in
+      simp (after-append, globals, off, zero-at capacity k, filters, counts, words, precise)
 
   pub control-after : (k x : ℕ) → k < n → after (writesFor s t) (controlAt d k) x ≡ pick (has (t .used) k) (getD (t .words) k 0) (pick (has (s .usable) k) 0 x)
   control-after k x l = inside-after (controlAt d k) x (apart d .ubox-control k (in-room d k l)) ∙ control-inside k x l
@@ -206,11 +223,35 @@ module _ (s : Setup) (t : Settings) where
       λ u vs y. after-other a y (rows-all (λ w. w .0 ≡ a → ⊥) u (lay .control) (lay .step) vs n (λ k b h e. all-member (apart-d .filter-control k (in-room d k b)) m (sym e))) in
       let counts : (u : CounterSet) (vs : List ℕ) (y : ℕ) → after (rows n u (lay .counter) (lay .step) vs) a y ≡ y =
       λ u vs y. after-other a y (rows-all (λ w. w .0 ≡ a → ⊥) u (lay .counter) (lay .step) vs n (λ k b h e. all-member (apart-d .filter-counter k (in-room d k b)) m (sym e))) in
-      simp (after-append, globals, controls, counts)
+      let precise : (y : ℕ) → after (preciseWrites d t) a y ≡ y = λ y. precise-apart a y (λ e. all-member (apart-d .pebs-filter) m (sym e)) in
+      simp (after-append, globals, controls, counts, precise)
 
   pub filter-after : (a x : ℕ) → List·Memᴰ a (filtersAt d) → after (writesFor s t) a x ≡ after (filterWrites d t) a x
   filter-after a x m =
       inside-after a x (λ e. all-member (apart d .ubox-filter) m (sym e)) ∙ filter-inside a x m
+
+  -- and so has IA32_PEBS_ENABLE
+  precise-inside : (x : ℕ) → after (boxWrites s t) pebsAt x ≡ after (preciseWrites d t) pebsAt x
+  unfolding boxWrites controlAt counterAt
+  precise-inside x =
+      let a = pebsAt in
+      let lay = layoutOf d in
+      let apart-d = apart d in
+      let globals : (v : ℕ) (y : ℕ) → after ((lay .global, v) ∷ []) a y ≡ y = λ v y. after-other a y (cons (λ e. apart-d .pebs-global (sym e)) nil) in
+      let controls : (u : CounterSet) (vs : List ℕ) (y : ℕ) → after (rows n u (lay .control) (lay .step) vs) a y ≡ y =
+      λ u vs y. after-other a y (rows-all (λ w. w .0 ≡ a → ⊥) u (lay .control) (lay .step) vs n (λ k b h e. apart-d .pebs-control k (in-room d k b) (sym e))) in
+      let counts : (u : CounterSet) (vs : List ℕ) (y : ℕ) → after (rows n u (lay .counter) (lay .step) vs) a y ≡ y =
+      λ u vs y. after-other a y (rows-all (λ w. w .0 ≡ a → ⊥) u (lay .counter) (lay .step) vs n (λ k b h e. apart-d .pebs-counter k (in-room d k b) (sym e))) in
+      let filters : (y : ℕ) → after (filterWrites d t) a y ≡ y = λ y. after-other a y (filters-apart a (apart-d .pebs-filter)) in
+      simp (after-append, globals, controls, counts, filters)
+
+  pub precise-after : (x : ℕ) → after (writesFor s t) pebsAt x ≡ pick (pebsOn d) (pebsEnable (λ k. getD (t .words) k 0)) x
+  unfolding preciseWrites
+  precise-after x = inside-after pebsAt x (λ e. apart d .pebs-ubox (sym e)) ∙ precise-inside x ∙ go (pebsOn d)
+    where
+      go : (b : Bool) → after (row b pebsAt (pebsEnable (λ k. getD (t .words) k 0))) pebsAt x ≡ pick b (pebsEnable (λ k. getD (t .words) k 0)) x
+      go true = after-last pebsAt (pebsEnable (λ k. getD (t .words) k 0)) x
+      go false = after-none pebsAt x
 
   -- no write of the device's own registers is to the U-Box
   pub box-other : All (λ (w : Write). w .0 ≡ uboxAt → ⊥) (boxWrites s t)
@@ -222,6 +263,7 @@ module _ (s : Setup) (t : Settings) where
       (all-imp (λ w m. all-member (u .ubox-filter) m) (filter-addresses d t))
       (λ k l g e. u .ubox-counter k (in-room d k l) (sym e))
       (λ k l g e. u .ubox-control k (in-room d k l) (sym e))
+      (all-imp (λ w e q. u .pebs-ubox (sym e ∙ q)) (precise-addresses d t))
       (λ e. u .ubox-global (sym e))
 
   -- where nothing is asked the list is that of the device's own registers

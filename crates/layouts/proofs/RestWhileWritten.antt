@@ -20,17 +20,17 @@ use Rattle.plans.specs.declared.Place.{Place}
 use Rattle.plans.specs.Lists.{All, nil, cons}
 use Rattle.plans.specs.Legal.{Usable, Legal, packetsOf, counters}
 use Rattle.plans.proofs.Sets.{all-append, all-imp}
-use Rattle.layouts.specs.Layout.{layoutOf, controlAt, counterAt, filtersAt, rsp0At, rsp1At, mmCfgAt, matchAt, maskAt, uboxAt, mmEnable}
+use Rattle.layouts.specs.Layout.{layoutOf, controlAt, counterAt, filtersAt, rsp0At, rsp1At, mmCfgAt, matchAt, maskAt, uboxAt, pebsAt, mmEnable}
 use Rattle.layouts.specs.Settings.{headOr, nonempty, settingsOf}
-use Rattle.layouts.specs.Writes.{Write, rows, zeros, firstGlobal, lastGlobal, offcoreWrites, packetWrites, filterWrites, uboxValue, boxWrites, writesFor, writes}
+use Rattle.layouts.specs.Writes.{Write, rows, zeros, firstGlobal, lastGlobal, offcoreWrites, packetWrites, filterWrites, preciseWrites, uboxValue, boxWrites, writesFor, writes}
 use Rattle.layouts.specs.RestWhileWritten.{LastWritten, EnablesNone, Disabled, Cleared, Quiet, Matching, AtRest, StoppedFirst, EnabledLast, Framed, RestWhileWritten}
 use Rattle.layouts.specs.declared.Settings.{Settings}
 use Rattle.layouts.proofs.ListLaws.{all-member, all-left, zero-at}
 use Rattle.layouts.proofs.UsableSets.{on}
 use Rattle.layouts.proofs.DeviceFacts.{in-room, apart}
-use Rattle.layouts.proofs.RegistersAfter.{rows-all, filter-addresses, box-other, unasked-writes}
+use Rattle.layouts.proofs.RegistersAfter.{rows-all, filter-addresses, precise-addresses, box-other, unasked-writes}
 use Rattle.layouts.proofs.WriteByWrite.{Along, last-here, last-other, last-member, member-other, along-then, along-at, rows-along}
-use Rattle.layouts.proofs.WritesAtRest.{global-rests, control-rests, count-rests, filter-rests}
+use Rattle.layouts.proofs.WritesAtRest.{global-rests, control-rests, count-rests, filter-rests, precise-rests}
 use Rattle.layouts.proofs.GlobalValues.{used-has, used-usable, first-bit, last-bit}
 use Rattle.layouts.proofs.PlanFilters.{devices-differ}
 
@@ -222,6 +222,22 @@ module _ (s : Setup) (rs : List Request) (ps : List Place) (legal : Legal s rs p
       (λ k off c i. (i .0, i .1, λ j p u. i .2 j (omega arith) u, i .3))
       b ready
 
+  -- IA32_PEBS_ENABLE is written while no usable counter is enabled
+  precise-rest : {ws : List Write} → All (λ (w : Write). w .0 ≡ pebsAt) ws → (b : List Write) → SelectedTo n b → Along (AtRest s rs) b ws × SelectedTo n (b ++ ws)
+  precise-rest nil b ready = (tt, rw (append-nil b) ready)
+  precise-rest (cons {a = w} {rest = ws} e es) b ready =
+      let d = s .device in
+      along-then (AtRest s rs) (SelectedTo n) (SelectedTo n) b (w ∷ []) ws (
+        (subst (λ (a : ℕ). AtRest s rs b (a, w .1)) (sym e) (precise-rests s rs b (ready .0) (w .1)), tt),
+        (
+          disabled-other s w (λ q. apart d .pebs-global (sym e ∙ q)) (ready .0),
+          λ j u. member-other w (ready .1 j u),
+          λ j p u. last-other w (λ q. apart d .pebs-control j (in-room d j (u .0)) (sym e ∙ q)) (ready .2 j p u),
+          λ j p g. last-other w (λ q. apart d .pebs-counter j (in-room d j p) (sym e ∙ q)) (ready .3 j p g),
+        ),
+      )
+      (precise-rest es)
+
   list-rests : Along (AtRest s rs) [] (boxWrites s t)
   unfolding boxWrites
   list-rests =
@@ -230,6 +246,7 @@ module _ (s : Setup) (rs : List Request) (ps : List Place) (legal : Legal s rs p
       let P = AtRest s rs in
       let first : List Write = (g, firstGlobal s) ∷ [] in
       let filters = filterWrites d t in
+      let precise = preciseWrites d t in
       let v = lastGlobal s (t .used .0) in
       let one : Along P [] first × Disabled s first = (
         (global-rests s rs [] (firstGlobal s) (λ k u h. absurd (true≢false (sym h ∙ first-none s k u))), tt),
@@ -239,7 +256,8 @@ module _ (s : Setup) (rs : List Request) (ps : List Place) (legal : Legal s rs p
       let three = along-then P (AllQuiet s) (AllQuiet s) [] (first ++ clear) filters two (filters-rest d s rs ps) in
       let four = along-then P (AllQuiet s) (SelectedTo 0) [] (first ++ clear ++ filters) counts three counts-rest in
       let five = along-then P (SelectedTo 0) (SelectedTo n) [] (first ++ clear ++ filters ++ counts) words four words-rest in
-      along-then P (SelectedTo n) (λ b. Unit {0}) [] (first ++ clear ++ filters ++ counts ++ words) ((g, v) ∷ []) five
+      let six = along-then P (SelectedTo n) (SelectedTo n) [] (first ++ clear ++ filters ++ counts ++ words) precise five (precise-rest (precise-addresses d t)) in
+      along-then P (SelectedTo n) (λ b. Unit {0}) [] (first ++ clear ++ filters ++ counts ++ words ++ precise) ((g, v) ∷ []) six
       (λ b ready. ((global-rests s rs b v (λ k u h. ready .3 k (u .0) (enabled-used s rs ps legal k u h)), tt), tt))
       .0
 
@@ -262,11 +280,13 @@ enabled-last s t =
           all-append
           (all-append
           (all-append
+          (all-append
           (all-append (cons (λ e. first-none s) nil)
           (rows-all P (s .usable) (l .control) (l .step) zeros n (λ k b h e. absurd (apart d .global-control k (in-room d k b) (sym e)))))
           (all-imp (λ w m e. absurd (all-member (apart d .filter-global) m e)) (filter-addresses d t)))
           (rows-all P (t .used) (l .counter) (l .step) zeros n (λ k b h e. absurd (apart d .global-counter k (in-room d k b) (sym e)))))
-          (rows-all P (t .used) (l .control) (l .step) (t .words) n (λ k b h e. absurd (apart d .global-control k (in-room d k b) (sym e))));
+          (rows-all P (t .used) (l .control) (l .step) (t .words) n (λ k b h e. absurd (apart d .global-control k (in-room d k b) (sym e)))))
+          (all-imp (λ w a e. absurd (apart d .pebs-global (sym a ∙ e))) (precise-addresses d t));
     }
 
 -- ---- the frame of the U-Box

@@ -37,6 +37,7 @@ values-show d r =
       filters = filters-show d r;
       global = refl;
       ubox = refl;
+      pebs = refl;
     }
 
 answer-accepted : (s : Setup) → (v : _) → readingOf s v .answer ≡ Accepted

@@ -32,9 +32,9 @@ use Rattle.plans.specs.Lists.{All, nil, cons}
 use Rattle.plans.specs.Places.{second}
 use Rattle.plans.specs.Legal.{Legal, Usable, ofAll, counters}
 use Rattle.plans.proofs.Sets.{all-append, all-imp}
-use Rattle.layouts.specs.Layout.{tabulate, layoutOf, controlAt, uboxAt, frzAll, enAll, coreSel, pmiEnable, enabled, eventWord, offcoreCode, rspMask, rspWord, packetWord}
+use Rattle.layouts.specs.Layout.{tabulate, layoutOf, controlAt, uboxAt, pebsOn, frzAll, enAll, coreSel, pmiEnable, enabled, eventWord, offcoreCode, rspMask, rspWord, packetWord}
 use Rattle.layouts.specs.Settings.{usesOf, wordAt, settingsOf}
-use Rattle.layouts.specs.Writes.{Write, rows, zeros, fixedEnables, unusable, firstGlobal, lastGlobal, filterWrites, coreBit, uboxValue, boxWrites, writesFor, writes}
+use Rattle.layouts.specs.Writes.{Write, rows, zeros, fixedEnables, unusable, firstGlobal, lastGlobal, filterWrites, preciseWrites, coreBit, uboxValue, boxWrites, writesFor, writes}
 use Rattle.layouts.specs.Read.{readOf}
 use Rattle.layouts.specs.UBox.{askingNothing, withPmi, coreField, lastValue, UBox}
 use Rattle.layouts.specs.declared.RegisterValues.{RegisterValues}
@@ -42,8 +42,8 @@ use Rattle.layouts.proofs.ListLaws.{all-member, tabulate-member, map-sa
 use Rattle.layouts.proofs.Tabulated.{getD-tabulate}
 use Rattle.layouts.proofs.WordBits.{bit-high}
 use Rattle.layouts.proofs.DeviceFacts.{in-room, apart}
-use Rattle.layouts.proofs.EnableBits.{enables}
-use Rattle.layouts.proofs.RegistersAfter.{rows-map, filter-addresses, box-other, unasked-writes}
+use Rattle.layouts.proofs.EnableBits.{enables, asked-served}
+use Rattle.layouts.proofs.RegistersAfter.{rows-map, filter-addresses, precise-addresses, box-other, unasked-writes}
 use Rattle.layouts.proofs.GlobalValues.{used-has}
 use Rattle.layouts.proofs.Counts.{counterOf}
 use Rattle.layouts.proofs.FormedRequests.{describe-all}
@@ -196,6 +196,13 @@ module _ (s : Setup) (rs : List Request) (ps : List Place) (legal : Legal s rs p
   filters-same S = refl
   filters-same (C b) = refl
 
+  -- and IA32_PEBS_ENABLE, which no device has that may be asked
+  precise-same : (d : Device) → overflowOn d ≡ true → preciseWrites d (settingsOf s rs ps) ≡ preciseWrites d (settingsOf (askingNothing s) rs ps)
+  unfolding preciseWrites overflowOn pebsOn
+  precise-same G on = refl
+  precise-same S on = refl
+  precise-same (C b) on = refl
+
   box-more : map (withPmi s) (boxWrites (askingNothing s) (settingsOf (askingNothing s) rs ps)) ≡ boxWrites s (settingsOf s rs ps)
   unfolding boxWrites settingsOf askingNothing firstGlobal lastGlobal fixedEnables unusable zeros controlAt
   box-more =
@@ -217,7 +224,10 @@ module _ (s : Setup) (rs : List Request) (ps : List Place) (legal : Legal s rs p
       let three = map-joined f (first ++ cleared) (filterWrites d t) two filters in
       let four = map-joined f (first ++ cleared ++ filterWrites d t) counted three (zeroed (t .used) (l .counter)) in
       let five = map-joined f (first ++ cleared ++ filterWrites d t ++ counted) (rows n (t .used) (l .control) (l .step) (t .words)) four selects in
-      map-joined f (first ++ cleared ++ filterWrites d t ++ counted ++ rows n (t .used) (l .control) (l .step) (t .words)) ((l .global, lastGlobal s (t .used .0)) ∷ []) five (global (lastGlobal s (t .used .0)))
+      let precise : map f (preciseWrites d t) ≡ preciseWrites d (settingsOf s rs ps) =
+      map-same f (all-imp (λ w a. other-same s w (λ k b e. apart d .pebs-control k b (sym a ∙ e))) (precise-addresses d t)) ∙ sym (precise-same d (asked-served s h)) in
+      let six = map-joined f (first ++ cleared ++ filterWrites d t ++ counted ++ rows n (t .used) (l .control) (l .step) (t .words)) (preciseWrites d t) five precise in
+      map-joined f (first ++ cleared ++ filterWrites d t ++ counted ++ rows n (t .used) (l .control) (l .step) (t .words) ++ preciseWrites d t) ((l .global, lastGlobal s (t .used .0)) ∷ []) six (global (lastGlobal s (t .used .0)))
 
   list-more : writes s rs ps ≡ (0x0C00, 0) ∷ map (withPmi s) (writes (askingNothing s) rs ps) ++ (0x0C00, uboxValue s) ∷ []
   unfolding writes writesFor uboxAt

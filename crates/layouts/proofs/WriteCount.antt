@@ -34,9 +34,9 @@ use Rattle.plans.specs.declared.Place.the-variants.{Counter}
 use Rattle.plans.specs.Lists.{All, nil, cons, Pairwise, empty, add, OneValue, Each, none, and}
 use Rattle.plans.specs.Places.{countedOf, countersOf}
 use Rattle.plans.specs.Legal.{Usable, Allowed, Legal, event, packet, wordsOf, packetsOf, ofAll, counters}
-use Rattle.layouts.specs.Layout.{tabulate, layoutOf, uboxAt}
+use Rattle.layouts.specs.Layout.{tabulate, layoutOf, uboxAt, pebsAt, pebsOn}
 use Rattle.layouts.specs.Settings.{usesOf, setFrom, settingsOf}
-use Rattle.layouts.specs.Writes.{row, rows, offcoreWrites, packetWrites, filterWrites, zeros, uboxValue, boxWrites, writesFor, writes}
+use Rattle.layouts.specs.Writes.{row, rows, offcoreWrites, packetWrites, filterWrites, preciseWrites, zeros, uboxValue, boxWrites, writesFor, writes}
 use Rattle.layouts.specs.WriteCount.{writeLimit, Reached, WriteCount}
 use Rattle.layouts.specs.declared.Settings.{Settings}
 use Rattle.layouts.proofs.CounterSets.{bit-set, set-left}
@@ -65,7 +65,15 @@ filter-length S t = go (t .packets)
     go false = omega arith
 filter-length (C b) t = le-refl 0
 
-box-at-most : (s : Setup) (t : Settings) → length (boxWrites s t) ≤ 2 + 3 * counterCount (s .device) + filterRoom (s .device)
+precise-length : (d : Device) (t : Settings) → length (preciseWrites d t) ≡ pick (pebsOn d) 1 0
+unfolding preciseWrites
+precise-length d t = go (pebsOn d) _
+  where
+    go : (b : Bool) (v : ℕ) → length (row b pebsAt v) ≡ pick b 1 0
+    go true v = refl
+    go false v = refl
+
+box-at-most : (s : Setup) (t : Settings) → length (boxWrites s t) ≤ 2 + 3 * counterCount (s .device) + filterRoom (s .device) + pick (pebsOn (s .device)) 1 0
 unfolding boxWrites
 box-at-most s t =
     let d = s .device in
@@ -78,6 +86,7 @@ box-at-most s t =
       filter-length d t,
       rows-length n (t .used) (l .counter) (l .step) zeros,
       rows-length n (t .used) (l .control) (l .step) (t .words),
+      precise-length d t,
     ))
 
 -- two more where something is asked
@@ -205,7 +214,7 @@ setup-taken d a served box =
     go false served = inl (refl, refl)
 
 length-is : (d : Device) (a : Bool) → (a ≡ true → overflowOn d ≡ true) → length (writes (setup d a) (requests d) (places d)) ≡ writeLimit d a
-unfolding writeLimit setup requests places placesFrom all allCounters counterCount has bit ofAll usesOf wordsOf flatMap packetsOf counters countersOf countedOf settingsOf setFrom inList either both tabulate capacity layoutOf rows filterWrites offcoreWrites packetWrites asked asks unasked coreGiven overflowOn boxWrites writesFor writes
+unfolding writeLimit setup requests places placesFrom all allCounters counterCount has bit ofAll usesOf wordsOf flatMap packetsOf counters countersOf countedOf settingsOf setFrom inList either both tabulate capacity layoutOf rows filterWrites offcoreWrites packetWrites pebsOn preciseWrites asked asks unasked coreGiven overflowOn boxWrites writesFor writes
 length-is G true served = absurd (false≢true (served refl))
 length-is G false served = refl
 length-is S true served = refl

@@ -1,5 +1,5 @@
 -- When a write to each kind of register is made at rest (`AtRest`). Assumes nothing.
---     global-rests, control-rests, count-rests, filter-rests   by what the writes before it have left
+--     global-rests, control-rests, count-rests, filter-rests, precise-rests   by what the writes before it have left
 use mathlib.Core.Path.{_≡_, refl, sym, subst}
 use mathlib.Core.Logic.{_≢_, ⊎-elim}
 use mathlib.Core.Bool.{true}
@@ -12,7 +12,7 @@ use Rattle.requests.specs.declared.Request.{Request}
 use Rattle.requests.specs.Bits.{bit}
 use Rattle.requests.specs.Devices.{counterCount}
 use Rattle.plans.specs.Legal.{Usable}
-use Rattle.layouts.specs.Layout.{layoutOf, controlAt, counterAt, filtersAt, mmCfgAt, matchAt, maskAt}
+use Rattle.layouts.specs.Layout.{layoutOf, controlAt, counterAt, filtersAt, mmCfgAt, matchAt, maskAt, pebsAt}
 use Rattle.layouts.specs.Writes.{Write}
 use Rattle.layouts.specs.RestWhileWritten.{LastWritten, Disabled, Cleared, Quiet, Prepares, filter, count, Selects, Matching, AtRest}
 use Rattle.layouts.proofs.ListLaws.{all-member}
@@ -81,6 +81,26 @@ module _ (s : Setup) (rs : List Request) (b : List Write) where
         not-prepares : Prepares s (controlAt d k, v) → ⊥
         not-prepares (filter m) = all-member (apart d .filter-control k (in-room d k l)) m refl
         not-prepares (count j u e) = apart d .counter-control j k (in-room d j (u .0)) (in-room d k l) (sym e)
+
+    -- IA32_PEBS_ENABLE is neither a filter register nor a select nor a count
+    pub precise-rests : (v : ℕ) → AtRest s rs b (pebsAt, v)
+    precise-rests v =
+        let no-filter : List·Memᴰ pebsAt (filtersAt d) → ⊥ = λ m. all-member (apart d .pebs-filter) m refl in
+        let not-selects : (k : ℕ) → Selects s k (pebsAt, v) → ⊥ = λ k e. apart d .pebs-control k (in-room d k (e .0 .0)) (e .1) in
+        record {
+          disabled = λ other. disabled;
+          cleared = λ w. absurd (⊎-elim (λ p. not-prepares p) (λ e. not-selects (e .0) (e .1)) w);
+          prepared = λ p. absurd (not-prepares p);
+          event-alone = λ k e. absurd (not-selects k e);
+          event-zeroed = λ k e. absurd (not-selects k e);
+          start-zeroed = λ e. absurd (apart d .pebs-global e);
+          match-off = λ g m. absurd (no-filter (match-filter d pebsAt g m));
+          match-set = λ g e. absurd (no-filter (mm-cfg-among pebsAt g e));
+        }
+      where
+        not-prepares : Prepares s (pebsAt, v) → ⊥
+        not-prepares (filter m) = all-member (apart d .pebs-filter) m refl
+        not-prepares (count k u e) = apart d .pebs-counter k (in-room d k (u .0)) e
 
     module _ (quiet : Quiet s b) where
       pub count-rests : (k v : ℕ) → k < counterCount d → AtRest s rs b (counterAt d k, v)

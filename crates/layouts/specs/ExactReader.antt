@@ -15,7 +15,7 @@ use Rattle.requests.specs.Checks.{Formed}
 use Rattle.plans.specs.declared.Place.{Place}
 use Rattle.plans.specs.Lists.{All}
 use Rattle.plans.specs.Legal.{Legal}
-use Rattle.layouts.specs.Layout.{layoutOf, controlAt, rsp0At, rsp1At, mmCfgAt, matchAt, maskAt, uboxAt}
+use Rattle.layouts.specs.Layout.{layoutOf, controlAt, rsp0At, rsp1At, mmCfgAt, matchAt, maskAt, uboxAt, pebsAt}
 use Rattle.layouts.specs.Writes.{writes, apply}
 use Rattle.layouts.specs.Read.{readOf}
 use Rattle.layouts.specs.Told.{toldBy, notOurs, toldPlan}
@@ -35,6 +35,7 @@ pub record Shows (d : Device) (v : RegisterValues) (r : ℕ → ℕ) : Type 0 wh
   pub filters : FiltersShow d (v .filters) r
   pub global : v .global ≡ r (layoutOf d .global)
   pub ubox : v .ubox ≡ r uboxAt
+  pub pebs : v .pebs ≡ r pebsAt
 
 -- a legal plan of well-formed requests whose writes leave the values, from some registers
 pub record LeavesValues (s : Setup) (v : RegisterValues) : Type 0 where

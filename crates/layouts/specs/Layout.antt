@@ -3,10 +3,11 @@
 -- C: document 004, section 2.3, where our extract has GLOBAL_CTL and EVT_SEL0 of box 0; the rest is the kernel driver's.
 -- U-Box, which S and C share: document 004, section 2.1, and for the places of en_all and pmi_core_sel the kernel driver.
 use mathlib.Core.List.{List, [], _∷_, _++_}
+use mathlib.Core.Bool.{Bool, true, false}
 use Prim.Native.Nat.{ℕ, zero, suc, _+_, _*_, _-_, _/_, _%_, _^_}
 use lib.Dec.{eqb}
 use lib.ListN.{getD}
-use Rattle.requests.specs.Choice.{pick}
+use Rattle.requests.specs.Choice.{both, pick}
 use Rattle.requests.specs.declared.Device.{Device}
 use Rattle.requests.specs.declared.Device.the-variants.{G, S, C}
 use Rattle.requests.specs.declared.Setup.{Setup}
@@ -78,6 +79,16 @@ maskAt = 0x0E4A
 unfoldable pub uboxAt : ℕ
 uboxAt = 0x0C00
 
+-- IA32_PEBS_ENABLE (order 12)
+unfoldable pub pebsAt : ℕ
+pebsAt = 0x03F1
+
+-- whether the device has it
+unfoldable pub pebsOn : Device → Bool
+pebsOn G = false
+pebsOn S = false
+pebsOn (C b) = false
+
 -- the filter registers of the device
 unfoldable pub filtersAt : Device → List ℕ
 filtersAt G = rsp0At ∷ rsp1At ∷ []
@@ -119,6 +130,14 @@ coreSel = 1
 unfoldable pub uboxBits : List ℕ
 uboxBits = field 31 31 ++ field 28 28 ++ field 8 1
 
+-- IA32_PEBS_ENABLE: the facility of precise stores (003, 18.9.4.3); the bit of a counter is its number
+unfoldable pub preciseStore : ℕ
+preciseStore = 63
+
+-- what a session may write of it: the bits of counters 1 and 3, and 63
+unfoldable pub pebsBits : List ℕ
+pebsBits = field 1 1 ++ field 3 3 ++ field 63 63
+
 -- ---- control words
 
 -- the bits that every event word of a device has. G: USR 16, OS 17, EN 22. S: enable 22. C: en 22
@@ -147,6 +166,10 @@ codeOf w = w % 0x100
 -- the unit mask in a control word
 unfoldable pub maskOf : ℕ → ℕ
 maskOf w = w / 0x100 % 0x100
+
+-- whether the control word has the event
+unfoldable pub isEvent : ℕ → ℕ → ℕ → Bool
+isEvent c m w = both (eqb (codeOf w) c) (eqb (maskOf w) m)
 
 -- the event of the RSP registers
 unfoldable pub offcoreCode : ℕ

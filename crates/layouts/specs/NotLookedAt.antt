@@ -13,6 +13,7 @@ use Rattle.requests.specs.declared.Setup.{Setup}
 use Rattle.requests.specs.Askings.{asked}
 use Rattle.requests.specs.Devices.{setupOf}
 use Rattle.plans.specs.Legal.{Usable}
+use Rattle.layouts.specs.Layout.{pebsOn}
 use Rattle.layouts.specs.Read.{readOf}
 use Rattle.layouts.specs.declared.FilterValues.{FilterValues}
 use Rattle.layouts.specs.declared.RegisterValues.{RegisterValues}
@@ -29,6 +30,7 @@ pub record SameLookedAt (s : Setup) (v w : RegisterValues) : Type 0 where
   pub filters : SameFilters (s .device) (v .filters) (w .filters)
   pub global : v .global ≡ w .global
   pub ubox : asked s ≡ true → v .ubox ≡ w .ubox
+  pub pebs : pebsOn (s .device) ≡ true → v .pebs ≡ w .pebs
 
 -- the answer depends on nothing else
 abbrev pub NotLookedAt : Type 0

@@ -13,7 +13,7 @@ use Rattle.requests.specs.Askings.{asked}
 use Rattle.requests.specs.Devices.{has, counterCount, fixedCount}
 use Rattle.plans.specs.declared.Place.{Place}
 use Rattle.plans.specs.Legal.{Legal, Usable}
-use Rattle.layouts.specs.Layout.{layoutOf, controlAt, counterAt, filtersAt, uboxAt}
+use Rattle.layouts.specs.Layout.{layoutOf, controlAt, counterAt, filtersAt, uboxAt, pebsAt, pebsOn}
 use Rattle.layouts.specs.Writes.{writes, apply}
 
 -- the registers that the session may write
@@ -24,6 +24,8 @@ pub data Ours (s : Setup) : ℕ → Type 0 where
   counter : {k : ℕ} → Usable s k → Ours s (counterAt (s .device) k)
   -- "only there the U-Box's enable stays with the host": where nothing is asked
   ubox : asked s ≡ true → Ours s uboxAt
+  -- order 12: "That register belongs wholly to the session"
+  pebs : pebsOn (s .device) ≡ true → Ours s pebsAt
 
 pub record OthersUntouched : Type 0 where
   -- every other register keeps its value

@@ -5,6 +5,7 @@ use Prim.Native.Nat.{ℕ, zero, suc, _+_, _%_, _^_}
 use lib.Dec.{leb, eqb}
 use lib.ListN.{getD, replicate}
 use Rattle.requests.specs.declared.CounterSet.{CounterSet}
+use Rattle.requests.specs.declared.Device.{Device}
 use Rattle.requests.specs.declared.Device.the-variants.{G, S, C}
 use Rattle.requests.specs.declared.Opening.{Opening}
 use Rattle.requests.specs.declared.Setup.{Setup}
@@ -17,9 +18,9 @@ use Rattle.requests.specs.Bits.{outstanding, latencyWord}
 use Rattle.requests.specs.Devices.{has, counterCount, capacity, setupOf}
 use Rattle.requests.specs.Askings.{asked}
 use Rattle.requests.specs.Checks.{formed}
-use Rattle.layouts.specs.Layout.{tabulate, mmEnable, eventWord, rspWord, packetWord, codeOf, maskOf}
+use Rattle.layouts.specs.Layout.{tabulate, pebsOn, mmEnable, eventWord, rspWord, packetWord, codeOf, maskOf}
 use Rattle.layouts.specs.Settings.{setFrom}
-use Rattle.layouts.specs.Writes.{lastGlobal, uboxValue}
+use Rattle.layouts.specs.Writes.{lastGlobal, uboxValue, pebsEnable}
 use Rattle.layouts.specs.declared.FilterValues.{FilterValues}
 use Rattle.layouts.specs.declared.RegisterValues.{RegisterValues}
 use Rattle.layouts.specs.declared.FilterRead.{FilterRead}
@@ -96,6 +97,10 @@ filtersFit s f v =
 unfoldable pub uboxFits : Setup → ℕ → Bool
 uboxFits s v = either (not (asked s)) (eqb v (uboxValue s))
 
+-- the value of IA32_PEBS_ENABLE beside the control values f, where the device has it
+unfoldable pub pebsFits : Device → (ℕ → ℕ) → ℕ → Bool
+pebsFits d f v = either (not (pebsOn d)) (eqb v (pebsEnable f))
+
 -- whether some plan leaves the values
 unfoldable pub accepts : Setup → RegisterValues → Bool
 accepts s v =
@@ -103,7 +108,8 @@ accepts s v =
     both (every n (λ k. controlFits s (ours s v k)))
     (both (eqb (v .global) (lastGlobal s (setFrom n 0 (λ k. not (eqb (ours s v k) 0)))))
     (both (filtersFit s (ours s v) (v .filters))
-    (uboxFits s (v .ubox))))
+    (both (uboxFits s (v .ubox))
+    (pebsFits (s .device) (ours s v) (v .pebs)))))
 
 -- ---- what is told
 

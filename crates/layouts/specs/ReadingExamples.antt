@@ -19,16 +19,16 @@ use Rattle.layouts.specs.declared.Reading.{Reading}
 -- values on G: control values, RSP0 and RSP1, global control
 abbrev onG : List ℕ → ℕ → ℕ → ℕ → RegisterValues
 onG control w0 w1 g =
-    record { control = control ++ 0 ∷ 0 ∷ 0 ∷ 0 ∷ []; filters = record { rsp0 = w0; rsp1 = w1; «mm_cfg» = 0; «match_word» = 0; «mask_word» = 0 }; global = g; ubox = 0 }
+    record { control = control ++ 0 ∷ 0 ∷ 0 ∷ 0 ∷ []; filters = record { rsp0 = w0; rsp1 = w1; «mm_cfg» = 0; «match_word» = 0; «mask_word» = 0 }; global = g; ubox = 0; pebs = 0 }
 
 -- values on S: control values, MM_CFG, MATCH and MASK, global control
 abbrev onS : List ℕ → ℕ → ℕ → ℕ → ℕ → RegisterValues
 onS control c x y g =
-    record { control = control ++ 0 ∷ 0 ∷ 0 ∷ 0 ∷ []; filters = record { rsp0 = 0; rsp1 = 0; «mm_cfg» = c; «match_word» = x; «mask_word» = y }; global = g; ubox = 0 }
+    record { control = control ++ 0 ∷ 0 ∷ 0 ∷ 0 ∷ []; filters = record { rsp0 = 0; rsp1 = 0; «mm_cfg» = c; «match_word» = x; «mask_word» = y }; global = g; ubox = 0; pebs = 0 }
 
 -- values on C: control values, global control
 abbrev onC : List ℕ → ℕ → RegisterValues
-onC control g = record { control = control ++ 0 ∷ 0 ∷ []; filters = record { rsp0 = 0; rsp1 = 0; «mm_cfg» = 0; «match_word» = 0; «mask_word» = 0 }; global = g; ubox = 0 }
+onC control g = record { control = control ++ 0 ∷ 0 ∷ []; filters = record { rsp0 = 0; rsp1 = 0; «mm_cfg» = 0; «match_word» = 0; «mask_word» = 0 }; global = g; ubox = 0; pebs = 0 }
 
 -- an opening, with register values
 pub record Given : Type 0 where
@@ -53,6 +53,7 @@ asked letter freeze core first global ubox =
         filters = record { rsp0 = 0; rsp1 = 0; «mm_cfg» = 0; «match_word» = 0; «mask_word» = 0 };
         global = global;
         ubox = ubox;
+        pebs = 0;
       };
     }
 

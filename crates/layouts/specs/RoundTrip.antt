@@ -14,7 +14,7 @@ use Rattle.requests.specs.Checks.{Formed}
 use Rattle.plans.specs.declared.Place.{Place}
 use Rattle.plans.specs.Lists.{All}
 use Rattle.plans.specs.Legal.{Legal}
-use Rattle.layouts.specs.Layout.{tabulate, layoutOf, controlAt, rsp0At, rsp1At, mmCfgAt, matchAt, maskAt, uboxAt}
+use Rattle.layouts.specs.Layout.{tabulate, layoutOf, controlAt, rsp0At, rsp1At, mmCfgAt, matchAt, maskAt, uboxAt, pebsAt}
 use Rattle.layouts.specs.Writes.{Write, writes, apply}
 use Rattle.layouts.specs.Read.{readOf}
 use Rattle.layouts.specs.Told.{toldBy, toldPlan}
@@ -28,6 +28,7 @@ valuesIn d r =
       filters = record { rsp0 = r rsp0At; rsp1 = r rsp1At; «mm_cfg» = r mmCfgAt; «match_word» = r matchAt; «mask_word» = r maskAt };
       global = r (layoutOf d .global);
       ubox = r uboxAt;
+      pebs = r pebsAt;
     }
 
 -- from any registers, the writes are read as the plan

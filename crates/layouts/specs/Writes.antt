@@ -15,7 +15,7 @@ use Rattle.requests.specs.Choice.{pick}
 use Rattle.requests.specs.Askings.{coreCount, asked}
 use Rattle.requests.specs.Devices.{has, counterCount, allCounters, fixedCount, capacity}
 use Rattle.plans.specs.declared.Place.{Place}
-use Rattle.layouts.specs.Layout.{layoutOf, rsp0At, rsp1At, mmCfgAt, matchAt, maskAt, uboxAt, mmEnable, frzAll, enAll, coreSel}
+use Rattle.layouts.specs.Layout.{layoutOf, rsp0At, rsp1At, mmCfgAt, matchAt, maskAt, uboxAt, pebsAt, pebsOn, mmEnable, frzAll, enAll, coreSel, preciseStore, isEvent}
 use Rattle.layouts.specs.Settings.{settingsOf}
 use Rattle.layouts.specs.declared.Settings.{Settings}
 
@@ -72,6 +72,15 @@ filterWrites G t = offcoreWrites (t .rsp0) (t .rsp1)
 filterWrites S t = packetWrites (t .packets) (t .«match_word») (t .«mask_word»)
 filterWrites (C b) t = []
 
+-- the value of IA32_PEBS_ENABLE beside the control words f: for INST_RETIRED.ALL "must use IA32_PMC1 .. and bit 1 in the IA32_PEBS_ENABLE set to 1";
+-- for MEM_TRANS_RETIRED.PRECISE_STORE "Set IA32_PEBS_ENABLE[3] and IA32_PEBS_ENABLE[63]"; "0 .. when neither is taken"
+unfoldable pub pebsEnable : (ℕ → ℕ) → ℕ
+pebsEnable f = pick (isEvent 0xC0 0x01 (f 1)) (2 ^ 1) 0 + pick (isEvent 0xCD 0x02 (f 3)) (2 ^ 3 + 2 ^ preciseStore) 0
+
+-- the write of IA32_PEBS_ENABLE, where the device has it
+unfoldable pub preciseWrites : Device → Settings → List Write
+preciseWrites d t = row (pebsOn d) pebsAt (pebsEnable (λ k. getD (t .words) k 0))
+
 -- the bit of a core in pmi_core_sel
 unfoldable pub coreBit : Core → ℕ
 coreBit NoCore = 0
@@ -82,7 +91,7 @@ unfoldable pub uboxValue : Setup → ℕ
 uboxValue s = 2 ^ enAll + pick (eqb (s .overflow .freeze) 0) 0 (2 ^ frzAll) + coreBit (s .overflow .core)
 
 -- the list of the device's own registers: global control with its first value; control 0 for usable k; the filter registers;
--- count 0 for used k; control for used k; global control with its last value
+-- count 0 for used k; control for used k; IA32_PEBS_ENABLE; global control with its last value
 unfoldable pub boxWrites : Setup → Settings → List Write
 boxWrites s t =
     let n = counterCount (s .device) in
@@ -92,6 +101,7 @@ boxWrites s t =
     ++ filterWrites (s .device) t
     ++ rows n (t .used) (l .counter) (l .step) zeros
     ++ rows n (t .used) (l .control) (l .step) (t .words)
+    ++ preciseWrites (s .device) t
     ++ ((l .global, lastGlobal s (t .used .0)) ∷ [])
 
 -- the list for register values: where something is asked it "begins with U_MSR_PMON_GLOBAL_CTL = 0 and ends with en_all and what was asked there"

@@ -38,12 +38,13 @@ pub struct FilterValues {
 }
 
 // What the reader is given. Control values at and past the device's number of counters are not looked at, nor is the value of the U-Box
-// where nothing is asked of it.
+// where nothing is asked of it, nor that of IA32_PEBS_ENABLE on a device that has no such register.
 pub struct RegisterValues {
     pub control: [u64; CAPACITY],
     pub filters: FilterValues,
     pub global: u64,
     pub ubox: u64,
+    pub pebs: u64,
 }
 
 // The filter of an event that is counted.
