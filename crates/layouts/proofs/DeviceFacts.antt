@@ -2,6 +2,7 @@
 --     facts     the facts of a device
 --     apart     no two of its registers have one address
 --     in-room   arrays have room for its counters
+--     pebs-of   B alone has IA32_PEBS_ENABLE
 --     cbox-range, cbox-row, cbox-past   the table of the C-Boxes
 use mathlib.Core.Path.{_≡_, refl}
 use mathlib.Core.Bool.{true, false, false≢true}
@@ -11,10 +12,10 @@ use native.Mathlib.Omega.{arith}
 use lib.ListN.{length, getD, List·getD-eq-default}
 use Rattle.requests.specs.Choice.{both, either, every, pick}
 use Rattle.requests.specs.declared.Device.{Device}
-use Rattle.requests.specs.declared.Device.the-variants.{G, S, C}
+use Rattle.requests.specs.declared.Device.the-variants.{G, S, C, B}
 use Rattle.requests.specs.Bits.{bit, inList, onlyBits, rising, field}
 use Rattle.requests.specs.CBoxEvents.{sinkMasks, ringMasks, starvedMasks, bypassMasks, cboxEvents}
-use Rattle.requests.specs.Catalogue.{eventsOf}
+use Rattle.requests.specs.Catalogue.{architecturalEvents, preciseEvents, eventsOf}
 use Rattle.requests.specs.Askings.{overflowOn}
 use Rattle.requests.specs.Devices.{capacity, counterCount, fixedCount}
 use Rattle.plans.specs.Lists.{All, nil, cons}
@@ -28,12 +29,14 @@ unfoldable pub filterCode : Device → ℕ
 filterCode G = offcoreCode
 filterCode S = 0
 filterCode (C b) = 0
+filterCode B = 0
 
 -- a device's filter registers take at most this many writes
 unfoldable pub filterRoom : Device → ℕ
 filterRoom G = 2
 filterRoom S = 4
 filterRoom (C b) = 0
+filterRoom B = 0
 
 -- no two registers have one address, even if the device had all the counters that arrays have room for
 pub record Apart (d : Device) : Type 0 where
@@ -113,7 +116,7 @@ unfolding cboxGlobal cboxGlobals
 cbox-past b l = List·getD-eq-default cboxGlobals 0x0D00 l
 
 pub facts : (d : Device) → DeviceFacts d
-unfolding capacity counterCount fixedCount layoutOf controlAt counterAt filtersAt rsp0At rsp1At mmCfgAt matchAt maskAt uboxAt pebsAt enabledOn overflowOn controlBits globalBits field tabulate inList bit onlyBits every both either belowMask table allBelow eventsOf cboxEvents sinkMasks ringMasks starvedMasks bypassMasks filterCode offcoreCode filterRoom pebsOn writeLimit rising
+unfolding capacity counterCount fixedCount layoutOf controlAt counterAt filtersAt rsp0At rsp1At mmCfgAt matchAt maskAt uboxAt pebsAt enabledOn overflowOn controlBits globalBits field tabulate inList bit onlyBits every both either belowMask table allBelow eventsOf architecturalEvents preciseEvents cboxEvents sinkMasks ringMasks starvedMasks bypassMasks filterCode offcoreCode filterRoom pebsOn writeLimit rising
 facts G =
     record {
       enabled-some = omega arith;
@@ -231,6 +234,53 @@ facts (C b) =
         pebs-ubox = λ e. omega arith;
       };
     }
+facts B =
+    record {
+      enabled-some = omega arith;
+      enabled-above = refl;
+      enabled-small = omega arith;
+      enabled-permitted = refl;
+      pmi-off = refl;
+      pmi-on = λ h. absurd (false≢true h);
+      pmi-permitted = λ h. absurd (false≢true h);
+      low-permitted = refl;
+      enables = refl;
+      fixed-enables = refl;
+      events = refl;
+      filter-small = omega arith;
+      write-room = omega arith;
+      frame-room = λ h. absurd (false≢true h);
+      control-small = omega arith;
+      counter-small = omega arith;
+      step-small = omega arith;
+      apart = record {
+        control-control = λ j k e. omega arith;
+        counter-counter = λ j k e. omega arith;
+        counter-control = λ j k l m e. omega arith;
+        global-control = λ k l e. omega arith;
+        global-counter = λ k l e. omega arith;
+        filter-control = λ k l. nil;
+        filter-counter = λ k l. nil;
+        filter-global = nil;
+        ubox-global = λ e. omega arith;
+        ubox-control = λ k l e. omega arith;
+        ubox-counter = λ k l e. omega arith;
+        ubox-filter = nil;
+        pebs-global = λ e. omega arith;
+        pebs-control = λ k l e. omega arith;
+        pebs-counter = λ k l e. omega arith;
+        pebs-filter = nil;
+        pebs-ubox = λ e. omega arith;
+      };
+    }
+
+-- B alone has IA32_PEBS_ENABLE
+pub pebs-of : (d : Device) → pebsOn d ≡ true → d ≡ B
+unfolding pebsOn
+pebs-of G h = absurd (false≢true h)
+pebs-of S h = absurd (false≢true h)
+pebs-of (C b) h = absurd (false≢true h)
+pebs-of B h = refl
 
 pub apart : (d : Device) → Apart d
 apart d = facts d .apart

@@ -1,7 +1,7 @@
 -- The writes of the empty plan turn the usable counters off: `EmptyPlan`, by the round trip of a plan without requests.
 use mathlib.Core.Path.{_≡_, refl, ap, _∙_}
 use mathlib.Core.Bool.{false, not}
-use mathlib.Core.List.{[], flatMap}
+use mathlib.Core.List.{[], flatMap, List·Memᴰ·not-nil}
 use Prim.Native.Nat.{ℕ, zero, suc, _+_, _≤_, _<_}
 use native.Mathlib.Decide.{decLt}
 use native.Mathlib.Omega.{arith}
@@ -24,7 +24,7 @@ use Rattle.layouts.proofs.RoundTrip.{round-trip}
 
 empty-legal : (s : Setup) → Legal s [] []
 unfolding counters flatMap ofAll
-empty-legal s = record { differ = empty; usable-only = nil; allowed = none; one-word = λ i l. (0, nil); one-packet = ((0, 0), nil) }
+empty-legal s = record { differ = empty; usable-only = nil; allowed = none; one-word = λ i l. (0, nil); one-packet = ((0, 0), nil); ruled = none; alone = λ r m. absurd (List·Memᴰ·not-nil m); quiet = λ r m. absurd (List·Memᴰ·not-nil m) }
 
 controls : (s : Setup) (registers : ℕ → ℕ) (k : ℕ) → Usable s k → turnedOff s registers (controlAt (s .device) k) ≡ 0
 unfolding counters flatMap inList

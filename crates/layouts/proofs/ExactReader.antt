@@ -37,14 +37,18 @@ module _ (o : Opening) (s : Setup) (v : RegisterValues) (opened : setupOf o ≡ 
       let read = read-accepted o s v opened (left-accepted s v within plan) in
       (ap (λ (r : Reading). answerNumber (r .answer)) read ∙ reading-accepted s v, ap toldBy read ∙ left-told s v within plan)
 
-  only : answerNumber (readOf o v .answer) ≡ none → LeavesValues s v
-  only e = go (accepts s v) refl
+  -- an accepted reading passes the test
+  pub accepted-test : answerNumber (readOf o v .answer) ≡ none → accepts s v ≡ true
+  accepted-test e = go (accepts s v) refl
     where
-      go : (b : Bool) → accepts s v ≡ b → LeavesValues s v
-      go true h = accepted-left s v (usable-within o s opened) h
+      go : (b : Bool) → accepts s v ≡ b → b ≡ true
+      go true h = refl
       go false h =
           absurd (Option·none-ne-some (numberOf NotLeftByPlan)
           (sym e ∙ ap (λ (r : Reading). answerNumber (r .answer)) (read-not-left o s v opened h) ∙ refused-with NotLeftByPlan .0))
+
+  only : answerNumber (readOf o v .answer) ≡ none → LeavesValues s v
+  only e = accepted-left s v (usable-within o s opened) (accepted-test e)
 
   refused : ¬ LeavesValues s v → RefusedWith 15 (readOf o v)
   unfolding numberOf

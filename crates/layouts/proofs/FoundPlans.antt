@@ -113,7 +113,7 @@ words-without s f j w =
     }
 
 -- a word that fits and is not 0: of a filter event, or of a well-formed event
-word-cases : (s : Setup) (w : ℕ) → controlFits s w ≡ true → (w ≡ 0 → ⊥)
+pub word-cases : (s : Setup) (w : ℕ) → controlFits s w ≡ true → (w ≡ 0 → ⊥)
     → (filterWord s w ≡ true) ⊎ (both (eqb w (eventWord s (codeOf w) (maskOf w))) (formed s (Event (codeOf w) (maskOf w) noCounter)) ≡ true)
 unfolding controlFits
 word-cases s w h n = ⊎-elim (λ z. absurd (n (eqb-true w 0 z))) (λ z. either-cases _ _ z) (either-cases _ _ h)

@@ -1,5 +1,4 @@
--- Values that pass the reader's test are left by the writes of a plan: FoundPlans has the plan, and here are registers from which its writes leave the values.
---     before          registers that hold what the writes do not change
+-- Values that pass the reader's test are left by the writes of a plan: FoundPlans has the plan, and ValuesBefore registers from which its writes leave the values.
 --     built-leaves    a plan with the words that are looked at leaves the values
 --     accepted-left   so do values that pass the test
 use mathlib.Core.Path.{_≡_, refl, sym, ap, subst, _∙_, fun-ext}
@@ -16,7 +15,7 @@ use Rattle.requests.specs.Choice.{either, every, pick}
 use Rattle.requests.specs.Askings.{asked}
 use Rattle.requests.specs.declared.CounterSet.{CounterSet}
 use Rattle.requests.specs.declared.Device.{Device}
-use Rattle.requests.specs.declared.Device.the-variants.{G, S, C}
+use Rattle.requests.specs.declared.Device.the-variants.{G, S, C, B}
 use Rattle.requests.specs.declared.Setup.{Setup}
 use Rattle.requests.specs.declared.Request.the-variants.{Packet, Offcore, Latency}
 use Rattle.requests.specs.Bits.{inList, outstanding, latencyWord}
@@ -30,7 +29,7 @@ use Rattle.plans.proofs.Sets.{all-imp}
 use Rattle.layouts.specs.Layout.{layoutOf, controlAt, filtersAt, matchAt, maskAt, uboxAt, pebsAt, pebsOn, mmEnable, rspWord, packetWord}
 use Rattle.layouts.specs.Settings.{wordAt, setFrom, headOr, nonempty}
 use Rattle.layouts.specs.Writes.{rows, lastGlobal, pebsEnable, writes, apply}
-use Rattle.layouts.specs.Read.{ours, noCounter, count, controlFits, rsp0Fits, rsp1Fits, latencyFits, filtersFit, uboxFits, pebsFits, accepts, filterWord, packetsFit}
+use Rattle.layouts.specs.Read.{ours, noCounter, count, controlFits, rsp0Fits, rsp1Fits, latencyFits, filtersFit, uboxFits, pebsFits, ruleFits, accepts, filterWord, packetsFit}
 use Rattle.layouts.specs.ExactReader.{FiltersShow, LeavesValues}
 use Rattle.layouts.specs.declared.RegisterValues.{RegisterValues}
 use Rattle.layouts.proofs.ListLaws.{all-member}
@@ -45,57 +44,9 @@ use Rattle.layouts.proofs.PlanWords.{usesIn, used-word, count-uses, con
 use Rattle.layouts.proofs.PlanFilters.{enabled-by, rsp-hits, packet-hits, rsp-some, packet-some}
 use Rattle.layouts.proofs.LeftValues.{rsp0-left, rsp1-left, mm-cfg-left, match-left, mask-left, kept, zero-fits}
 use Rattle.layouts.proofs.BuiltPlans.{Built}
+use Rattle.layouts.proofs.RuledWords.{rules-of}
+use Rattle.layouts.proofs.ValuesBefore.{before, before-control, before-ubox, before-pebs, before-match, before-mask}
 use Rattle.layouts.proofs.FoundPlans.{Words, plain-G, plain-S, plain-bare, paired}
-
--- ---- registers from which the values are left
-
--- every counter of the device
-every-counter : Device → CounterSet
-every-counter d = record { 0 = setFrom (counterCount d) 0 (λ k. true) }
-
--- registers that hold the values of the U-Box and of IA32_PEBS_ENABLE, and the match and mask words
-around : RegisterValues → ℕ → ℕ
-around v a = pick (eqb uboxAt a) (v .ubox) (pick (eqb pebsAt a) (v .pebs) (pick (eqb matchAt a) (v .filters .«match_word») (v .filters .«mask_word»)))
-
--- and the control values
-before : Device → RegisterValues → ℕ → ℕ
-before d v = apply (rows (counterCount d) (every-counter d) (layoutOf d .control) (layoutOf d .step) (v .control)) (around v)
-
-before-control : (d : Device) (v : RegisterValues) (k : ℕ) → k < counterCount d → before d v (controlAt d k) ≡ getD (v .control) k 0
-unfolding before every-counter controlAt has
-before-control d v k l =
-    let values = rows (counterCount d) (every-counter d) (layoutOf d .control) (layoutOf d .step) (v .control) in
-    apply-after values (around v) (controlAt d k)
-    ∙ rows-at (every-counter d) (layoutOf d .control) (layoutOf d .step) (v .control) (apart d .control-control) (counterCount d) k (around v (controlAt d k)) l
-    ∙ rw (bit-set (counterCount d) 0 k (λ j. true) l)
-
--- what is none of the control registers
-before-other : (d : Device) (v : RegisterValues) (a : ℕ) → ((k : ℕ) → k < capacity → controlAt d k ≡ a → ⊥) → before d v a ≡ around v a
-unfolding before controlAt
-before-other d v a other =
-    let values = rows (counterCount d) (every-counter d) (layoutOf d .control) (layoutOf d .step) (v .control) in
-    apply-after values (around v) a
-    ∙ after-other a (around v a) (rows-all (λ w. w .0 ≡ a → ⊥) (every-counter d) (layoutOf d .control) (layoutOf d .step) (v .control) (counterCount d)
-    (λ k l h. other k (in-room d k l)))
-
-before-filter : (d : Device) (v : RegisterValues) (a : ℕ) → List·Memᴰ a (filtersAt d) → before d v a ≡ around v a
-before-filter d v a m = before-other d v a (λ k l e. all-member (apart d .filter-control k l) m (sym e))
-
-before-ubox : (d : Device) (v : RegisterValues) → before d v uboxAt ≡ v .ubox
-unfolding around
-before-ubox d v = before-other d v uboxAt (λ k l e. apart d .ubox-control k l (sym e)) ∙ rw (eq-eqb uboxAt uboxAt refl)
-
-before-pebs : (d : Device) (v : RegisterValues) → before d v pebsAt ≡ v .pebs
-unfolding around uboxAt pebsAt
-before-pebs d v = before-other d v pebsAt (λ k l e. apart d .pebs-control k l (sym e))
-
-before-match : (v : RegisterValues) → before S v matchAt ≡ v .filters .«match_word»
-unfolding filtersAt around uboxAt pebsAt matchAt
-before-match v = before-filter S v matchAt (List·Memᴰ·tail (List·Memᴰ·head refl))
-
-before-mask : (v : RegisterValues) → before S v maskAt ≡ v .filters .«mask_word»
-unfolding filtersAt around uboxAt pebsAt matchAt maskAt
-before-mask v = before-filter S v maskAt (List·Memᴰ·tail (List·Memᴰ·tail (List·Memᴰ·head refl)))
 
 -- ---- a plan that is found leaves the values
 
@@ -109,19 +60,24 @@ record OthersFit (s : Setup) (v : RegisterValues) : Type 0 where
   pub global : v .global ≡ lastGlobal s (setFrom (counterCount (s .device)) 0 (λ k. not (eqb (ours s v k) 0)))
   pub ubox : uboxFits s (v .ubox) ≡ true
   pub pebs : pebsFits (s .device) (ours s v) (v .pebs) ≡ true
+  pub rules : every (counterCount (s .device)) (ruleFits s (ours s v)) ≡ true
 
-module _ (s : Setup) (v : RegisterValues) (a b : ℕ) (q : ℕ × ℕ) (built : Built s a b q (ours s v)) where
+module _ (s : Setup) (v : RegisterValues) (a b : ℕ) (q : ℕ × ℕ) (built : Built s a b q (ours s v)) (fit : OthersFit s v) where
   abbrev us : List (ℕ × ℕ)
   us = usesIn s (built .requests) (built .places)
 
   built-legal : Legal s (built .requests) (built .places)
   built-legal =
+      let rules = rules-of (s .device) s a b q (ours s v) built (fit .rules) in
       record {
         differ = built .differ;
         usable-only = built .usable-only;
         allowed = built .allowed;
         one-word = one-word;
         one-packet = (q, built .packet);
+        ruled = rules .ruled;
+        alone = rules .alone;
+        quiet = rules .quiet;
       }
     where
       one-word : (i : ℕ) → i < 2 → (value : ℕ) × All (λ (w : ℕ). w ≡ value) (ofAll (wordsOf i) (built .requests) (built .places))
@@ -140,9 +96,9 @@ module _ (s : Setup) (v : RegisterValues) (a b : ℕ) (q : ℕ × ℕ) (built : 
   built-count : (w : ℕ) → (w ≡ 0 → ⊥) → count (counterCount (s .device)) (ours s v) w ≡ hits w us
   built-count w n = ap (λ (f : ℕ → ℕ). count (counterCount (s .device)) f w) (sym built-words) ∙ count-uses s (built .requests) (built .places) built-legal w n
 
-  built-leaves : FiltersShow (s .device) (v .filters) (apply (writes s (built .requests) (built .places)) (before (s .device) v)) → OthersFit s v → LeavesValues s v
+  built-leaves : FiltersShow (s .device) (v .filters) (apply (writes s (built .requests) (built .places)) (before (s .device) v)) → LeavesValues s v
   unfolding ours uboxFits pebsFits either
-  built-leaves shown fit =
+  built-leaves shown =
       record {
         requests = built .requests;
         places = built .places;
@@ -183,12 +139,12 @@ module _ (u : Setup) (v : RegisterValues) where
       let s = on G u in
       let w0 = v .filters .rsp0 in
       let w1 = v .filters .rsp1 in
-      let on0 = built-count s v w0 w1 (0, 0) built (rspWord (on G u) 0) (rsp-some u 0) ∙ rsp-hits u 0 (omega arith) (built .described) (built .allowed) in
-      let on1 = built-count s v w0 w1 (0, 0) built (rspWord (on G u) 1) (rsp-some u 1) ∙ rsp-hits u 1 (omega arith) (built .described) (built .allowed) in
-      built-leaves s v w0 w1 (0, 0) built (
+      let on0 = built-count s v w0 w1 (0, 0) built fit (rspWord (on G u) 0) (rsp-some u 0) ∙ rsp-hits u 0 (omega arith) (built .described) (built .allowed) in
+      let on1 = built-count s v w0 w1 (0, 0) built fit (rspWord (on G u) 1) (rsp-some u 1) ∙ rsp-hits u 1 (omega arith) (built .described) (built .allowed) in
+      built-leaves s v w0 w1 (0, 0) built fit (
         sym (rsp0-left u (built .requests) (built .places) (before G v) ∙ head-is w0 (ofAll (wordsOf 0) (built .requests) (built .places)) (built .rsp0) (λ z. zero0 (on0 ∙ z))),
         sym (rsp1-left u (built .requests) (built .places) (before G v) ∙ head-is w1 (ofAll (wordsOf 1) (built .requests) (built .places)) (built .rsp1) (λ z. zero1 (on1 ∙ z))),
-      ) fit
+      )
 
   -- the words of the match/mask register, where a packet request asks for them or nobody does
   packet-words : (asked : List (ℕ × ℕ)) (x y : ℕ) → All (λ (p : ℕ × ℕ). p ≡ (x, y)) asked
@@ -203,13 +159,13 @@ module _ (u : Setup) (v : RegisterValues) where
       let x = v .filters .«match_word» in
       let y = v .filters .«mask_word» in
       let asked = flatMap packetsOf (built .requests) in
-      let packets = built-count s v 0 0 (x, y) built (packetWord (on S u)) (packet-some u) ∙ packet-hits u (built .described) (built .allowed) in
+      let packets = built-count s v 0 0 (x, y) built fit (packetWord (on S u)) (packet-some u) ∙ packet-hits u (built .described) (built .allowed) in
       let held = packet-words asked x y (built .packet) in
-      built-leaves s v 0 0 (x, y) built (
+      built-leaves s v 0 0 (x, y) built fit (
         m ∙ ap (λ (n : ℕ). pick (eqb n 0) 0 (2 ^ mmEnable)) packets ∙ sym (enabled-by asked) ∙ sym (mm-cfg-left u (built .requests) (built .places) (before S v)),
         sym (match-left u (built .requests) (built .places) (before S v) ∙ rw (before-match v) (sym (held .0))),
         sym (mask-left u (built .requests) (built .places) (before S v) ∙ rw (before-mask v) (sym (held .1))),
-      ) fit
+      )
 
 -- ---- from the test to a plan
 
@@ -285,7 +241,8 @@ module _ (u : Setup) (v : RegisterValues) where
   unfolding filterWord
   found G within w t fit = found-G within w t fit
   found S within w t fit = found-S within w t fit
-  found (C b) within w t fit = built-leaves (on (C b) u) v 0 0 (0, 0) (plain-bare u (C b) (λ x. refl) within 0 0 (0, 0) (ours (on (C b) u) v) w) tt fit
+  found (C b) within w t fit = built-leaves (on (C b) u) v 0 0 (0, 0) (plain-bare u (C b) (λ x. refl) within 0 0 (0, 0) (ours (on (C b) u) v) w) fit tt
+  found B within w t fit = built-leaves (on B u) v 0 0 (0, 0) (plain-bare u B (λ x. refl) within 0 0 (0, 0) (ours (on B u) v) w) fit tt
 
 pub accepted-left : (s : Setup) (v : RegisterValues) → Within s → accepts s v ≡ true → LeavesValues s v
 unfolding accepts
@@ -294,5 +251,6 @@ accepted-left s v within h =
     let rest = both-parts _ _ (words .1) in
     let registers = both-parts _ _ (rest .1) in
     let last = both-parts _ _ (registers .1) in
+    let precise = both-parts _ _ (last .1) in
     found s v (s .device) within (ours-words s v within (words .0)) (registers .0)
-    (record { global = eqb-true (v .global) (lastGlobal s (setFrom (counterCount (s .device)) 0 (λ k. not (eqb (ours s v k) 0)))) (rest .0); ubox = last .0; pebs = last .1 })
+    (record { global = eqb-true (v .global) (lastGlobal s (setFrom (counterCount (s .device)) 0 (λ k. not (eqb (ours s v k) 0)))) (rest .0); ubox = last .0; pebs = precise .0; rules = precise .1 })

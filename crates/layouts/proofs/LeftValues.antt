@@ -11,7 +11,7 @@ use lib.Dec.{eqb}
 use lib.ListN.{getD}
 use Rattle.requests.specs.Choice.{either, pick}
 use Rattle.requests.specs.declared.Device.{Device}
-use Rattle.requests.specs.declared.Device.the-variants.{G, S, C}
+use Rattle.requests.specs.declared.Device.the-variants.{G, S, C, B}
 use Rattle.requests.specs.declared.Setup.{Setup}
 use Rattle.requests.specs.declared.Request.{Request}
 use Rattle.requests.specs.declared.Request.the-variants.{Event}
@@ -42,7 +42,8 @@ use Rattle.layouts.proofs.ControlWords.{ControlWord, listed-event, rsp-
 use Rattle.layouts.proofs.AskedWords.{none-within}
 use Rattle.layouts.proofs.FormedRequests.{describe-all, described-passes}
 use Rattle.layouts.proofs.PlanWords.{usesIn, used-word, unused-word, control-left, global-left, filter-left, pebs-left, ubox-left}
-use Rattle.layouts.proofs.PlanFilters.{devices-differ, c-not-g, c-not-s, LeftFilters, filters-fit}
+use Rattle.layouts.proofs.PlanFilters.{devices-differ, c-not-g, c-not-s, b-not-g, b-not-s, LeftFilters, filters-fit}
+use Rattle.layouts.proofs.RuledWords.{rules-kept}
 use Rattle.layouts.proofs.PlanTold.{Holds, tell-plan}
 
 -- ---- filter values
@@ -120,6 +121,7 @@ filters-left S u rs ps registers v legal shown =
     (shown .1 ∙ match-left u rs ps registers) (shown .2 ∙ mask-left u rs ps registers) in
     ((shown .0 ∙ mm-cfg-left u rs ps registers, held), held)
 filters-left (C b) u rs ps registers v legal shown = (tt, tt)
+filters-left B u rs ps registers v legal shown = (tt, tt)
 
 -- ---- control values
 
@@ -139,12 +141,14 @@ rsp-filter G u (suc zero) g l = rw (eq-eqb (rspWord (on G u) 1) (rspWord (on G u
 rsp-filter G u (suc (suc i)) g l = absurd (omega arith)
 rsp-filter S u i g l = absurd (devices-differ (sym g))
 rsp-filter (C b) u i g l = absurd (c-not-g b g)
+rsp-filter B u i g l = absurd (b-not-g g)
 
 packet-filter : (d : Device) (u : Setup) → d ≡ S → filterWord (on d u) (packetWord (on d u)) ≡ true
 unfolding filterWord
 packet-filter G u g = absurd (devices-differ g)
 packet-filter S u g = eq-eqb (packetWord (on S u)) (packetWord (on S u)) refl
 packet-filter (C b) u g = absurd (c-not-s b g)
+packet-filter B u g = absurd (b-not-s g)
 
 control-fits : (s : Setup) (w : ℕ) → ControlWord s w → controlFits s w ≡ true
 unfolding controlFits
@@ -225,7 +229,8 @@ module _ (s : Setup) (v : RegisterValues) (within : Within s) (plan : LeavesValu
       (true-both _ _ (every-true (counterCount d) (λ k. controlFits s (wordAt us k))
       (λ k l. word-at (λ w. controlFits s w ≡ true) us k (zero-fits s) (all-imp (λ u w. control-fits s (u .1) w) words)))
       (true-both _ _ (eq-eqb _ _ global)
-      (true-both _ _ (filters-fit d s (plan .requests) (plan .places) (v .filters) plan-described (plan .legal) (filters .0)) (true-both _ _ ubox pebs))))
+      (true-both _ _ (filters-fit d s (plan .requests) (plan .places) (v .filters) plan-described (plan .legal) (filters .0))
+      (true-both _ _ ubox (true-both _ _ pebs (rules-kept d s (plan .requests) (plan .places) plan-described (plan .legal)))))))
 
   pub left-told : toldBy (readingOf s v) ≡ toldPlan s (plan .requests) (plan .places)
   unfolding toldBy readingOf toldPlan told

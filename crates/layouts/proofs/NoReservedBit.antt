@@ -11,7 +11,7 @@ use lib.Dec.{eqb, ltb}
 use lib.ListN.{getD}
 use Rattle.requests.specs.Choice.{both, either, every, pick}
 use Rattle.requests.specs.declared.Device.{Device}
-use Rattle.requests.specs.declared.Device.the-variants.{G, S, C}
+use Rattle.requests.specs.declared.Device.the-variants.{G, S, C, B}
 use Rattle.requests.specs.declared.Core.{Core}
 use Rattle.requests.specs.declared.Core.the-variants.{NoCore, At}
 use Rattle.requests.specs.declared.Setup.{Setup}
@@ -51,6 +51,7 @@ filterRegisters : Device → List Register
 filterRegisters G = (rsp0At, rsp0Bits) ∷ (rsp1At, rsp1Bits) ∷ []
 filterRegisters S = (mmCfgAt, mmEnable ∷ []) ∷ (matchAt, matchBits) ∷ (maskAt, maskBits) ∷ []
 filterRegisters (C b) = []
+filterRegisters B = []
 
 filter-among : (d : Device) → All (λ (r : Register). List·Memᴰ (r .0) (filtersAt d)) (filterRegisters d)
 unfolding filterRegisters filtersAt
@@ -58,6 +59,7 @@ filter-among G = cons (List·Memᴰ·head refl) (cons (List·Memᴰ·tail (List�
 filter-among S =
     cons (List·Memᴰ·head refl) (cons (List·Memᴰ·tail (List·Memᴰ·head refl)) (cons (List·Memᴰ·tail (List·Memᴰ·tail (List·Memᴰ·head refl))) nil))
 filter-among (C b) = nil
+filter-among B = nil
 
 -- what holds of each of them
 registers-all : (d : Device) (P : Register → Type 0) → P (layoutOf d .global, globalBits d) → All P (filterRegisters d) → P (uboxAt, uboxBits) → P (pebsAt, pebsBits)
@@ -82,6 +84,8 @@ registers-all d P global filters ubox pebs controls r m = go d global filters co
         (List·Memᴰ·cases-cons m)
     go (C b) global nil controls m =
         ⊎-elim (λ e. subst P (sym e) global) (λ m1. ⊎-elim (λ e. subst P (sym e) ubox) (λ m2. control-among (C b) controls m2) (List·Memᴰ·cases-cons m1)) (List·Memᴰ·cases-cons m)
+    go B global nil controls m =
+        ⊎-elim (λ e. subst P (sym e) global) (λ m1. ⊎-elim (λ e. subst P (sym e) pebs) (λ m2. control-among B controls m2) (List·Memᴰ·cases-cons m1)) (List·Memᴰ·cases-cons m)
 
 -- ---- writes
 
@@ -220,6 +224,7 @@ filters-clean G u rs ps f h =
     (cons (filter-clean (on G u) rsp1At _ (List·Memᴰ·tail (List·Memᴰ·head refl)) (cons (λ e. absurd (omega arith)) (cons (λ e. second) nil))) nil)
 filters-clean S u rs ps f h = packets-clean u (flatMap packetsOf rs) (packet-words (on S u) f)
 filters-clean (C b) u rs ps f h = nil
+filters-clean B u rs ps f h = nil
 
 -- ---- the list
 
@@ -255,6 +260,7 @@ latency-writes G u rs ps g f h =
     (all-imp (λ w a. first-latency (on G u) rs w a) (first-words (on G u) f h)) in
     cons (λ e. first) (cons (λ (e : rsp1At ≡ rsp0At). absurd (omega arith)) nil)
 latency-writes (C b) u rs ps g f h = nil
+latency-writes B u rs ps g f h = nil
 latency-writes S u rs ps g f h = let z : _≡_ {A = ℕ} 0 1 = cc in absurd (omega arith)
 
 rsp0-filter : List·Memᴰ rsp0At (filtersAt G)

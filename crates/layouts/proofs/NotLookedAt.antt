@@ -13,7 +13,7 @@ use lib.ListN.{getD}
 use Rattle.requests.specs.Choice.{both, either, every, pick}
 use Rattle.requests.specs.Askings.{asked}
 use Rattle.requests.specs.declared.Device.{Device}
-use Rattle.requests.specs.declared.Device.the-variants.{G, S, C}
+use Rattle.requests.specs.declared.Device.the-variants.{G, S, C, B}
 use Rattle.requests.specs.declared.Opening.{Opening}
 use Rattle.requests.specs.declared.Setup.{Setup}
 use Rattle.requests.specs.declared.Answer.the-variants.{Accepted}
@@ -22,7 +22,7 @@ use Rattle.requests.proofs.Tests.{both-parts}
 use Rattle.layouts.specs.Layout.{tabulate, pebsOn, mmEnable, packetWord}
 use Rattle.layouts.specs.Settings.{setFrom}
 use Rattle.layouts.specs.Writes.{lastGlobal, uboxValue, pebsEnable}
-use Rattle.layouts.specs.Read.{ours, count, controlFits, packetsFit, filtersFit, uboxFits, pebsFits, accepts, filterOf, tell, cell, readingOf, readOf}
+use Rattle.layouts.specs.Read.{ours, count, controlFits, packetsFit, filtersFit, uboxFits, pebsFits, ruleFits, accepts, filterOf, tell, cell, readingOf, readOf}
 use Rattle.layouts.specs.NotLookedAt.{SameFilters, SameLookedAt, NotLookedAt}
 use Rattle.layouts.specs.declared.CounterState.the-variants.{NotOurs}
 use Rattle.layouts.specs.declared.FilterValues.{FilterValues}
@@ -31,6 +31,7 @@ use Rattle.layouts.specs.declared.CounterRead.{CounterRead}
 use Rattle.layouts.specs.declared.Reading.{Reading}
 use Rattle.layouts.proofs.ListLaws.{tabulate-same}
 use Rattle.layouts.proofs.Counts.{count-zero}
+use Rattle.layouts.proofs.DeviceFacts.{pebs-of}
 use Rattle.layouts.proofs.UsableSets.{on, usable-within, usable-counter}
 use Rattle.layouts.proofs.ReaderAnswers.{read-accepted, read-not-left}
 
@@ -53,6 +54,7 @@ filters-fit S u f v w h = ⊎-elim off (λ e. rw (h .0, e .0, e .1)) (h .1)
         let n = count (counterCount S) f (packetWord (on S u)) in
         packets-off (on S u) n v z ∙ sym (packets-off (on S u) n w (sym (h .0) ∙ z))
 filters-fit (C b) u f v w h = refl
+filters-fit B u f v w h = refl
 
 -- where MM_CFG is 0 and fits, no counter counts packets
 no-packets : (u : Setup) (f : ℕ → ℕ) (v : FilterValues) → filtersFit (on S u) f v ≡ true → v .«mm_cfg» ≡ 0 → count (counterCount S) f (packetWord (on S u)) ≡ 0
@@ -75,12 +77,13 @@ tell-same S u f v w k a h l = go (h .1)
     go (inl z) = rw (ne-eqb (f k) (packetWord (on S u)) (λ e. count-zero (counterCount S) k (packetWord (on S u)) f (no-packets u f v a z) l e))
     go (inr e) = rw (e .0, e .1)
 tell-same (C b) u f v w k a h l = refl
+tell-same B u f v w k a h l = refl
 
 -- the test, given the control values that are looked at
 abbrev test : Setup → (ℕ → ℕ) → ℕ → Bool → Bool → Bool → Bool
 test s f g filters ubox pebs =
     let n = counterCount (s .device) in
-    both (every n (λ k. controlFits s (f k))) (both (eqb g (lastGlobal s (setFrom n 0 (λ k. not (eqb (f k) 0))))) (both filters (both ubox pebs)))
+    both (every n (λ k. controlFits s (f k))) (both (eqb g (lastGlobal s (setFrom n 0 (λ k. not (eqb (f k) 0))))) (both filters (both ubox (both pebs (every n (ruleFits s f))))))
 
 -- the reading, given the control values that are looked at
 abbrev answer : Setup → (ℕ → ℕ) → FilterValues → Reading
@@ -108,7 +111,7 @@ module _ (o : Opening) (s : Setup) (v w : RegisterValues) (opened : setupOf o �
   pebs-same = go (pebsOn (s .device)) refl
     where
       go : (b : Bool) → pebsOn (s .device) ≡ b → either (not b) (eqb (v .pebs) (pebsEnable (ours s w))) ≡ either (not b) (eqb (w .pebs) (pebsEnable (ours s w)))
-      go true h = rw (same .pebs h)
+      go true h = rw (same .pebs (pebs-of (s .device) h))
       go false h = refl
 
   accepts-same : accepts s v ≡ accepts s w

@@ -18,7 +18,7 @@ use Rattle.layouts.specs.Settings.{settingsOf}
 use Rattle.layouts.specs.Writes.{firstGlobal, lastGlobal, preciseWrites, writes, apply}
 use Rattle.layouts.specs.OthersUntouched.{Ours, global, filter, control, counter, ubox, pebs, OthersUntouched}
 use Rattle.layouts.proofs.ListLaws.{all-member}
-use Rattle.layouts.proofs.DeviceFacts.{in-room, apart}
+use Rattle.layouts.proofs.DeviceFacts.{in-room, apart, pebs-of}
 use Rattle.layouts.proofs.RegistersAfter.{apply-after, after-other, filter-addresses, precise-addresses, row-all, box-all, writes-all}
 use Rattle.layouts.proofs.GlobalValues.{used-usable, first-bit, first-fixed, last-bit, last-fixed}
 
@@ -36,7 +36,7 @@ kept s rs ps legal registers a others =
     (all-imp (λ w m. filter m) (filter-addresses (s .device) (settingsOf s rs ps)))
     (λ k l h. counter (used-usable s rs ps legal k l h))
     (λ k l h. control (used-usable s rs ps legal k l h))
-    (row-all (λ w. Ours s (w .0)) (pebsOn (s .device)) pebsAt _ (λ h. pebs h))
+    (row-all (λ w. Ours s (w .0)) (pebsOn (s .device)) pebsAt _ (λ h. pebs (pebs-of (s .device) h)))
     global)))
 
 -- what holds of both values of the global register holds of each that the list writes to it

@@ -14,7 +14,7 @@ use lib.ListN.{length}
 use Rattle.requests.specs.Choice.{both, pick}
 use Rattle.requests.specs.declared.CounterSet.{CounterSet}
 use Rattle.requests.specs.declared.Device.{Device}
-use Rattle.requests.specs.declared.Device.the-variants.{G, S, C}
+use Rattle.requests.specs.declared.Device.the-variants.{G, S, C, B}
 use Rattle.requests.specs.declared.Setup.{Setup}
 use Rattle.requests.specs.declared.Request.{Request}
 use Rattle.requests.specs.declared.Request.the-variants.{Packet, Offcore, Latency}
@@ -52,6 +52,16 @@ c-not-g b e = let z : _≡_ {A = ℕ} 0 1 = cc in omega arith
 
 pub c-not-s : (b : ℕ) → C b ≡ S → ⊥
 c-not-s b e = let z : _≡_ {A = ℕ} 0 1 = cc in omega arith
+
+-- nor is B
+pub b-not-g : B ≡ G → ⊥
+b-not-g e = let z : _≡_ {A = ℕ} 0 1 = cc in omega arith
+
+pub b-not-s : B ≡ S → ⊥
+b-not-s e = let z : _≡_ {A = ℕ} 0 1 = cc in omega arith
+
+pub c-not-b : (b : ℕ) → C b ≡ B → ⊥
+c-not-b b e = let z : _≡_ {A = ℕ} 0 1 = cc in omega arith
 
 -- ---- control words of filter events
 
@@ -161,6 +171,7 @@ LeftFilters S rs ps v =
     (v .«mm_cfg» ≡ pick (nonempty (flatMap packetsOf rs)) (2 ^ mmEnable) 0)
     × All (λ (p : ℕ × ℕ). p ≡ (v .«match_word», v .«mask_word»)) (flatMap packetsOf rs)
 LeftFilters (C b) rs ps v = Unit {0}
+LeftFilters B rs ps v = Unit {0}
 
 latency-below : (s : Setup) (t : ℕ) (a b : CounterSet) → Described s (Latency t a b) → t < 2 ^ 38
 latency-below s t a b (latency g h o c d) = omega (arith, types-below t h)
@@ -228,3 +239,4 @@ filters-fit S u rs ps v f legal left =
     let on0 = count-uses (on S u) rs ps legal (packetWord (on S u)) (packet-some u) ∙ packet-hits u f (legal .allowed) in
     rw on0 (packets-fit (on S u) (flatMap packetsOf rs) v (left .0) (left .1) (packet-words (on S u) f))
 filters-fit (C b) u rs ps v f legal left = refl
+filters-fit B u rs ps v f legal left = refl

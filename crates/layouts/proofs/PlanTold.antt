@@ -11,7 +11,7 @@ use lib.Dec.{eqb}
 use Rattle.requests.specs.Choice.{both, pick}
 use Rattle.requests.specs.declared.Setup.{Setup}
 use Rattle.requests.specs.declared.Device.{Device}
-use Rattle.requests.specs.declared.Device.the-variants.{G, S, C}
+use Rattle.requests.specs.declared.Device.the-variants.{G, S, C, B}
 use Rattle.requests.specs.declared.Request.{Request}
 use Rattle.requests.specs.Askings.{overflowOn, asked}
 use Rattle.requests.specs.Bits.{latencyWord}
@@ -30,7 +30,7 @@ use Rattle.layouts.specs.Told.{Told, counting, told, toldOf, toldAt}
 use Rattle.layouts.specs.declared.FilterValues.{FilterValues}
 use Rattle.layouts.proofs.UsableSets.{on}
 use Rattle.layouts.proofs.ControlWords.{listed, word-parts}
-use Rattle.layouts.proofs.PlanFilters.{devices-differ, c-not-g, c-not-s, event-not-rsp, event-not-packet}
+use Rattle.layouts.proofs.PlanFilters.{devices-differ, c-not-g, c-not-s, b-not-g, b-not-s, event-not-rsp, event-not-packet}
 
 -- ---- one word
 
@@ -53,6 +53,10 @@ tell-event (C b) u v c m h =
     let l = listed (C b) c m h in
     let p = word-parts (on (C b) u) c m (l .code) (l .mask) in
     rw (ne-eqb (eventWord (on (C b) u) c m) 0 (p .some-bit), p .code, p .mask)
+tell-event B u v c m h =
+    let l = listed B c m h in
+    let p = word-parts (on B u) c m (l .code) (l .mask) in
+    rw (ne-eqb (eventWord (on B u) c m) 0 (p .some-bit), p .code, p .mask)
 
 tell-rsp0 : (u : Setup) (v : FilterValues) → told (tell (on G u) v (rspWord (on G u) 0)) ≡ counting offcoreCode (rspMask 0) (some 0) (v .rsp0 ∷ [])
 unfolding tell told filterOf rspWord eventWord enabled enabledOn asked overflowOn both offcoreCode rspMask codeOf maskOf
@@ -86,6 +90,7 @@ abbrev pub Holds : Device → List Request → List Place → FilterValues → T
 Holds G rs ps v = All (λ (w : ℕ). w ≡ v .rsp0) (ofAll (wordsOf 0) rs ps) × All (λ (w : ℕ). w ≡ v .rsp1) (ofAll (wordsOf 1) rs ps)
 Holds S rs ps v = All (λ (p : ℕ × ℕ). p ≡ (v .«match_word», v .«mask_word»)) (flatMap packetsOf rs)
 Holds (C b) rs ps v = Unit {0}
+Holds B rs ps v = Unit {0}
 
 module _ (u : Setup) (v : FilterValues) (k : ℕ) where
   tell-G : {rs : List Request} {ps : List Place} → All (Described (on G u)) rs → Each Allowed rs ps
@@ -139,3 +144,4 @@ pub tell-plan : (d : Device) (u : Setup) (rs : List Request) (ps : List Place) (
 tell-plan G u rs ps v k f es h = tell-G u v k f es (h .0) (h .1)
 tell-plan S u rs ps v k f es h = tell-S u v k f es h
 tell-plan (C b) u rs ps v k f es h = tell-bare u v k (C b) (c-not-g b) (c-not-s b) f es
+tell-plan B u rs ps v k f es h = tell-bare u v k B b-not-g b-not-s f es

@@ -16,7 +16,7 @@ use lib.ListN.{getD}
 use Rattle.requests.specs.Choice.{pick}
 use Rattle.requests.specs.declared.CounterSet.{CounterSet}
 use Rattle.requests.specs.declared.Device.{Device}
-use Rattle.requests.specs.declared.Device.the-variants.{G, S, C}
+use Rattle.requests.specs.declared.Device.the-variants.{G, S, C, B}
 use Rattle.requests.specs.declared.Setup.{Setup}
 use Rattle.requests.specs.Askings.{asked}
 use Rattle.requests.specs.Devices.{has, counterCount, capacity}
@@ -127,6 +127,7 @@ filter-addresses S t = go (t .packets)
         (cons (List·Memᴰ·tail (List·Memᴰ·tail (List·Memᴰ·head refl))) (cons (List·Memᴰ·head refl) nil)))
     go false = cons (List·Memᴰ·head refl) nil
 filter-addresses (C b) t = nil
+filter-addresses B t = nil
 
 -- every write of IA32_PEBS_ENABLE is to it
 pub precise-addresses : (d : Device) (t : Settings) → All (λ (w : Write). w .0 ≡ pebsAt) (preciseWrites d t)

@@ -5,7 +5,7 @@ use borrow.Author.Tests.{lt-ltb}
 use lib.Dec.{ltb}
 use Rattle.requests.specs.Choice.{pick}
 use Rattle.requests.specs.declared.Device.{Device}
-use Rattle.requests.specs.declared.Device.the-variants.{G, S, C}
+use Rattle.requests.specs.declared.Device.the-variants.{G, S, C, B}
 use Rattle.requests.specs.declared.Setup.{Setup}
 use Rattle.requests.specs.declared.Answer.the-variants.{Accepted}
 use Rattle.requests.specs.Devices.{counterCount, capacity, openingOf}
@@ -27,6 +27,7 @@ unfolding valuesIn
 filters-show G r = (refl, refl)
 filters-show S r = (refl, refl, refl)
 filters-show (C b) r = tt
+filters-show B r = tt
 
 -- the values in registers are theirs
 values-show : (d : Device) (r : ℕ → ℕ) → Shows d (valuesIn d r) r

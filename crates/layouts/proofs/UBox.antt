@@ -13,7 +13,7 @@ use Rattle.requests.specs.declared.Core.{Core}
 use Rattle.requests.specs.declared.Core.the-variants.{NoCore, At}
 use Rattle.requests.specs.declared.CounterSet.{CounterSet}
 use Rattle.requests.specs.declared.Device.{Device}
-use Rattle.requests.specs.declared.Device.the-variants.{G, S, C}
+use Rattle.requests.specs.declared.Device.the-variants.{G, S, C, B}
 use Rattle.requests.specs.declared.Opening.{Opening}
 use Rattle.requests.specs.declared.Request.{Request}
 use Rattle.requests.specs.declared.Request.the-variants.{Event, Packet, Offcore, Latency}
@@ -195,6 +195,7 @@ module _ (s : Setup) (rs : List Request) (ps : List Place) (legal : Legal s rs p
   filters-same G = refl
   filters-same S = refl
   filters-same (C b) = refl
+  filters-same B = refl
 
   -- and IA32_PEBS_ENABLE, which no device has that may be asked
   precise-same : (d : Device) → overflowOn d ≡ true → preciseWrites d (settingsOf s rs ps) ≡ preciseWrites d (settingsOf (askingNothing s) rs ps)
@@ -202,6 +203,7 @@ module _ (s : Setup) (rs : List Request) (ps : List Place) (legal : Legal s rs p
   precise-same G on = refl
   precise-same S on = refl
   precise-same (C b) on = refl
+  precise-same B on = absurd (false≢true on)
 
   box-more : map (withPmi s) (boxWrites (askingNothing s) (settingsOf (askingNothing s) rs ps)) ≡ boxWrites s (settingsOf s rs ps)
   unfolding boxWrites settingsOf askingNothing firstGlobal lastGlobal fixedEnables unusable zeros controlAt

@@ -12,7 +12,7 @@ use lib.Pow.{pow-pos, pow-mono}
 use Rattle.requests.specs.Choice.{both, either, firstHolding, every, pick}
 use Rattle.requests.specs.declared.CounterSet.{CounterSet}
 use Rattle.requests.specs.declared.Device.{Device}
-use Rattle.requests.specs.declared.Device.the-variants.{G, S, C}
+use Rattle.requests.specs.declared.Device.the-variants.{G, S, C, B}
 use Rattle.requests.specs.declared.Core.the-variants.{NoCore}
 use Rattle.requests.specs.declared.Setup.{Setup}
 use Rattle.requests.specs.declared.Request.{Request}
@@ -23,11 +23,14 @@ use Rattle.requests.specs.Devices.{has, counterCount, capacity, allCounters, bo
 use Rattle.requests.specs.Openings.{mostBox, MayAsk, NothingAsked, InRange}
 use Rattle.requests.specs.MaskRules.{allows}
 use Rattle.requests.specs.CBoxEvents.{sinkMasks, ringMasks, starvedMasks, bypassMasks, cboxEvents}
-use Rattle.requests.specs.Catalogue.{eventsOf, codeIn, pairIn, maskNotListed}
+use Rattle.requests.specs.Catalogue.{architecturalEvents, preciseEvents, eventsOf, codeIn, pairIn, maskNotListed}
+use Rattle.requests.specs.EventRules.{ruleOnB, hasRules, ruleOf, ruleFor}
+use Rattle.requests.specs.declared.EventRule.the-variants.{Anywhere}
 use Rattle.requests.specs.Checks.{kindNotOn, notListed, tooWide, outOfRange, incomplete, conflicting, requestRows, requestRefusal, Formed}
 use Rattle.requests.proofs.AskingTests.{may-ask}
 use Rattle.requests.proofs.DeviceNumbers.{numbers}
 use Rattle.requests.proofs.OpeningsTaken.{openings}
+use Rattle.requests.proofs.RuledEvents.{ruled-events}
 use Rattle.requests.proofs.Tests.{both-false}
 use Rattle.plans.specs.declared.Place.{Place}
 use Rattle.plans.specs.declared.Place.the-variants.{Counter}
@@ -40,9 +43,11 @@ use Rattle.layouts.specs.Writes.{row, rows, offcoreWrites, packetWrites,
 use Rattle.layouts.specs.WriteCount.{writeLimit, Reached, WriteCount}
 use Rattle.layouts.specs.declared.Settings.{Settings}
 use Rattle.layouts.proofs.CounterSets.{bit-set, set-left}
+use Rattle.layouts.proofs.ListLaws.{all-member}
 use Rattle.layouts.proofs.WordBits.{bit-zero}
 use Rattle.layouts.proofs.DeviceFacts.{filterRoom, facts}
 use Rattle.layouts.proofs.EnableBits.{asked-served}
+use Rattle.layouts.proofs.RuledWords.{no-rules}
 
 rows-length : (n : ℕ) (s : CounterSet) (base step : ℕ) (values : List ℕ) → length (rows n s base step values) ≤ n
 unfolding rows
@@ -64,8 +69,9 @@ filter-length S t = go (t .packets)
     go true = le-refl 4
     go false = omega arith
 filter-length (C b) t = le-refl 0
+filter-length B t = le-refl 0
 
-precise-length : (d : Device) (t : Settings) → length (preciseWrites d t) ≡ pick (pebsOn d) 1 0
+pub precise-length : (d : Device) (t : Settings) → length (preciseWrites d t) ≡ pick (pebsOn d) 1 0
 unfolding preciseWrites
 precise-length d t = go (pebsOn d) _
   where
@@ -144,43 +150,60 @@ requests : Device → List Request
 requests G = replicate 4 (Event 0xC0 0 (all G))
 requests S = Packet 0 0 (all S) ∷ replicate 3 (Event 0x52 0 (all S))
 requests (C b) = replicate 6 (Event 0x19 0 (all (C b)))
+requests B = replicate 4 (Event 0xC0 0 (all B))
 
 places : Device → List Place
 places d = placesFrom (counterCount d) 0
 
 formed : (d : Device) (a : Bool) → All (Formed (setup d a)) (requests d)
-unfolding setup requests all both either every bit onlyBits rising field matchBits maskBits firstHolding packetsOn offcoreOn pairsJudged allows inList eventsOf cboxEvents sinkMasks ringMasks starvedMasks bypassMasks codeIn pairIn maskNotListed kindNotOn notListed tooWide outOfRange incomplete conflicting requestRows requestRefusal allCounters counterCount
+unfolding setup requests all both either every bit onlyBits rising field matchBits maskBits firstHolding packetsOn offcoreOn pairsJudged allows inList eventsOf architecturalEvents preciseEvents cboxEvents sinkMasks ringMasks starvedMasks bypassMasks codeIn pairIn maskNotListed kindNotOn notListed tooWide outOfRange incomplete conflicting requestRows requestRefusal allCounters counterCount
 formed G a = cons refl (cons refl (cons refl (cons refl nil)))
 formed S a = cons refl (cons refl (cons refl (cons refl nil)))
 formed (C b) a = cons refl (cons refl (cons refl (cons refl (cons refl (cons refl nil)))))
+formed B a = cons refl (cons refl (cons refl (cons refl nil)))
 
 allowed : (d : Device) → Each Allowed (requests d) (places d)
 unfolding requests places placesFrom all allCounters counterCount has bit
 allowed G = and (event refl) (and (event refl) (and (event refl) (and (event refl) none)))
 allowed S = and (packet refl) (and (event refl) (and (event refl) (and (event refl) none)))
 allowed (C b) = and (event refl) (and (event refl) (and (event refl) (and (event refl) (and (event refl) (and (event refl) none)))))
+allowed B = and (event refl) (and (event refl) (and (event refl) (and (event refl) none)))
 
 one-word : (d : Device) (i : ℕ) → OneValue (ofAll (wordsOf i) (requests d) (places d))
 unfolding requests places placesFrom counterCount ofAll wordsOf
 one-word G i = (0, nil)
 one-word S i = (0, nil)
 one-word (C b) i = (0, nil)
+one-word B i = (0, nil)
 
 one-packet : (d : Device) → OneValue (flatMap packetsOf (requests d))
 unfolding requests flatMap packetsOf
 one-packet G = ((0, 0), nil)
 one-packet S = ((0, 0), cons refl nil)
 one-packet (C b) = ((0, 0), nil)
+one-packet B = ((0, 0), nil)
+
+-- none of them has a rule
+unruled : (d : Device) → All (λ (r : Request). ruleFor d r ≡ Anywhere) (requests d)
+unfolding requests ruleFor ruleOf hasRules ruleOnB both
+unruled G = cons refl (cons refl (cons refl (cons refl nil)))
+unruled S = cons refl (cons refl (cons refl (cons refl nil)))
+unruled (C b) = cons refl (cons refl (cons refl (cons refl (cons refl (cons refl nil)))))
+unruled B = cons refl (cons refl (cons refl (cons refl nil)))
 
 legal : (d : Device) (a : Bool) → Legal (setup d a) (requests d) (places d)
-unfolding places
+unfolding places setup
 legal d a =
+    let rules = no-rules (setup d a) (λ r m. ruled-events .anywhere d r .0 (all-member (unruled d) m)) (allowed d) in
     record {
       differ = all-differ (counterCount d) 0;
       usable-only = usable-from d a (counterCount d) 0 (omega arith);
       allowed = allowed d;
       one-word = λ i l. one-word d i;
       one-packet = one-packet d;
+      ruled = rules .ruled;
+      alone = rules .alone;
+      quiet = rules .quiet;
     }
 
 -- what it asks
@@ -221,6 +244,8 @@ length-is S true served = refl
 length-is S false served = refl
 length-is (C b) true served = refl
 length-is (C b) false served = refl
+length-is B true served = absurd (false≢true (served refl))
+length-is B false served = refl
 
 reached : (d : Device) (a : Bool) → (a ≡ true → overflowOn d ≡ true) → Reached d a
 unfolding setup

@@ -6,7 +6,7 @@ use mathlib.Core.Bool.{true}
 use mathlib.Core.List.{List, [], _∷_, List·Memᴰ, List·Memᴰ·head, List·Memᴰ·tail}
 use Prim.Native.Nat.{ℕ, _<_}
 use Rattle.requests.specs.declared.Device.{Device}
-use Rattle.requests.specs.declared.Device.the-variants.{G, S, C}
+use Rattle.requests.specs.declared.Device.the-variants.{G, S, C, B}
 use Rattle.requests.specs.declared.Setup.{Setup}
 use Rattle.requests.specs.declared.Request.{Request}
 use Rattle.requests.specs.Bits.{bit}
@@ -18,7 +18,7 @@ use Rattle.layouts.specs.RestWhileWritten.{LastWritten, Disabled, Cleare
 use Rattle.layouts.proofs.ListLaws.{all-member}
 use Rattle.layouts.proofs.DeviceFacts.{in-room, apart}
 use Rattle.layouts.proofs.WriteByWrite.{last-member}
-use Rattle.layouts.proofs.PlanFilters.{devices-differ, c-not-s}
+use Rattle.layouts.proofs.PlanFilters.{devices-differ, c-not-s, b-not-s}
 
 -- MATCH and MASK are filter registers of S
 match-filter : (d : Device) (a : ℕ) → d ≡ S → List·Memᴰ a (matchAt ∷ maskAt ∷ []) → List·Memᴰ a (filtersAt d)
@@ -26,12 +26,14 @@ unfolding filtersAt
 match-filter G a g m = absurd (devices-differ g)
 match-filter S a g m = List·Memᴰ·tail m
 match-filter (C b) a g m = absurd (c-not-s b g)
+match-filter B a g m = absurd (b-not-s g)
 
 mm-cfg-filter : (d : Device) → d ≡ S → List·Memᴰ mmCfgAt (filtersAt d)
 unfolding filtersAt
 mm-cfg-filter G g = absurd (devices-differ g)
 mm-cfg-filter S g = List·Memᴰ·head refl
 mm-cfg-filter (C b) g = absurd (c-not-s b g)
+mm-cfg-filter B g = absurd (b-not-s g)
 
 module _ (s : Setup) (rs : List Request) (b : List Write) where
   abbrev d : Device

@@ -5,7 +5,7 @@ use mathlib.Core.Option.{none, some}
 use Prim.Native.Nat.{ℕ, _<_}
 use lib.ListN.{getD, replicate}
 use Rattle.requests.specs.declared.Device.{Device}
-use Rattle.requests.specs.declared.Device.the-variants.{G, S, C}
+use Rattle.requests.specs.declared.Device.the-variants.{G, S, C, B}
 use Rattle.requests.specs.declared.Opening.{Opening}
 use Rattle.requests.specs.declared.Setup.{Setup}
 use Rattle.requests.specs.declared.Request.{Request}
@@ -28,6 +28,7 @@ abbrev pub FiltersShow : Device → FilterValues → (ℕ → ℕ) → Type 0
 FiltersShow G v r = (v .rsp0 ≡ r rsp0At) × (v .rsp1 ≡ r rsp1At)
 FiltersShow S v r = (v .«mm_cfg» ≡ r mmCfgAt) × (v .«match_word» ≡ r matchAt) × (v .«mask_word» ≡ r maskAt)
 FiltersShow (C b) v r = Unit {0}
+FiltersShow B v r = Unit {0}
 
 -- the values are those of the device's registers
 pub record Shows (d : Device) (v : RegisterValues) (r : ℕ → ℕ) : Type 0 where

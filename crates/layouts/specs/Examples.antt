@@ -1,12 +1,10 @@
--- Document 01, tries A, C and F, the empty plan, and plans on S and C: whole write lists, computed.
+-- Document 01, tries A, C and F, the empty plan, a plan on S, and one of order 2: whole write lists, computed.
 use mathlib.Core.Path.{_≡_}
 use mathlib.Core.List.{List, [], _∷_, map}
 use Prim.Native.Nat.{ℕ}
 use Rattle.requests.specs.declared.CounterSet.{CounterSet}
 use Rattle.requests.specs.declared.Device.{Device}
-use Rattle.requests.specs.declared.Device.the-variants.{G, S, C}
-use Rattle.requests.specs.declared.Core.{Core}
-use Rattle.requests.specs.declared.Core.the-variants.{At}
+use Rattle.requests.specs.declared.Device.the-variants.{G, S}
 use Rattle.requests.specs.declared.Setup.{Setup}
 use Rattle.requests.specs.declared.Request.{Request}
 use Rattle.requests.specs.declared.Request.the-variants.{Event, Packet, Offcore, Latency}
@@ -16,7 +14,7 @@ use Rattle.plans.specs.declared.Place.the-variants.{Counter, WithRsp, Pair}
 use Rattle.layouts.specs.Writes.{Write, writes}
 
 -- counters 0 to 3
-abbrev all : CounterSet
+abbrev pub all : CounterSet
 all = record { 0 = 15 }
 
 -- a set by its number
@@ -24,12 +22,8 @@ abbrev pub set : ℕ → CounterSet
 set n = record { 0 = n }
 
 -- a device with a usable set and fixed enables
-abbrev opened : Device → ℕ → ℕ → Setup
+abbrev pub opened : Device → ℕ → ℕ → Setup
 opened d usable fixed = record { device = d; usable = set usable; fixed = fixed; overflow = unasked }
-
--- a device with a usable set, a freeze and a core
-abbrev asking : Device → ℕ → ℕ → Core → Setup
-asking d usable freeze core = record { device = d; usable = set usable; fixed = 0; overflow = record { freeze = freeze; core = core } }
 
 -- a plan, and its whole write list
 pub record Plan : Type 0 where
@@ -38,7 +32,7 @@ pub record Plan : Type 0 where
   pub places : List Place
   pub written : List Write
 
--- plans of the tries, and one on S
+-- plans of the tries, and others
 unfoldable pub plans : List Plan
 plans =
     -- A. "event 1 C0 00 1" takes counter 0, "latency 2 0001 15 15" takes counter 1 with RSP0 and counter 2 with RSP1
@@ -151,104 +145,6 @@ plans =
           ∷ (0x00C2, 0x0000000000000000)
           ∷ (0x0187, 0x000000000043003C)
           ∷ (0x038F, 0x0000000200000003)
-          ∷ [];
-    }
-    -- order 3: "Writes are S's without the filter registers". C-Box 7: TRANS_IRQ takes counter 1, STARVED_EGRESS with mask 18 counter 0
-    ∷ record {
-      setup = opened (C 7) 63 0;
-      requests = Event 0x19 0x00 (set 63) ∷ Event 0x0B 0x18 (set 1) ∷ [];
-      places = Counter 1 ∷ Counter 0 ∷ [];
-      written =
-          (0x0DE0, 0x0000000000000000)
-          ∷ (0x0DF0, 0x0000000000000000)
-          ∷ (0x0DF2, 0x0000000000000000)
-          ∷ (0x0DF4, 0x0000000000000000)
-          ∷ (0x0DF6, 0x0000000000000000)
-          ∷ (0x0DF8, 0x0000000000000000)
-          ∷ (0x0DFA, 0x0000000000000000)
-          ∷ (0x0DF1, 0x0000000000000000)
-          ∷ (0x0DF3, 0x0000000000000000)
-          ∷ (0x0DF0, 0x000000000040180B)
-          ∷ (0x0DF2, 0x0000000000400019)
-          ∷ (0x0DE0, 0x0000000000000003)
-          ∷ [];
-    }
-    -- C-Box 1 with usable 48: TRANS_MAF takes counter 4
-    ∷ record {
-      setup = opened (C 1) 48 0;
-      requests = Event 0x1F 0x00 (set 63) ∷ [];
-      places = Counter 4 ∷ [];
-      written =
-          (0x0D80, 0x000000000000000F)
-          ∷ (0x0D98, 0x0000000000000000)
-          ∷ (0x0D9A, 0x0000000000000000)
-          ∷ (0x0D99, 0x0000000000000000)
-          ∷ (0x0D98, 0x000000000040001F)
-          ∷ (0x0D80, 0x000000000000001F)
-          ∷ [];
-    }
-    -- order 7: S with freeze 1 and core 2
-    ∷ record {
-      setup = asking S 15 1 (At 2);
-      requests = Event 0x52 0x00 all ∷ [];
-      places = Counter 0 ∷ [];
-      written =
-          (0x0C00, 0x0000000000000000)
-          ∷ (0x0C40, 0x0000000000000000)
-          ∷ (0x0C50, 0x0000000000000000)
-          ∷ (0x0C52, 0x0000000000000000)
-          ∷ (0x0C54, 0x0000000000000000)
-          ∷ (0x0C56, 0x0000000000000000)
-          ∷ (0x0E48, 0x0000000000000000)
-          ∷ (0x0C51, 0x0000000000000000)
-          ∷ (0x0C50, 0x0000000000500052)
-          ∷ (0x0C40, 0x0000000000000001)
-          ∷ (0x0C00, 0x0000000090000008)
-          ∷ [];
-    }
-    -- S with core 0 alone: a packet on counter 1
-    ∷ record {
-      setup = asking S 2 0 (At 0);
-      requests = Packet 0x0123456789ABCDEF 0x0000007F00000000 all ∷ [];
-      places = Counter 1 ∷ [];
-      written =
-          (0x0C00, 0x0000000000000000)
-          ∷ (0x0C40, 0x000000000000000D)
-          ∷ (0x0C52, 0x0000000000000000)
-          ∷ (0x0E48, 0x0000000000000000)
-          ∷ (0x0E49, 0x0123456789ABCDEF)
-          ∷ (0x0E4A, 0x0000007F00000000)
-          ∷ (0x0E48, 0x8000000000000000)
-          ∷ (0x0C53, 0x0000000000000000)
-          ∷ (0x0C52, 0x0000000000500000)
-          ∷ (0x0C40, 0x000000000000000F)
-          ∷ (0x0C00, 0x0000000010000002)
-          ∷ [];
-    }
-    -- C-Box 0 with usable 1 and core 7: the empty plan
-    ∷ record {
-      setup = asking (C 0) 1 0 (At 7);
-      requests = [];
-      places = [];
-      written =
-          (0x0C00, 0x0000000000000000)
-          ∷ (0x0D00, 0x000000000000003E)
-          ∷ (0x0D10, 0x0000000000000000)
-          ∷ (0x0D00, 0x000000000000003E)
-          ∷ (0x0C00, 0x0000000010000100)
-          ∷ [];
-    }
-    -- freeze alone, and a core that open refuses: no bit of it
-    ∷ record {
-      setup = asking (C 7) 1 1 (At 8);
-      requests = [];
-      places = [];
-      written =
-          (0x0C00, 0x0000000000000000)
-          ∷ (0x0DE0, 0x000000000000003E)
-          ∷ (0x0DF0, 0x0000000000000000)
-          ∷ (0x0DE0, 0x000000000000003E)
-          ∷ (0x0C00, 0x0000000090000000)
           ∷ [];
     }
     ∷ []

@@ -1,4 +1,4 @@
--- Register tables: addresses, and the bits of each layout. G: SDM volume 3, documents 001, 002. S: document 004, section 2.5, but for
+-- Register tables: addresses, and the bits of each layout. G and B: SDM volume 3, documents 001 to 003. S: document 004, section 2.5, but for
 -- the addresses of MM_CFG, MATCH and MASK, which our extract of 004 lacks: they are the kernel driver's (docs/DECISIONS.md, 1).
 -- C: document 004, section 2.3, where our extract has GLOBAL_CTL and EVT_SEL0 of box 0; the rest is the kernel driver's.
 -- U-Box, which S and C share: document 004, section 2.1, and for the places of en_all and pmi_core_sel the kernel driver.
@@ -9,7 +9,7 @@ use lib.Dec.{eqb}
 use lib.ListN.{getD}
 use Rattle.requests.specs.Choice.{both, pick}
 use Rattle.requests.specs.declared.Device.{Device}
-use Rattle.requests.specs.declared.Device.the-variants.{G, S, C}
+use Rattle.requests.specs.declared.Device.the-variants.{G, S, C, B}
 use Rattle.requests.specs.declared.Setup.{Setup}
 use Rattle.requests.specs.Bits.{rsp0Bits, rsp1Bits, field, matchBits, maskBits}
 use Rattle.requests.specs.Askings.{asked}
@@ -40,12 +40,13 @@ cboxGlobals =
 unfoldable pub cboxGlobal : ℕ → ℕ
 cboxGlobal b = getD cboxGlobals b 0x0D00
 
--- G: IA32_PERF_GLOBAL_CTRL, IA32_PERFEVTSEL0, IA32_PMC0. S: S_MSR_PMON_GLOBAL_CTL, S_MSR_PMON_CTL0, S_MSR_PMON_CTR0.
+-- G and B: IA32_PERF_GLOBAL_CTRL, IA32_PERFEVTSEL0, IA32_PMC0. S: S_MSR_PMON_GLOBAL_CTL, S_MSR_PMON_CTL0, S_MSR_PMON_CTR0.
 -- C: CBx_CR_C_MSR_PMON_GLOBAL_CTL, .._EVT_SEL_0, .._CTR_0
 unfoldable pub layoutOf : Device → Layout
 layoutOf G = record { global = 0x038F; control = 0x0186; counter = 0x00C1; step = 1 }
 layoutOf S = record { global = 0x0C40; control = 0x0C50; counter = 0x0C51; step = 2 }
 layoutOf (C b) = record { global = cboxGlobal b; control = cboxGlobal b + 0x10; counter = cboxGlobal b + 0x11; step = 2 }
+layoutOf B = record { global = 0x038F; control = 0x0186; counter = 0x00C1; step = 1 }
 
 -- the control register of counter k
 unfoldable pub controlAt : Device → ℕ → ℕ
@@ -79,7 +80,7 @@ maskAt = 0x0E4A
 unfoldable pub uboxAt : ℕ
 uboxAt = 0x0C00
 
--- IA32_PEBS_ENABLE (order 12)
+-- IA32_PEBS_ENABLE, of B (order 12)
 unfoldable pub pebsAt : ℕ
 pebsAt = 0x03F1
 
@@ -88,28 +89,32 @@ unfoldable pub pebsOn : Device → Bool
 pebsOn G = false
 pebsOn S = false
 pebsOn (C b) = false
+pebsOn B = true
 
 -- the filter registers of the device
 unfoldable pub filtersAt : Device → List ℕ
 filtersAt G = rsp0At ∷ rsp1At ∷ []
 filtersAt S = mmCfgAt ∷ matchAt ∷ maskAt ∷ []
 filtersAt (C b) = []
+filtersAt B = []
 
 -- ---- fields
 
--- what a control register has. G: event 7:0, unit mask 15:8, USR, OS, E, PC, INT 20:16, EN, INV, CMASK 31:22.
+-- what a control register has. G and B: event 7:0, unit mask 15:8, USR, OS, E, PC, INT 20:16, EN, INV, CMASK 31:22.
 -- S: ev_sel 7:0, umask 15:8, reset_occ_cnt 17, edge_detect 18, pmi_en 20, enable 22, invert 23, threshold 31:24.
 -- C (table 2-13): ev_sel 7:0, umask 15:8, edge_detect 18, pmi_en 20, en 22, invert 23, threshold 31:24
 unfoldable pub controlBits : Device → List ℕ
 controlBits G = field 7 0 ++ field 15 8 ++ field 20 16 ++ field 31 22
 controlBits S = field 7 0 ++ field 15 8 ++ field 18 17 ++ field 20 20 ++ field 22 22 ++ field 23 23 ++ field 31 24
 controlBits (C b) = field 7 0 ++ field 15 8 ++ field 18 18 ++ field 20 20 ++ field 22 22 ++ field 23 23 ++ field 31 24
+controlBits B = field 7 0 ++ field 15 8 ++ field 20 16 ++ field 31 22
 
--- what the global control register has. G: general counters 3:0, fixed counters 34:32. S: ctr_en 3:0. C (table 2-10): ctr_en 5:0
+-- what the global control register has. G and B: general counters 3:0, fixed counters 34:32. S: ctr_en 3:0. C (table 2-10): ctr_en 5:0
 unfoldable pub globalBits : Device → List ℕ
 globalBits G = field 3 0 ++ field 34 32
 globalBits S = field 3 0
 globalBits (C b) = field 5 0
+globalBits B = field 3 0 ++ field 34 32
 
 -- MM_CFG: enable (004, 2.5.3.4: "reg bit 63")
 unfoldable pub mmEnable : ℕ
@@ -140,11 +145,12 @@ pebsBits = field 1 1 ++ field 3 3 ++ field 63 63
 
 -- ---- control words
 
--- the bits that every event word of a device has. G: USR 16, OS 17, EN 22. S: enable 22. C: en 22
+-- the bits that every event word of a device has. G and B: USR 16, OS 17, EN 22. S: enable 22. C: en 22
 unfoldable pub enabledOn : Device → ℕ
 enabledOn G = 0x430000
 enabledOn S = 0x400000
 enabledOn (C b) = 0x400000
+enabledOn B = 0x430000
 
 -- pmi_en of a control register (004, tables 2-13 and 2-30)
 unfoldable pub pmiEnable : ℕ
@@ -206,3 +212,4 @@ registersOf S =
     ∷ tabulate (counterCount S) (λ k. (controlAt S k, controlBits S))
 registersOf (C b) =
     (layoutOf (C b) .global, globalBits (C b)) ∷ (uboxAt, uboxBits) ∷ tabulate (counterCount (C b)) (λ k. (controlAt (C b) k, controlBits (C b)))
+registersOf B = (layoutOf B .global, globalBits B) ∷ (pebsAt, pebsBits) ∷ tabulate (counterCount B) (λ k. (controlAt B k, controlBits B))

@@ -13,6 +13,7 @@ pub mod FixedEnables
 pub mod UsedEnabled
 pub mod UBox
 pub mod RestWhileWritten
+pub mod PreciseEvents
 pub mod WriteCount
 pub mod SliceNumbers
 pub mod EmptyPlan
@@ -21,6 +22,7 @@ pub mod ExactReader
 pub mod NotLookedAt
 pub mod ToldPlaces
 pub mod Examples
+pub mod OrderExamples
 pub mod ReadingExamples
 -- The code's own: how it holds its values. No claim.
 pub mod Slices

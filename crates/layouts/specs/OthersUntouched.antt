@@ -6,6 +6,7 @@ use mathlib.Core.Bool.{true, false}
 use Prim.Native.Nat.{ℕ, _+_, _<_}
 use lib.Dec.{ltb}
 use Rattle.requests.specs.Choice.{both}
+use Rattle.requests.specs.declared.Device.the-variants.{B}
 use Rattle.requests.specs.declared.Setup.{Setup}
 use Rattle.requests.specs.declared.Request.{Request}
 use Rattle.requests.specs.Bits.{bit}
@@ -13,7 +14,7 @@ use Rattle.requests.specs.Askings.{asked}
 use Rattle.requests.specs.Devices.{has, counterCount, fixedCount}
 use Rattle.plans.specs.declared.Place.{Place}
 use Rattle.plans.specs.Legal.{Legal, Usable}
-use Rattle.layouts.specs.Layout.{layoutOf, controlAt, counterAt, filtersAt, uboxAt, pebsAt, pebsOn}
+use Rattle.layouts.specs.Layout.{layoutOf, controlAt, counterAt, filtersAt, uboxAt, pebsAt}
 use Rattle.layouts.specs.Writes.{writes, apply}
 
 -- the registers that the session may write
@@ -25,7 +26,7 @@ pub data Ours (s : Setup) : ℕ → Type 0 where
   -- "only there the U-Box's enable stays with the host": where nothing is asked
   ubox : asked s ≡ true → Ours s uboxAt
   -- order 12: "That register belongs wholly to the session"
-  pebs : pebsOn (s .device) ≡ true → Ours s pebsAt
+  pebs : s .device ≡ B → Ours s pebsAt
 
 pub record OthersUntouched : Type 0 where
   -- every other register keeps its value

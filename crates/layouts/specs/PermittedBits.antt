@@ -3,7 +3,7 @@ use mathlib.Core.Path.{_≡_}
 use mathlib.Core.List.{List, [], _∷_, map}
 use Prim.Native.Nat.{ℕ, _+_}
 use Rattle.requests.specs.declared.Device.{Device}
-use Rattle.requests.specs.declared.Device.the-variants.{G, S, C}
+use Rattle.requests.specs.declared.Device.the-variants.{G, S, C, B}
 use Rattle.requests.specs.Bits.{inList}
 use Rattle.layouts.specs.Layout.{cboxGlobal, Register, registersOf}
 use Rattle.layouts.specs.Settings.{setFrom}
@@ -52,6 +52,16 @@ permittedOf (C b) =
     ∷ (global + 0x16, 0x00000000FFD4FFFF)
     ∷ (global + 0x18, 0x00000000FFD4FFFF)
     ∷ (global + 0x1A, 0x00000000FFD4FFFF)
+    ∷ []
+permittedOf B =
+    -- as on G
+    (0x038F, 0x000000070000000F)
+    -- IA32_PEBS_ENABLE: 1 (003, 18.9.4.4), 3 and 63 (003, 18.9.4.3)
+    ∷ (0x03F1, 0x800000000000000A)
+    ∷ (0x0186, 0x00000000FFDFFFFF)
+    ∷ (0x0187, 0x00000000FFDFFFFF)
+    ∷ (0x0188, 0x00000000FFDFFFFF)
+    ∷ (0x0189, 0x00000000FFDFFFFF)
     ∷ []
 
 -- the word that has the bits of the list

@@ -6,7 +6,7 @@ use lib.Dec.{leb, eqb}
 use lib.ListN.{getD, replicate}
 use Rattle.requests.specs.declared.CounterSet.{CounterSet}
 use Rattle.requests.specs.declared.Device.{Device}
-use Rattle.requests.specs.declared.Device.the-variants.{G, S, C}
+use Rattle.requests.specs.declared.Device.the-variants.{G, S, C, B}
 use Rattle.requests.specs.declared.Opening.{Opening}
 use Rattle.requests.specs.declared.Setup.{Setup}
 use Rattle.requests.specs.declared.Request.the-variants.{Event, Packet, Offcore, Latency}
@@ -15,9 +15,12 @@ use Rattle.requests.specs.declared.Refusal.the-variants.{BadOpening, NotLeftByP
 use Rattle.requests.specs.declared.Answer.the-variants.{Accepted, Refused}
 use Rattle.requests.specs.Choice.{both, either, every, pick}
 use Rattle.requests.specs.Bits.{outstanding, latencyWord}
-use Rattle.requests.specs.Devices.{has, counterCount, capacity, setupOf}
+use Rattle.requests.specs.Devices.{has, counterCount, allCounters, capacity, setupOf}
 use Rattle.requests.specs.Askings.{asked}
+use Rattle.requests.specs.EventRules.{ruleOf}
 use Rattle.requests.specs.Checks.{formed}
+use Rattle.requests.specs.declared.EventRule.{EventRule}
+use Rattle.requests.specs.declared.EventRule.the-variants.{Anywhere, OnlyOn, AloneOn}
 use Rattle.layouts.specs.Layout.{tabulate, pebsOn, mmEnable, eventWord, rspWord, packetWord, codeOf, maskOf}
 use Rattle.layouts.specs.Settings.{setFrom}
 use Rattle.layouts.specs.Writes.{lastGlobal, uboxValue, pebsEnable}
@@ -45,13 +48,14 @@ noCounter = record { 0 = 0 }
 
 -- ---- which values some plan leaves
 
--- the control word of a filter event: of an RSP register on G, of the match/mask register on S; C has none
+-- the control word of a filter event: of an RSP register on G, of the match/mask register on S; C and B have none
 unfoldable pub filterWord : Setup → ℕ → Bool
 filterWord s w =
     elim (s .device) [
       | G ↦ either (eqb w (rspWord s 0)) (eqb w (rspWord s 1))
       | S ↦ eqb w (packetWord s)
       | C b ↦ false
+      | B ↦ false
     ]
 
 -- a control value: 0, or the word of a well-formed event or of a filter event
@@ -91,11 +95,26 @@ filtersFit s f v =
           both (rsp1Fits s n1 (v .rsp1)) (rsp0Fits s n0 n1 (v .rsp0) (v .rsp1))
       | S ↦ packetsFit s (count n f (packetWord s)) v
       | C b ↦ true
+      | B ↦ true
     ]
 
 -- the value of the U-Box, which is checked "only where something is asked"
 unfoldable pub uboxFits : Setup → ℕ → Bool
 uboxFits s v = either (not (asked s)) (eqb v (uboxValue s))
+
+-- whether every counter but k is off
+unfoldable pub othersOff : Setup → (ℕ → ℕ) → ℕ → Bool
+othersOff s f k = every (counterCount (s .device)) (λ i. either (eqb i k) (eqb (f i) 0))
+
+-- whether an event with the rule may run on counter k: where it wants every other counter quiet, all are usable and the others are off
+unfoldable pub mayRun : Setup → (ℕ → ℕ) → ℕ → EventRule → Bool
+mayRun s f k Anywhere = true
+mayRun s f k (OnlyOn j) = eqb k j
+mayRun s f k (AloneOn j) = both (eqb k j) (both (eqb (s .usable .0) (allCounters (s .device))) (othersOff s f k))
+
+-- the rule of the event that counter k counts
+unfoldable pub ruleFits : Setup → (ℕ → ℕ) → ℕ → Bool
+ruleFits s f k = mayRun s f k (ruleOf (s .device) (codeOf (f k)) (maskOf (f k)))
 
 -- the value of IA32_PEBS_ENABLE beside the control values f, where the device has it
 unfoldable pub pebsFits : Device → (ℕ → ℕ) → ℕ → Bool
@@ -109,7 +128,8 @@ accepts s v =
     (both (eqb (v .global) (lastGlobal s (setFrom n 0 (λ k. not (eqb (ours s v k) 0)))))
     (both (filtersFit s (ours s v) (v .filters))
     (both (uboxFits s (v .ubox))
-    (pebsFits (s .device) (ours s v) (v .pebs)))))
+    (both (pebsFits (s .device) (ours s v) (v .pebs))
+    (every n (ruleFits s (ours s v)))))))
 
 -- ---- what is told
 
@@ -120,6 +140,7 @@ filterOf s v w =
       | G ↦ pick (eqb w (rspWord s 0)) (Rsp 0 (v .rsp0)) (pick (eqb w (rspWord s 1)) (Rsp 1 (v .rsp1)) NoFilter)
       | S ↦ pick (eqb w (packetWord s)) (MatchMask (v .«match_word») (v .«mask_word»)) NoFilter
       | C b ↦ NoFilter
+      | B ↦ NoFilter
     ]
 
 -- "off, or event with its filter register and words"

@@ -30,6 +30,11 @@ onS control c x y g =
 abbrev onC : List ℕ → ℕ → RegisterValues
 onC control g = record { control = control ++ 0 ∷ 0 ∷ []; filters = record { rsp0 = 0; rsp1 = 0; «mm_cfg» = 0; «match_word» = 0; «mask_word» = 0 }; global = g; ubox = 0; pebs = 0 }
 
+-- values on B: control values, global control, IA32_PEBS_ENABLE
+abbrev onB : List ℕ → ℕ → ℕ → RegisterValues
+onB control g p =
+    record { control = control ++ 0 ∷ 0 ∷ 0 ∷ 0 ∷ []; filters = record { rsp0 = 0; rsp1 = 0; «mm_cfg» = 0; «match_word» = 0; «mask_word» = 0 }; global = g; ubox = 0; pebs = p }
+
 -- an opening, with register values
 pub record Given : Type 0 where
   pub opening : Opening
@@ -103,6 +108,11 @@ acceptances =
     ∷ record { given = asked 83 1 NoCore 0x500052 1 0x90000000; tells = counting 0x52 0x00 none [] ∷ off ∷ off ∷ off ∷ [] }
     ∷ record { given = asked 83 0 NoCore 0x400052 1 0xFFFFFFFF; tells = counting 0x52 0x00 none [] ∷ off ∷ off ∷ off ∷ [] }
     ∷ record { given = asked 71 0 NoCore 0x4300C0 1 0x90000000; tells = counting 0xC0 0x00 none [] ∷ off ∷ off ∷ off ∷ [] }
+    -- order 12: C0/01 in counter 1 alone; CD/02 in counter 3, beside others and with another usable set; neither, with C0/00 in counter 1
+    ∷ record { given = given 66 15 0 (onB (0 ∷ 0x4301C0 ∷ 0 ∷ 0 ∷ []) 2 2); tells = off ∷ counting 0xC0 0x01 none [] ∷ off ∷ off ∷ [] }
+    ∷ record { given = given 66 15 0 (onB (0x43003C ∷ 0 ∷ 0 ∷ 0x4302CD ∷ []) 9 0x8000000000000008); tells = counting 0x3C 0x00 none [] ∷ off ∷ off ∷ counting 0xCD 0x02 none [] ∷ [] }
+    ∷ record { given = given 66 14 2 (onB (0x4301C0 ∷ 0 ∷ 0 ∷ 0x4302CD ∷ []) 0x200000009 0x8000000000000008); tells = notOurs ∷ off ∷ off ∷ counting 0xCD 0x02 none [] ∷ [] }
+    ∷ record { given = given 66 15 0 (onB (0 ∷ 0x4300C0 ∷ 0 ∷ 0 ∷ []) 2 0); tells = off ∷ counting 0xC0 0x00 none [] ∷ off ∷ off ∷ [] }
     ∷ []
 
 -- what is told of an example; the counters past the device's are not ours
@@ -168,6 +178,18 @@ refusals =
     ∷ refusedAs 3 (asked 83 2 NoCore 0x500052 1 0x90000000)
     ∷ refusedAs 3 (asked 83 1 (At 8) 0x500052 1 0x90000000)
     ∷ refusedAs 3 (asked 71 1 NoCore 0x4300C0 1 0x90000000)
+    -- order 12: another value beside C0/01; another event beside it; in another counter; with another usable set
+    ∷ refusedAs 15 (given 66 15 0 (onB (0 ∷ 0x4301C0 ∷ 0 ∷ 0 ∷ []) 2 0))
+    ∷ refusedAs 15 (given 66 15 0 (onB (0 ∷ 0x4301C0 ∷ 0 ∷ 0 ∷ []) 2 0xA))
+    ∷ refusedAs 15 (given 66 15 0 (onB (0x4300C0 ∷ 0x4301C0 ∷ 0 ∷ 0 ∷ []) 3 2))
+    ∷ refusedAs 15 (given 66 15 0 (onB (0x4301C0 ∷ 0 ∷ 0 ∷ 0 ∷ []) 1 2))
+    ∷ refusedAs 15 (given 66 14 0 (onB (0 ∷ 0x4301C0 ∷ 0 ∷ 0 ∷ []) 3 2))
+    -- CD/02 without bit 63, and in another counter; a value without either; C0/01 is not on G, and open asks nothing of B
+    ∷ refusedAs 15 (given 66 15 0 (onB (0 ∷ 0 ∷ 0 ∷ 0x4302CD ∷ []) 8 8))
+    ∷ refusedAs 15 (given 66 15 0 (onB (0 ∷ 0 ∷ 0x4302CD ∷ 0 ∷ []) 4 0x8000000000000004))
+    ∷ refusedAs 15 (given 66 15 0 (onB (0x43003C ∷ 0 ∷ 0 ∷ 0 ∷ []) 1 0x8000000000000000))
+    ∷ refusedAs 15 (given 71 15 0 (onG (0 ∷ 0x4301C0 ∷ 0 ∷ 0 ∷ []) 0 0 2))
+    ∷ refusedAs 3 (asked 66 1 NoCore 0x43003C 1 0x90000000)
     ∷ []
 
 pub record ReadingExamples : Type 0 where

@@ -1,4 +1,5 @@
--- "At most 16 writes on G and 18 on S." On C 20: six counters, and no filter registers. Two more where something is asked of the U-Box.
+-- "At most 16 writes on G and 18 on S." On C 20: six counters, and no filter registers. On B 15: G's without 01A6 and 01A7, and with 03F1.
+-- Two more where something is asked of the U-Box.
 use mathlib.Core.Path.{_≡_}
 use mathlib.Core.List.{List}
 use mathlib.Core.Option.{some}
@@ -6,7 +7,7 @@ use mathlib.Core.Bool.{Bool, true, false}
 use Prim.Native.Nat.{ℕ, _≤_}
 use lib.ListN.{length}
 use Rattle.requests.specs.declared.Device.{Device}
-use Rattle.requests.specs.declared.Device.the-variants.{G, S, C}
+use Rattle.requests.specs.declared.Device.the-variants.{G, S, C, B}
 use Rattle.requests.specs.declared.Setup.{Setup}
 use Rattle.requests.specs.declared.Request.{Request}
 use Rattle.requests.specs.Askings.{overflowOn, asked}
@@ -25,6 +26,7 @@ writeLimit S false = 18
 writeLimit S true = 20
 writeLimit (C b) false = 20
 writeLimit (C b) true = 22
+writeLimit B a = 15
 
 -- a legal plan of well-formed requests that has as many writes
 pub record Reached (d : Device) (a : Bool) : Type 0 where

@@ -1,4 +1,4 @@
--- Document 01, 'Writes, in order', and order 7's frame.
+-- Document 01, 'Writes, in order', order 7's frame, and order 12's IA32_PEBS_ENABLE.
 use mathlib.Core.List.{List, [], _∷_, _++_}
 use mathlib.Core.Bool.{Bool, true, false}
 use Prim.Native.Nat.{ℕ, zero, suc, _+_, _*_, _-_, _%_, _^_}
@@ -6,7 +6,7 @@ use lib.Dec.{ltb, eqb}
 use lib.ListN.{length, getD, drop, replicate}
 use Rattle.requests.specs.declared.CounterSet.{CounterSet}
 use Rattle.requests.specs.declared.Device.{Device}
-use Rattle.requests.specs.declared.Device.the-variants.{G, S, C}
+use Rattle.requests.specs.declared.Device.the-variants.{G, S, C, B}
 use Rattle.requests.specs.declared.Core.{Core}
 use Rattle.requests.specs.declared.Core.the-variants.{NoCore, At}
 use Rattle.requests.specs.declared.Setup.{Setup}
@@ -71,6 +71,7 @@ unfoldable pub filterWrites : Device → Settings → List Write
 filterWrites G t = offcoreWrites (t .rsp0) (t .rsp1)
 filterWrites S t = packetWrites (t .packets) (t .«match_word») (t .«mask_word»)
 filterWrites (C b) t = []
+filterWrites B t = []
 
 -- the value of IA32_PEBS_ENABLE beside the control words f: for INST_RETIRED.ALL "must use IA32_PMC1 .. and bit 1 in the IA32_PEBS_ENABLE set to 1";
 -- for MEM_TRANS_RETIRED.PRECISE_STORE "Set IA32_PEBS_ENABLE[3] and IA32_PEBS_ENABLE[63]"; "0 .. when neither is taken"
