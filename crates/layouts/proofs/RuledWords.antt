@@ -1,4 +1,5 @@
 -- The rules of events: a legal plan's control words keep them, and a plan whose control words keep them is legal as to them. Assumes nothing.
+--     unruled                 a device without rules has none to keep
 --     rules-kept              the words of a legal plan pass the reader's test of rules
 --     RulesKept, rules-of     what Legal asks of them, of a plan whose words pass it
 --     no-rules                where no request has a rule, nothing
@@ -52,7 +53,7 @@ counter-path j k e = cc
 -- ---- a legal plan's words
 
 -- a device without rules
-unruled : (d : Device) (u : Setup) (f : ℕ → ℕ) (k : ℕ) → hasRules d ≡ false → ruleFits (on d u) f k ≡ true
+pub unruled : (d : Device) (u : Setup) (f : ℕ → ℕ) (k : ℕ) → hasRules d ≡ false → ruleFits (on d u) f k ≡ true
 unfolding ruleFits mayRun ruleOf
 unruled d u f k h = rw h
 

@@ -1,6 +1,6 @@
 -- The reader's answer from its tests: the filter registers of each device, and the whole of the values.
 use mathlib.Core.Path.{_≡_, sym, ap, _∙_, refl}
-use mathlib.Core.Bool.{true, false, not}
+use mathlib.Core.Bool.{Bool, true, false, not}
 use mathlib.Core.List.{List}
 use Prim.Native.Nat.{ℕ}
 use native.Mathlib.Omega.{arith}
@@ -8,14 +8,14 @@ use lib.Dec.{eqb}
 use lib.ListN.{getD}
 use borrow.Author.Tests.{eq-eqb, ne-eqb}
 use Rattle.requests.specs.declared.Device.{Device}
-use Rattle.requests.specs.declared.Device.the-variants.{G, S, C}
+use Rattle.requests.specs.declared.Device.the-variants.{G, S, C, B}
 use Rattle.requests.specs.declared.Setup.{Setup}
 use Rattle.requests.specs.Choice.{both, every}
 use Rattle.requests.specs.Devices.{counterCount}
 use Rattle.layouts.specs.Layout.{rspWord, packetWord}
 use Rattle.layouts.specs.Settings.{setFrom}
 use Rattle.layouts.specs.Writes.{lastGlobal}
-use Rattle.layouts.specs.Read.{ours, count, controlFits, rsp1Fits, rsp0Fits, packetsFit, filtersFit, uboxFits, accepts}
+use Rattle.layouts.specs.Read.{ours, count, controlFits, rsp1Fits, rsp0Fits, packetsFit, filtersFit, uboxFits, pebsFits, ruleFits, accepts}
 use Rattle.layouts.specs.declared.FilterValues.{FilterValues}
 use Rattle.layouts.specs.declared.RegisterValues.{RegisterValues}
 use Rattle.layouts.proofs.UsableSets.{on}
@@ -29,6 +29,7 @@ module _ (f : ℕ → ℕ) (v : FilterValues) where
   filters-G G u n0 n1 e e0 e1 = rw (e0, e1)
   filters-G S u n0 n1 e e0 e1 = let z : _≡_ {A = ℕ} 0 1 = cc in absurd (omega arith)
   filters-G (C b) u n0 n1 e e0 e1 = let z : _≡_ {A = ℕ} 0 1 = cc in absurd (omega arith)
+  filters-G B u n0 n1 e e0 e1 = let z : _≡_ {A = ℕ} 0 1 = cc in absurd (omega arith)
 
   pub filters-S : (d : Device) (u : Setup) (n : ℕ) → d ≡ S → n ≡ count (counterCount d) f (packetWord (on d u))
       → packetsFit (on d u) n v ≡ filtersFit (on d u) f v
@@ -36,12 +37,7 @@ module _ (f : ℕ → ℕ) (v : FilterValues) where
   filters-S S u n e en = rw en
   filters-S G u n e en = let z : _≡_ {A = ℕ} 0 1 = cc in absurd (omega arith)
   filters-S (C b) u n e en = let z : _≡_ {A = ℕ} 0 1 = cc in absurd (omega arith)
-
-  pub filters-C : (d : Device) (u : Setup) (b : ℕ) → d ≡ C b → true ≡ filtersFit (on d u) f v
-  unfolding filtersFit
-  filters-C (C x) u b e = refl
-  filters-C G u b e = let z : _≡_ {A = ℕ} 0 1 = cc in absurd (omega arith)
-  filters-C S u b e = let z : _≡_ {A = ℕ} 0 1 = cc in absurd (omega arith)
+  filters-S B u n e en = let z : _≡_ {A = ℕ} 0 1 = cc in absurd (omega arith)
 
 -- ---- the values
 
@@ -62,15 +58,23 @@ module _ (s : Setup) (v : RegisterValues) (words : List ℕ) (same : (λ k. getD
   filters : filtersFit s (λ k. getD words k 0) (v .filters) ≡ filtersFit s (ours s v) (v .filters)
   filters = ap (λ (f : ℕ → ℕ). filtersFit s f (v .filters)) same
 
+  -- the test of IA32_PEBS_ENABLE and of the rules
+  abbrev pub precise : (ℕ → ℕ) → Bool
+  precise f = both (pebsFits (s .device) f (v .pebs)) (every (counterCount (s .device)) (ruleFits s f))
+
   -- the words and the global value fit
   module _ (fit : every limit (λ k. controlFits s (getD words k 0)) ≡ true) (global : v .global ≡ lastGlobal s used) where
-    by-filters : both (filtersFit s (ours s v) (v .filters)) (uboxFits s (v .ubox)) ≡ accepts s v
+    by-filters : both (filtersFit s (ours s v) (v .filters)) (both (uboxFits s (v .ubox)) (precise (ours s v))) ≡ accepts s v
     unfolding accepts both
     by-filters = rw (sym controls ∙ fit, eq-eqb (v .global) (lastGlobal s (setFrom limit 0 (λ k. not (eqb (ours s v k) 0)))) (global ∙ counting))
 
-    pub accepts-by-ubox : filtersFit s (λ k. getD words k 0) (v .filters) ≡ true → uboxFits s (v .ubox) ≡ accepts s v
+    pub accepts-by-precise : (r : Bool) → r ≡ precise (λ k. getD words k 0) → filtersFit s (λ k. getD words k 0) (v .filters) ≡ true → uboxFits s (v .ubox) ≡ true → r ≡ accepts s v
     unfolding both
-    accepts-by-ubox h = rw (← by-filters, sym filters ∙ h)
+    accepts-by-precise r e h g = e ∙ ap precise same ∙ rw (← by-filters, sym filters ∙ h, g)
+
+    pub ubox-refused : filtersFit s (λ k. getD words k 0) (v .filters) ≡ true → uboxFits s (v .ubox) ≡ false → false ≡ accepts s v
+    unfolding both
+    ubox-refused h g = rw (← by-filters, sym filters ∙ h, g)
 
     pub filters-refused : filtersFit s (λ k. getD words k 0) (v .filters) ≡ false → false ≡ accepts s v
     unfolding both

@@ -1,6 +1,6 @@
 -- How long the write list is, and what the writer answers where it has room and where not.
 use mathlib.Core.Path.{_≡_, refl, ap, _∙_}
-use mathlib.Core.List.{List, [], _∷_, _++_}
+use mathlib.Core.List.{List, [], _∷_, _++_, append-assoc}
 use mathlib.Core.Bool.{Bool, true, false}
 use Prim.Native.Nat.{ℕ, _+_, _*_, _≤_, _<_}
 use native.Mathlib.Nat.{le-refl, zero-add}
@@ -18,9 +18,9 @@ use Rattle.requests.specs.Devices.{size, counterCount, capacity}
 use Rattle.plans.proofs.Members.{size-at-most}
 use Rattle.plans.proofs.PlanLengthHolds.{plan-length}
 use Rattle.layouts.proofs.DeviceFacts.{facts}
-use Rattle.layouts.proofs.WriteCount.{filter-length}
-use Rattle.layouts.specs.Layout.{layoutOf, uboxAt}
-use Rattle.layouts.specs.Writes.{Write, row, rows, zeros, flat, filled, firstGlobal, lastGlobal, packetWrites, filterWrites, uboxValue, boxWrites, writesFor}
+use Rattle.layouts.proofs.WriteCount.{filter-length, precise-length}
+use Rattle.layouts.specs.Layout.{layoutOf, uboxAt, pebsOn}
+use Rattle.layouts.specs.Writes.{Write, row, rows, zeros, flat, filled, firstGlobal, lastGlobal, packetWrites, filterWrites, preciseWrites, uboxValue, boxWrites, writesFor}
 use Rattle.layouts.specs.Slices.{Appended, Wrote, tooShort, writeAnswer, writtenAnswer, writtenCount, writeSlice}
 use Rattle.layouts.specs.declared.Layout.{Layout}
 use Rattle.layouts.specs.declared.Settings.{Settings}
@@ -43,8 +43,8 @@ unfolding packetWrites
 length-packets true x y = refl
 length-packets false x y = refl
 
-pub filters-small : (d : Device) (t : Settings) → length (filterWrites d t) ≤ 4
-filters-small d t = omega (arith, filter-length d t, facts d .filter-small)
+pub extra-small : (d : Device) (t : Settings) → length (filterWrites d t) + length (preciseWrites d t) ≤ 5
+extra-small d t = omega (arith, filter-length d t, facts d .filter-small, precise-length d t, pick-small (pebsOn d))
 
 -- the parts of the list, with the number of counters and the layout as the code has them
 module _ (s : Setup) (t : Settings) (n : ℕ) (l : Layout) (count : n ≡ counterCount (s .device)) (layout : l ≡ layoutOf (s .device)) where
@@ -54,6 +54,7 @@ module _ (s : Setup) (t : Settings) (n : ℕ) (l : Layout) (count : n ≡ counte
       ++ filterWrites (s .device) t
       ++ rows n (t .used) (l .counter) (l .step) zeros
       ++ rows n (t .used) (l .control) (l .step) (t .words)
+      ++ preciseWrites (s .device) t
       ++ ((l .global, lastGlobal s (t .used .0)) ∷ [])
       ≡ boxWrites s t
   unfolding boxWrites
@@ -68,13 +69,13 @@ module _ (s : Setup) (t : Settings) (n : ℕ) (l : Layout) (count : n ≡ counte
       → Appended second b (filterWrites (s .device) t) third c
       → Appended third c (rows n (t .used) (l .counter) (l .step) zeros) fourth d
       → Appended fourth d (rows n (t .used) (l .control) (l .step) (t .words)) fifth e
-      → Appended fifth e (row true (l .global) value) end f
+      → Appended fifth e (preciseWrites (s .device) t ++ row true (l .global) value) end f
       → Appended start at (boxWrites s t) end f
   box-appended stopping counting stopped cleared filtered zeroed selected started =
-      rw (← writes-parts)
+      rw (← writes-parts, append-assoc)
       (appended-then (appended-then (appended-then (appended-then (appended-then (rw stopping at stopped) cleared) filtered) zeroed) selected) (rw counting at started))
 
-  pub length-parts : length (boxWrites s t) ≡ 2 + size n (s .usable) + length (filterWrites (s .device) t) + 2 * size n (t .used)
+  pub length-parts : length (boxWrites s t) ≡ 2 + size n (s .usable) + (length (filterWrites (s .device) t) + length (preciseWrites (s .device) t)) + 2 * size n (t .used)
   length-parts =
       let parts = simp length-append at (ap length writes-parts) in
       omega (
@@ -109,17 +110,17 @@ module _ (s : Setup) (t : Settings) where
 
   pub length-writes :
       length (writesFor s t)
-      ≡ 2 + size (counterCount (s .device)) (s .usable) + length (filterWrites (s .device) t) + 2 * size (counterCount (s .device)) (t .used) + 2 * pick (asked s) 1 0
+      ≡ 2 + size (counterCount (s .device)) (s .usable) + (length (filterWrites (s .device) t) + length (preciseWrites (s .device) t)) + 2 * size (counterCount (s .device)) (t .used) + 2 * pick (asked s) 1 0
   length-writes = omega (arith, length-framed, length-parts s t (counterCount (s .device)) (layoutOf (s .device)) refl refl)
 
   -- twice the number of writes fits a number of the code
-  pub writes-small : length (writesFor s t) ≤ 32
+  pub writes-small : length (writesFor s t) ≤ 33
   writes-small =
       omega (
         arith,
         length-writes,
         device-size (s .device) (s .usable),
-        filters-small (s .device) t,
+        extra-small (s .device) t,
         device-size (s .device) (t .used),
         pick-small (asked s),
       )

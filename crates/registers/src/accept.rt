@@ -1,5 +1,6 @@
 // Which register values some plan leaves.
 use crate::global::last_global;
+use crate::precise::precise_fits;
 use crate::tables::MM_CFG_ENABLE;
 use crate::tables::code_of;
 use crate::tables::event_word;
@@ -57,6 +58,7 @@ fn filter_word(setup: Setup, word: u64) -> bool
         }
         Device::S => word == packet_word(setup),
         Device::C(_) => false,
+        Device::B => false,
     }
 }
 
@@ -201,6 +203,7 @@ fn filters_fit(setup: Setup, words: [u64; CAPACITY], filters: FilterValues) -> b
             packets_fit(setup, counters, filters)
         }
         Device::C(_) => true,
+        Device::B => true,
     }
 }
 
@@ -276,7 +279,9 @@ pub fn accepts(setup: Setup, values: RegisterValues) -> bool
         let used = used_by(limit, words);
         if values.global == last_global(setup, used) {
             if filters_fit(setup, words, filters) {
-                return ubox_fits(setup, values.ubox);
+                if ubox_fits(setup, values.ubox) {
+                    return precise_fits(setup, words, values.pebs);
+                }
             }
         }
     }

@@ -46,6 +46,7 @@ fn filter_of(setup: Setup, filters: FilterValues, word: u64) -> FilterRead
             FilterRead::NoFilter
         }
         Device::C(_) => FilterRead::NoFilter,
+        Device::B => FilterRead::NoFilter,
     }
 }
 

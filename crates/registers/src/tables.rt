@@ -1,6 +1,6 @@
 // The register tables as data: addresses and field places, each with its name in the manual.
-// G: SDM volume 3 (IA32_*) and documents 001, 002 (MSR_OFFCORE_RSP*). S and C: document 004, sections 2.5 and 2.3, and the kernel driver.
-// The U-Box, which S and C share, is in ubox.rt.
+// G and B: SDM volume 3 (IA32_*) and documents 001, 002 (MSR_OFFCORE_RSP*). S and C: document 004, sections 2.5 and 2.3, and the kernel driver.
+// The U-Box, which S and C share, is in ubox.rt, and B's IA32_PEBS_ENABLE in pebs.rt.
 use checks::askings::asked;
 use layouts::Layout;
 use requests::Device;
@@ -8,7 +8,7 @@ use requests::Setup;
 ghost use mathlib.Core.Path.{_≡_};
 ghost use Rattle.layouts.specs.Layout.{cboxGlobal, layoutOf, enabledOn, enabled, eventWord, rspWord, packetWord, codeOf, maskOf};
 
-// ---- addresses, G (SDM volume 3, architectural MSRs; document 001 for the RSP registers)
+// ---- addresses, G and B (SDM volume 3, architectural MSRs; document 001 for the RSP registers)
 
 const PERF_GLOBAL_CTRL: u64 = 0x038F; // IA32_PERF_GLOBAL_CTRL
 
@@ -62,7 +62,7 @@ const C_STEP: u64 = 2; // from EVT_SEL_k and CTR_k to those of k + 1 (kernel dri
 
 // ---- fields
 
-const PERFEVTSEL_ENABLED: u64 = 0x0043_0000; // G, IA32_PERFEVTSELk: USR 16, OS 17, EN 22
+const PERFEVTSEL_ENABLED: u64 = 0x0043_0000; // G, B, IA32_PERFEVTSELk: USR 16, OS 17, EN 22
 
 const PMON_CTL_ENABLED: u64 = 0x0040_0000; // S, table 2-30, S_MSR_PMON_CTLk: enable 22
 
@@ -70,7 +70,7 @@ const EVT_SEL_ENABLED: u64 = 0x0040_0000; // C, table 2-13, C_MSR_PMON_EVT_SELk:
 
 const PMI_EN: u64 = 0x0010_0000; // S, C, tables 2-30, 2-13: pmi_en 20
 
-const UMASK: u64 = 0x0100; // G: event select 7:0, unit mask 15:8; S, C, tables 2-30, 2-13: ev_sel 7:0, umask 15:8
+const UMASK: u64 = 0x0100; // G, B: event select 7:0, unit mask 15:8; S, C, tables 2-30, 2-13: ev_sel 7:0, umask 15:8
 
 const OFFCORE_RESPONSE: u8 = 0xB7; // G, document 001: the event of the RSP registers
 
@@ -125,6 +125,12 @@ pub fn layout_of(device: Device) -> Layout
             step: PMON_STEP,
         },
         Device::C(cbox) => cbox_layout(cbox),
+        Device::B => Layout {
+            global: PERF_GLOBAL_CTRL,
+            control: PERFEVTSEL0,
+            counter: PMC0,
+            step: MSR_STEP,
+        },
     }
 }
 
@@ -136,6 +142,7 @@ fn enabled_on(device: Device) -> u64
         Device::G => PERFEVTSEL_ENABLED,
         Device::S => PMON_CTL_ENABLED,
         Device::C(_) => EVT_SEL_ENABLED,
+        Device::B => PERFEVTSEL_ENABLED,
     }
 }
 

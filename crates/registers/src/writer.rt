@@ -1,6 +1,9 @@
 // The write list of register values, into a slice that the caller lends.
 use crate::global::first_global;
 use crate::global::last_global;
+use crate::pebs::PEBS_ENABLE;
+use crate::pebs::pebs_enable;
+use crate::pebs::pebs_on;
 use crate::tables::MASK;
 use crate::tables::MATCH;
 use crate::tables::MM_CFG;
@@ -21,22 +24,25 @@ use requests::CounterSet;
 use requests::Device;
 use requests::Setup;
 ghost use mathlib.Core.Path.{_≡_};
+ghost use mathlib.Core.Bool.{true};
+ghost use mathlib.Core.List.{_++_};
 ghost use Prim.Native.Nat.{_+_, _*_, _≤_};
 ghost use lib.ListN.{length};
 ghost use Rattle.requests.specs.Choice.{pick};
 ghost use Rattle.requests.specs.Askings.{asked};
 ghost use Rattle.requests.specs.Devices.{size, capacity};
-ghost use Rattle.layouts.specs.Writes.{row, rows, offcoreWrites, packetWrites, filterWrites, boxWrites, writesFor};
+ghost use Rattle.layouts.specs.Writes.{row, rows, offcoreWrites, packetWrites, filterWrites, preciseWrites, boxWrites, writesFor};
 ghost use Rattle.layouts.specs.Slices.{Appended, Wrote};
 
-// How many writes the filter registers take.
-fn filter_count(device: Device, settings: Settings) -> usize
-    ensures { λ r. ⌜ r ≡ length (filterWrites device settings) ⌝ }
+// How many writes the filter registers and IA32_PEBS_ENABLE take.
+fn extra_count(device: Device, settings: Settings) -> usize
+    ensures { λ r. ⌜ r ≡ length (filterWrites device settings) + length (preciseWrites device settings) ⌝ }
 {
     match device {
         Device::G => 2,
         Device::S => if settings.packets { 4 } else { 1 },
         Device::C(_) => 0,
+        Device::B => 1,
     }
 }
 
@@ -57,7 +63,7 @@ pub fn write_count(setup: Setup, settings: Settings) -> usize
     let count = counter_count(device);
     2
         + size_of(count, usable)
-        + filter_count(device, settings)
+        + extra_count(device, settings)
         + 2 * size_of(count, used)
         + ubox_count(setup)
 }
@@ -143,7 +149,28 @@ fn put_filters(out: &mut [u64], at: usize, device: Device, settings: Settings) -
             settings.mask_word,
         ),
         Device::C(_) => at,
+        Device::B => at,
     }
+}
+
+// IA32_PEBS_ENABLE where the device has it, and the global control register with its last value.
+fn put_last(
+    out: &mut [u64],
+    at: usize,
+    device: Device,
+    settings: Settings,
+    global: u64,
+    value: u64,
+) -> usize
+    requires { ⌜ at + 2 * length (preciseWrites device settings ++ row true global value) ≤ length (now out) ⌝ }
+    ensures { λ r. ⌜ Appended (now (out .entry)) at (preciseWrites device settings ++ row true global value) (now (out .exit)) r ⌝ }
+{
+    if pebs_on(device) {
+        let words = settings.words;
+        let sampled = put(out, at, true, PEBS_ENABLE, pebs_enable(words));
+        return put(out, sampled, true, global, value);
+    }
+    put(out, at, true, global, value)
 }
 
 // The list of the device's own registers.
@@ -166,7 +193,14 @@ fn put_box(out: &mut [u64], at: usize, setup: Setup, settings: Settings) -> usiz
     let filtered = put_filters(out, cleared, device, settings);
     let zeroed = put_rows(out, filtered, count, used, counts, step, zeros);
     let selected = put_rows(out, zeroed, count, used, controls, step, words);
-    put(out, selected, true, layout.global, last_global(setup, used))
+    put_last(
+        out,
+        selected,
+        device,
+        settings,
+        layout.global,
+        last_global(setup, used),
+    )
 }
 
 // The whole list, where it has room: between two writes of the U-Box where something is asked.

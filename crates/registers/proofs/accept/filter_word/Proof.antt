@@ -29,6 +29,10 @@ returns-4 : tie.Need-returns-4
 unfolding filterWord
 returns-4 c = rw (c .enum-told3 .given .1)
 
+returns-5 : tie.Need-returns-5
+unfolding filterWord
+returns-5 c = rw (c .enum-told4 .given .1)
+
 pub filter-word-spec : {M : Type 1} → statement M
 filter-word-spec =
     tie.close
@@ -40,6 +44,8 @@ filter-word-spec =
     (λ c. search needs)
     (λ c κs. search needs)
     (λ c. search needs)
+    (λ c. search needs)
     returns-2
     returns-3
-    returns-4)
+    returns-4
+    returns-5)

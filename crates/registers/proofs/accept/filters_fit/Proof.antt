@@ -1,10 +1,11 @@
--- `filters_fit` tests the filter registers of the device, by `filters-G`, `filters-S` and `filters-C`.
+-- `filters_fit` tests the filter registers of the device, by `filters-G` and `filters-S`; C and B have none.
 use mathlib.Core.Path.{sym, _∙_}
 use lib.ListN.{getD}
 use borrow.Author.Needs.{needs}
 use Rattle.requests.specs.Choice.{both}
+use Rattle.layouts.specs.Read.{filtersFit}
 use Rattle.plans.proofs.PlanLengthHolds.{plan-length}
-use Rattle.registers.proofs.ReaderSteps.{filters-G, filters-S, filters-C}
+use Rattle.registers.proofs.ReaderSteps.{filters-G, filters-S}
 use Rattle.registers.proofs.accept.filters_fit.Statement.{statement}
 use Rattle.registers.proofs.accept.filters_fit.Tie as tie
 
@@ -41,9 +42,12 @@ returns-3 c =
     c .packets-fit .ensures ∙ filters-S (λ k. getD (a .words) k 0) (a .filters) (a .setup .device) (a .setup) _ (c .before .before .before .enum-told2 .given .1) n
 
 returns-4 : tie.Need-returns-4
-returns-4 c =
-    let a = c .before .before .before .args in
-    filters-C (λ k. getD (a .words) k 0) (a .filters) (a .setup .device) (a .setup) _ (c .enum-told3 .given .1)
+unfolding filtersFit
+returns-4 c = rw (c .enum-told3 .given .1)
+
+returns-5 : tie.Need-returns-5
+unfolding filtersFit
+returns-5 c = rw (c .enum-told4 .given .1)
 
 pub filters-fit-spec : {M : Type 1} → statement M
 filters-fit-spec =
@@ -63,6 +67,8 @@ filters-fit-spec =
     count-of-requires-3
     (λ c κs. search needs)
     (λ c. search needs)
+    (λ c. search needs)
     returns-2
     returns-3
-    returns-4)
+    returns-4
+    returns-5)

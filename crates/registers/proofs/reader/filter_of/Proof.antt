@@ -44,6 +44,10 @@ returns-6 : tie.Need-returns-6
 unfolding filterOf
 returns-6 c = rw (c .enum-told3 .given .1)
 
+returns-7 : tie.Need-returns-7
+unfolding filterOf
+returns-7 c = rw (c .enum-told4 .given .1)
+
 pub filter-of-spec : {M : Type 1} → statement M
 filter-of-spec =
     tie.close
@@ -57,6 +61,8 @@ filter-of-spec =
     (λ c κs. search needs)
     returns-3
     (λ c. search needs)
+    (λ c. search needs)
     returns-4
     returns-5
-    returns-6)
+    returns-6
+    returns-7)

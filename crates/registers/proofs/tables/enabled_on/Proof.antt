@@ -17,5 +17,9 @@ returns-3 : tie.Need-returns-3
 unfolding enabledOn
 returns-3 c = ap enabledOn (sym (c .enum-told3 .given .1))
 
+returns-4 : tie.Need-returns-4
+unfolding enabledOn
+returns-4 c = ap enabledOn (sym (c .enum-told4 .given .1))
+
 pub enabled-on-spec : {M : Type 1} → statement M
-enabled-on-spec = tie.close (tie.spec (λ c. search needs) (λ c. search needs) (λ c. search needs) returns returns-2 returns-3)
+enabled-on-spec = tie.close (tie.spec (λ c. search needs) (λ c. search needs) (λ c. search needs) (λ c. search needs) returns returns-2 returns-3 returns-4)

@@ -1,14 +1,15 @@
 -- `put_box` appends the parts of the list in their order, by `box-appended`, each with room by `length-parts`.
 use mathlib.Core.Path.{_≡_}
+use mathlib.Core.Bool.{true}
 use Prim.Native.Nat.{ℕ, _+_, _*_, _≤_}
 use native.Mathlib.Omega.{arith}
-use lib.ListN.{length}
+use lib.ListN.{length, length-append}
 use borrow.Author.Needs.{needs}
 use Rattle.requests.specs.declared.Setup.{Setup}
 use Rattle.requests.specs.Devices.{size, capacity}
 use Rattle.layouts.specs.declared.Settings.{Settings}
 use Rattle.layouts.specs.declared.Layout.{Layout}
-use Rattle.layouts.specs.Writes.{filterWrites, boxWrites, zeros}
+use Rattle.layouts.specs.Writes.{row, filterWrites, preciseWrites, boxWrites, zeros}
 use Rattle.registers.proofs.Appending.{length-rows}
 use Rattle.registers.proofs.WriteLengths.{box-appended, length-parts, parts-small}
 use Rattle.registers.proofs.writer.put_box.Statement.{statement}
@@ -31,7 +32,7 @@ module _ (c : tie.After-layout-of) where
   abbrev layout : Layout
   layout = c .layout-of .result
 
-  parts : length (boxWrites setup settings) ≡ 2 + size n (setup .usable) + length (filterWrites (setup .device) settings) + 2 * size n (settings .used)
+  parts : length (boxWrites setup settings) ≡ 2 + size n (setup .usable) + (length (filterWrites (setup .device) settings) + length (preciseWrites (setup .device) settings)) + 2 * size n (settings .used)
   parts = length-parts setup settings n layout (c .before .counter-count .ensures) (c .layout-of .ensures)
 
   small : (n ≤ capacity) × (layout .control ≤ 0xFFFF) × (layout .counter ≤ 0xFFFF) × (layout .step ≤ 2)
@@ -124,9 +125,9 @@ put-rows-requires-3 c κs =
       small laid .3,
     )
 
-put-requires-2 : tie.Need-put-requires-2
+put-last-requires : tie.Need-put-last-requires
 unfolding zeros capacity
-put-requires-2 c κs =
+put-last-requires c κs =
     let selected = c .before .before .before .before in
     let zeroed = selected .before .before .before .before in
     let filtered = zeroed .before .before .before .before in
@@ -147,6 +148,7 @@ put-requires-2 c κs =
       zeroed .put-rows2 .ensures .kept,
       rw length-rows at (selected .put-rows3 .ensures .end),
       selected .put-rows3 .ensures .kept,
+      length-append (preciseWrites (setup laid .device) (settings laid)) (row true (layout laid .global) (c .last-global .result)),
     )
 
 returns : tie.Need-returns
@@ -173,7 +175,7 @@ returns c =
     (filtered .put-filters .ensures)
     (zeroed .put-rows2 .ensures)
     (selected .put-rows3 .ensures)
-    (started .put2 .ensures)
+    (started .put-last .ensures)
 
 pub put-box-spec : {M : Type 1} → statement M
 put-box-spec =
@@ -188,6 +190,6 @@ put-box-spec =
     put-rows-requires-2
     put-rows-requires-3
     (λ c κs. search needs)
-    put-requires-2
+    put-last-requires
     (λ c. search needs)
     returns)

@@ -2,7 +2,7 @@
 use native.Mathlib.Omega.{arith}
 use borrow.Author.Needs.{needs}
 use Rattle.requests.specs.Askings.{asked}
-use Rattle.registers.proofs.WriteLengths.{pick-small, device-size, filters-small, length-writes}
+use Rattle.registers.proofs.WriteLengths.{pick-small, device-size, extra-small, length-writes}
 use Rattle.registers.proofs.writer.write_count.Statement.{statement}
 use Rattle.registers.proofs.writer.write_count.Tie as tie
 
@@ -16,7 +16,7 @@ add-result-2 : tie.Need-add-result-2
 add-result-2 c =
     let a = c .before .before .before .before .before .args in
     let sized = rw (c .before .before .counter-count .ensures) at (c .before .size-of .ensures) in
-    omega (arith, sized, device-size (a .setup .device) (a .setup .usable), c .filter-count .ensures, filters-small (a .setup .device) (a .settings))
+    omega (arith, sized, device-size (a .setup .device) (a .setup .usable), c .extra-count .ensures, extra-small (a .setup .device) (a .settings))
 
 mul-result : tie.Need-mul-result
 mul-result c =
@@ -35,8 +35,8 @@ add-result-3 c =
       used,
       device-size (a .setup .device) (a .setup .usable),
       device-size (a .setup .device) (a .settings .used),
-      c .before .filter-count .ensures,
-      filters-small (a .setup .device) (a .settings),
+      c .before .extra-count .ensures,
+      extra-small (a .setup .device) (a .settings),
     )
 
 add-result-4 : tie.Need-add-result-4
@@ -51,8 +51,8 @@ add-result-4 c =
       used,
       device-size (a .setup .device) (a .setup .usable),
       device-size (a .setup .device) (a .settings .used),
-      own .before .filter-count .ensures,
-      filters-small (a .setup .device) (a .settings),
+      own .before .extra-count .ensures,
+      extra-small (a .setup .device) (a .settings),
       c .ubox-count .ensures,
       pick-small (asked (a .setup)),
     )
@@ -63,7 +63,7 @@ returns c =
     let a = own .before .before .before .before .before .before .args in
     let sized = rw (own .before .before .before .counter-count .ensures) at (own .before .before .size-of .ensures) in
     let used = rw (own .before .before .before .counter-count .ensures) at (own .size-of2 .ensures) in
-    omega (arith, sized, used, own .before .filter-count .ensures, c .ubox-count .ensures, length-writes (a .setup) (a .settings))
+    omega (arith, sized, used, own .before .extra-count .ensures, c .ubox-count .ensures, length-writes (a .setup) (a .settings))
 
 pub write-count-spec : {M : Type 1} → statement M
 write-count-spec =
