@@ -183,9 +183,11 @@ refusals =
     ∷ refusedAs 15 (given 66 15 0 (onB (0 ∷ 0x4301C0 ∷ 0 ∷ 0 ∷ []) 2 0xA))
     ∷ refusedAs 15 (given 66 15 0 (onB (0x4300C0 ∷ 0x4301C0 ∷ 0 ∷ 0 ∷ []) 3 2))
     ∷ refusedAs 15 (given 66 15 0 (onB (0x4301C0 ∷ 0 ∷ 0 ∷ 0 ∷ []) 1 2))
+    ∷ refusedAs 15 (given 66 15 0 (onB (0x4301C0 ∷ 0 ∷ 0 ∷ 0 ∷ []) 1 0))
     ∷ refusedAs 15 (given 66 14 0 (onB (0 ∷ 0x4301C0 ∷ 0 ∷ 0 ∷ []) 3 2))
     -- CD/02 without bit 63, and in another counter; a value without either; C0/01 is not on G, and open asks nothing of B
     ∷ refusedAs 15 (given 66 15 0 (onB (0 ∷ 0 ∷ 0 ∷ 0x4302CD ∷ []) 8 8))
+    ∷ refusedAs 15 (given 66 15 0 (onB (0 ∷ 0 ∷ 0x4302CD ∷ 0 ∷ []) 4 0))
     ∷ refusedAs 15 (given 66 15 0 (onB (0 ∷ 0 ∷ 0x4302CD ∷ 0 ∷ []) 4 0x8000000000000004))
     ∷ refusedAs 15 (given 66 15 0 (onB (0x43003C ∷ 0 ∷ 0 ∷ 0 ∷ []) 1 0x8000000000000000))
     ∷ refusedAs 15 (given 71 15 0 (onG (0 ∷ 0x4301C0 ∷ 0 ∷ 0 ∷ []) 0 0 2))
