@@ -4,7 +4,7 @@
 use mathlib.Core.Path.{_≡_, refl, sym, ap, subst, _∙_, fun-ext}
 use mathlib.Core.Logic.{_⊎_, inl, inr, ⊎-elim}
 use mathlib.Core.Bool.{Bool, true, false, not}
-use mathlib.Core.List.{List, [], _∷_, flatMap, List·Memᴰ, List·Memᴰ·head, List·Memᴰ·tail}
+use mathlib.Core.List.{List, [], _∷_, flatMap}
 use Prim.Native.Nat.{ℕ, zero, suc, _+_, _%_, _^_, _<_}
 use native.Mathlib.Decide.{ℕ-discrete}
 use native.Mathlib.Omega.{arith}
@@ -13,29 +13,25 @@ use lib.Dec.{eqb}
 use lib.ListN.{length, getD}
 use Rattle.requests.specs.Choice.{either, every, pick}
 use Rattle.requests.specs.Askings.{asked}
-use Rattle.requests.specs.declared.CounterSet.{CounterSet}
 use Rattle.requests.specs.declared.Device.{Device}
 use Rattle.requests.specs.declared.Device.the-variants.{G, S, C, B}
 use Rattle.requests.specs.declared.Setup.{Setup}
 use Rattle.requests.specs.declared.Request.the-variants.{Packet, Offcore, Latency}
 use Rattle.requests.specs.Bits.{inList, outstanding, latencyWord}
-use Rattle.requests.specs.Devices.{capacity, has, counterCount}
+use Rattle.requests.specs.Devices.{has, counterCount}
 use Rattle.requests.specs.Checks.{formed}
 use Rattle.requests.specs.WellFormedRequests.{Described}
 use Rattle.requests.proofs.Tests.{both-parts, every-at, either-cases}
 use Rattle.plans.specs.Lists.{All, cons}
 use Rattle.plans.specs.Legal.{Usable, Legal, wordsOf, packetsOf, ofAll, counters}
 use Rattle.plans.proofs.Sets.{all-imp}
-use Rattle.layouts.specs.Layout.{layoutOf, controlAt, filtersAt, matchAt, maskAt, uboxAt, pebsAt, pebsOn, mmEnable, rspWord, packetWord}
+use Rattle.layouts.specs.Layout.{uboxAt, pebsAt, pebsOn, mmEnable, rspWord, packetWord}
 use Rattle.layouts.specs.Settings.{wordAt, setFrom, headOr, nonempty}
-use Rattle.layouts.specs.Writes.{rows, lastGlobal, pebsEnable, writes, apply}
+use Rattle.layouts.specs.Writes.{lastGlobal, pebsEnable, writes, apply}
 use Rattle.layouts.specs.Read.{ours, noCounter, count, controlFits, rsp0Fits, rsp1Fits, latencyFits, filtersFit, uboxFits, pebsFits, ruleFits, accepts, filterWord, packetsFit}
 use Rattle.layouts.specs.ExactReader.{FiltersShow, LeavesValues}
 use Rattle.layouts.specs.declared.RegisterValues.{RegisterValues}
-use Rattle.layouts.proofs.ListLaws.{all-member}
-use Rattle.layouts.proofs.CounterSets.{bit-set, set-same}
-use Rattle.layouts.proofs.DeviceFacts.{in-room, apart}
-use Rattle.layouts.proofs.RegistersAfter.{apply-after, after-other, rows-all, rows-at}
+use Rattle.layouts.proofs.CounterSets.{set-same}
 use Rattle.layouts.proofs.Counts.{hits}
 use Rattle.layouts.proofs.UsableSets.{on, Within, usable-counter}
 use Rattle.layouts.proofs.ControlWords.{word-some, plan-words}

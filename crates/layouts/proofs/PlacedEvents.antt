@@ -4,14 +4,13 @@
 --     given-counter               the counters of places are those of the plan
 --     each-given, each-of         what holds of each request at its place
 --     word-given, given-word      a control word is 0 or that of the request there, and a request's word is there
-use mathlib.Core.Path.{_≡_, refl, sym, ap, subst, _∙_}
+use mathlib.Core.Path.{_≡_, refl, subst}
 use mathlib.Core.Logic.{_≢_, _⊎_, inl, inr, ⊎-elim}
-use mathlib.Core.Bool.{Bool, true, false}
+use mathlib.Core.Bool.{true}
 use mathlib.Core.List.{List, [], _∷_, _++_, flatMap, List·Memᴰ, List·Memᴰ·head, List·Memᴰ·tail}
 use Prim.Native.Nat.{ℕ}
 use native.Mathlib.Decide.{ℕ-discrete}
 use borrow.Author.Tests.{eq-eqb, ne-eqb}
-use lib.Dec.{eqb}
 use Rattle.requests.specs.declared.CounterSet.{CounterSet}
 use Rattle.requests.specs.declared.Device.the-variants.{G, S}
 use Rattle.requests.specs.declared.Setup.{Setup}
@@ -22,7 +21,7 @@ use Rattle.requests.specs.WellFormedRequests.{Described, event, packet, offcore
 use Rattle.plans.specs.declared.Place.{Place}
 use Rattle.plans.specs.declared.Place.the-variants.{Counter}
 use Rattle.plans.specs.Lists.{All, nil, cons, Pairwise, add, Each, none, and}
-use Rattle.plans.specs.Places.{countedOf, countersOf, first, second}
+use Rattle.plans.specs.Places.{countedOf, countersOf, first}
 use Rattle.plans.specs.Legal.{Allowed, ofAll, counters}
 use Rattle.plans.specs.Legal as plans
 use Rattle.layouts.specs.Layout.{eventWord}

@@ -2,13 +2,12 @@
 --     enables     the value of a legal plan on B
 --     pdir-alone  a plan with C0/01 has the one counter 1
 use mathlib.Core.Path.{_≡_, refl, sym, ap, ap₂, subst, _∙_}
-use mathlib.Core.Logic.{_⊎_, inl, inr, ⊎-elim}
-use mathlib.Core.Bool.{Bool, true, false, true≢false, false≢true}
+use mathlib.Core.Logic.{⊎-elim}
+use mathlib.Core.Bool.{Bool, true, false, true≢false}
 use mathlib.Core.List.{List, [], _∷_, flatMap, List·Memᴰ}
 use Prim.Native.Nat.{ℕ, _+_, _^_, _<_}
 use native.Mathlib.Omega.{arith}
 use borrow.Author.Tests.{eqb-true, eq-eqb}
-use lib.Dec.{eqb}
 use Rattle.requests.specs.Choice.{both, pick}
 use Rattle.requests.specs.declared.CounterSet.{CounterSet}
 use Rattle.requests.specs.declared.Device.the-variants.{B}
@@ -16,7 +15,7 @@ use Rattle.requests.specs.declared.Setup.{Setup}
 use Rattle.requests.specs.declared.Request.{Request}
 use Rattle.requests.specs.declared.Request.the-variants.{Event}
 use Rattle.requests.specs.Devices.{counterCount, allCounters}
-use Rattle.requests.specs.RuledEvents.{RunsOn, instructions, stores, Lone, pdir}
+use Rattle.requests.specs.RuledEvents.{RunsOn, instructions, stores, pdir}
 use Rattle.requests.specs.WellFormedRequests.{Described}
 use Rattle.requests.proofs.Tests.{both-parts, true-both}
 use Rattle.plans.specs.declared.Place.{Place}
@@ -24,13 +23,12 @@ use Rattle.plans.specs.declared.Place.the-variants.{Counter}
 use Rattle.plans.specs.Lists.{All, Each, none, and}
 use Rattle.plans.specs.Places.{countedOf, countersOf}
 use Rattle.plans.specs.Legal.{Allowed, Legal, counters}
-use Rattle.layouts.specs.Layout.{preciseStore, isEvent, eventWord, codeOf, maskOf}
+use Rattle.layouts.specs.Layout.{preciseStore, isEvent, codeOf, maskOf}
 use Rattle.layouts.specs.Settings.{wordAt}
 use Rattle.layouts.specs.Writes.{pebsEnable}
 use Rattle.layouts.specs.PreciseEvents as precise
 use Rattle.layouts.specs.PreciseEvents.{TakesPdir, TakesStores, Enables}
 use Rattle.layouts.proofs.UsableSets.{on}
-use Rattle.layouts.proofs.ListLaws.{all-member}
 use Rattle.layouts.proofs.ControlWords.{listed, word-parts}
 use Rattle.layouts.proofs.PlanWords.{usesIn}
 use Rattle.layouts.proofs.PlanFilters.{b-not-g, b-not-s}

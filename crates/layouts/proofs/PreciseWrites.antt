@@ -2,14 +2,13 @@
 --     written-last   it is the write before the last, on B
 --     not-written    and none on another device
 --     otherwise-same the list without it is G's without the filter registers
-use mathlib.Core.Path.{_≡_, refl, sym, ap, ap₂, subst, _∙_, fun-ext}
+use mathlib.Core.Path.{_≡_, refl, sym, ap, subst, _∙_, fun-ext}
 use mathlib.Core.Logic.{_≢_}
 use mathlib.Core.Bool.{Bool, true, false}
 use mathlib.Core.List.{List, [], _∷_, _++_, append-assoc}
-use Prim.Native.Nat.{ℕ, zero, suc, _+_, _*_, _<_}
+use Prim.Native.Nat.{ℕ, _<_}
 use native.Mathlib.Omega.{arith}
 use borrow.Author.Tests.{ne-eqb}
-use lib.Dec.{eqb}
 use lib.ListN.{getD}
 use Rattle.requests.specs.Choice.{both, either, pick}
 use Rattle.requests.specs.declared.CounterSet.{CounterSet}
@@ -20,15 +19,15 @@ use Rattle.requests.specs.declared.Request.{Request}
 use Rattle.requests.specs.declared.Request.the-variants.{Event, Packet, Offcore, Latency}
 use Rattle.requests.specs.Bits.{inList}
 use Rattle.requests.specs.Askings.{overflowOn, asked}
-use Rattle.requests.specs.Devices.{capacity, has, counterCount, allCounters, fixedCount}
+use Rattle.requests.specs.Devices.{capacity, counterCount, allCounters, fixedCount}
 use Rattle.requests.specs.WellFormedRequests.{Described}
 use Rattle.plans.specs.declared.Place.{Place}
 use Rattle.plans.specs.Lists.{All, nil, cons}
-use Rattle.plans.specs.Legal.{Legal, wordsOf, ofAll}
+use Rattle.plans.specs.Legal.{Legal, ofAll}
 use Rattle.plans.proofs.Sets.{all-append, all-imp}
 use Rattle.layouts.specs.Layout.{tabulate, layoutOf, controlAt, counterAt, filtersAt, rsp0At, rsp1At, pebsAt, pebsOn, enabled, enabledOn, eventWord, rspWord, packetWord}
-use Rattle.layouts.specs.Settings.{usesOf, wordAt, setFrom, headOr, settingsOf}
-use Rattle.layouts.specs.Writes.{Write, row, rows, zeros, fixedEnables, unusable, firstGlobal, lastGlobal, offcoreWrites, filterWrites, pebsEnable, preciseWrites, boxWrites, writes}
+use Rattle.layouts.specs.Settings.{usesOf, wordAt, settingsOf}
+use Rattle.layouts.specs.Writes.{Write, rows, zeros, fixedEnables, unusable, firstGlobal, lastGlobal, offcoreWrites, filterWrites, pebsEnable, preciseWrites, boxWrites, writes}
 use Rattle.layouts.specs.PreciseEvents.{Enables, WrittenLast, without}
 use Rattle.layouts.specs.declared.Settings.{Settings}
 use Rattle.layouts.proofs.UsableSets.{on}

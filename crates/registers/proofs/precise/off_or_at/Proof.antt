@@ -1,5 +1,4 @@
 -- `off_or_at` tests the counter before the word.
-use borrow.Author.Needs.{needs}
 use borrow.Author.Tests.{eq-eqb, ne-eqb}
 use Rattle.requests.specs.Choice.{either}
 use Rattle.registers.proofs.precise.off_or_at.Statement.{statement}

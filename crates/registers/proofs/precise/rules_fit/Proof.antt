@@ -7,7 +7,7 @@ use borrow.Author.Needs.{needs}
 use borrow.Author.Tests.{not-true, not-false}
 use lib.ListN.{getD}
 use Rattle.requests.specs.Choice.{every}
-use Rattle.requests.specs.Devices.{capacity, counterCount}
+use Rattle.requests.specs.Devices.{counterCount}
 use Rattle.plans.proofs.PlanLengthHolds.{plan-length}
 use Rattle.layouts.specs.Read.{ruleFits}
 use Rattle.registers.proofs.Accepting.{every-next, every-fails}

@@ -1,5 +1,5 @@
 -- `put_last` appends the write of IA32_PEBS_ENABLE where the device has it, and the last one.
-use mathlib.Core.Path.{_≡_, sym, _∙_}
+use mathlib.Core.Path.{sym, _∙_}
 use native.Mathlib.Omega.{arith}
 use borrow.Author.Needs.{needs}
 use Rattle.layouts.specs.Layout.{pebsAt}
