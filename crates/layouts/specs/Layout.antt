@@ -135,7 +135,7 @@ coreSel = 1
 unfoldable pub uboxBits : List ℕ
 uboxBits = field 31 31 ++ field 28 28 ++ field 8 1
 
--- IA32_PEBS_ENABLE: the facility of precise stores (003, 18.9.4.3); the bit of a counter is its number
+-- IA32_PEBS_ENABLE: the facility of precise stores (003, page 18-57); the bit of a counter is its number
 unfoldable pub preciseStore : ℕ
 preciseStore = 63
 

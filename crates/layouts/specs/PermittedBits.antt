@@ -56,7 +56,7 @@ permittedOf (C b) =
 permittedOf B =
     -- as on G
     (0x038F, 0x000000070000000F)
-    -- IA32_PEBS_ENABLE: 1 (003, 18.9.4.4), 3 and 63 (003, 18.9.4.3)
+    -- IA32_PEBS_ENABLE: 1 (003, 18.9.4.4), 3 and 63 (003, page 18-57)
     ∷ (0x03F1, 0x800000000000000A)
     ∷ (0x0186, 0x00000000FFDFFFFF)
     ∷ (0x0187, 0x00000000FFDFFFFF)

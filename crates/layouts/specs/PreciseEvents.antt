@@ -68,7 +68,7 @@ pub record PreciseEvents : Type 0 where
   pub written : (s : Setup) (rs : List Request) (ps : List Place) → s .device ≡ B → All (Formed s) rs → Legal s rs ps → WrittenLast rs (writes s rs ps)
   -- and on no other device
   pub elsewhere : (s : Setup) (rs : List Request) (ps : List Place) → s .device ≢ B → All (λ (w : Write). w .0 ≢ 0x03F1) (writes s rs ps)
-  pub otherwise-G's : (s : Setup) (rs : List Request) (ps : List Place) → s .device ≡ B
+  pub otherwise-as-on-G : (s : Setup) (rs : List Request) (ps : List Place) → s .device ≡ B
       → without (0x03F1 ∷ []) (writes s rs ps) ≡ without (0x01A6 ∷ 0x01A7 ∷ []) (writes (onG s) rs ps)
   -- beside C0/01 no other counter has an event, nor is enabled
   pub quiet : (s : Setup) (rs : List Request) (ps : List Place) → s .device ≡ B → Legal s rs ps → TakesPdir rs

@@ -17,11 +17,11 @@ const ALL_UMASK: u8 = 0x01;
 
 const PDIR: u64 = 0x0000_0000_0000_0002; // document 003, 18.9.4.4: bit 1
 
-const MEM_TRANS_RETIRED: u8 = 0xCD; // document 003, 18.9.4.3, and order 12: MEM_TRANS_RETIRED.PRECISE_STORE
+const MEM_TRANS_RETIRED: u8 = 0xCD; // document 003, page 18-57, and order 12: MEM_TRANS_RETIRED.PRECISE_STORE
 
 const PRECISE_STORE_UMASK: u8 = 0x02;
 
-const PRECISE_STORE: u64 = 0x8000_0000_0000_0008; // document 003, 18.9.4.3: bits 3 and 63
+const PRECISE_STORE: u64 = 0x8000_0000_0000_0008; // document 003, page 18-57: bits 3 and 63
 
 // Whether the device has the register.
 pub fn pebs_on(device: Device) -> bool
