@@ -11,7 +11,7 @@ use native.Mathlib.Decide.{decLt}
 use lib.ListN.{length, getD, take, drop, length-take}
 use lib.Seq.{drop-cons, getD-take, take-take}
 use Rattle.requests.specs.declared.Device.{Device}
-use Rattle.requests.specs.declared.Device.the-variants.{G, S, C}
+use Rattle.requests.specs.declared.Device.the-variants.{G, S, C, B}
 use Rattle.requests.specs.declared.Request.the-variants.{Event, Packet, Offcore, Latency}
 use Rattle.requests.specs.Choice.{firstHolding}
 use Rattle.requests.specs.Devices.{letterOf, boxOf}
@@ -112,6 +112,10 @@ open-on-fault (C b) =
     device-fault (C b) (decimal ∷ decimal ∷ decimal ∷ decimal ∷ core ∷ []) (tt, (tt, (tt, (tt, (tt, tt)))))
     (λ v. openWith (C b) (v .0) (v .1 .0) (v .1 .1 .0) (v .1 .1 .1 .0) (v .1 .1 .1 .1 .0))
     (λ v h. (h .0, h .1 .0, h .1 .1 .0, h .1 .1 .1 .0, h .1 .1 .1 .1 .0)) (λ v. refl)
+open-on-fault B =
+    device-fault B (decimal ∷ decimal ∷ decimal ∷ core ∷ []) (tt, (tt, (tt, (tt, tt))))
+    (λ v. openWith B (v .0) (v .1 .0) (v .1 .1 .0) (v .1 .1 .1 .0) 0)
+    (λ v h. (h .0, h .1 .0, omega arith, h .1 .1 .0, h .1 .1 .1 .0)) (λ v. refl)
 
 -- a record of `open`, whatever its letter
 an-open : (t : List ℕ) → hasVerb t "open" ≡ true → BeginsRecord (fields t) 1

@@ -11,7 +11,7 @@ use lib.ListN.{length, getD, drop, drop-of-length-le}
 use lib.Seq.{drop-cons}
 use borrow.Author.Tests.{eq-eqb, ne-eqb}
 use Rattle.requests.specs.declared.Device.{Device}
-use Rattle.requests.specs.declared.Device.the-variants.{G, S, C}
+use Rattle.requests.specs.declared.Device.the-variants.{G, S, C, B}
 use Rattle.requests.specs.Choice.{pick}
 use Rattle.requests.specs.Devices.{letterOf, devices, named, deviceOf}
 use Rattle.requests.proofs.Openings.{letter-is, this-letter}
@@ -30,6 +30,7 @@ unfoldable pub byLetter : Device → Device
 byLetter G = G
 byLetter S = S
 byLetter (C b) = C 0
+byLetter B = B
 
 -- a device's letter is read so
 pub letter-reads : (d : Device) → lettered (letterOf d ∷ []) ≡ some (byLetter d)
@@ -37,6 +38,7 @@ unfolding lettered byLetter letterOf deviceOf named devices
 letter-reads G = refl
 letter-reads S = refl
 letter-reads (C b) = refl
+letter-reads B = refl
 
 -- and nothing else is
 pub lettered-only : (f : List ℕ) (d : Device) → lettered f ≡ some d → f ≡ letterOf d ∷ []

@@ -12,7 +12,7 @@ use lib.ListN.{length, take}
 use lib.Seq.{take-all, length-take-le}
 use borrow.Author.Tests.{ne-eqb, lt-ltb, le-ltb}
 use Rattle.requests.specs.declared.Device.{Device}
-use Rattle.requests.specs.declared.Device.the-variants.{G, S, C}
+use Rattle.requests.specs.declared.Device.the-variants.{G, S, C, B}
 use Rattle.requests.specs.declared.Request.the-variants.{Event, Packet, Offcore, Latency}
 use Rattle.requests.specs.Choice.{pick, firstHolding}
 use Rattle.grammar.specs.Text.{bytes}
@@ -145,6 +145,8 @@ module _ (t p : List ℕ) (m : ℕ) (e : 80 ≡ length (fieldAt t 0) + (m + 1)) 
   open-on-cut n b h closed (C x) =
       cut-read (decimal ∷ decimal ∷ decimal ∷ decimal ∷ core ∷ []) t p closed 2
       (λ v. openWith (C x) (v .0) (v .1 .0) (v .1 .1 .0) (v .1 .1 .1 .0) (v .1 .1 .1 .1 .0)) n b (omega arith)
+  open-on-cut n b h closed B =
+      cut-read (decimal ∷ decimal ∷ decimal ∷ core ∷ []) t p closed 2 (λ v. openWith B (v .0) (v .1 .0) (v .1 .1 .0) (v .1 .1 .1 .0) 0) n b (omega arith)
 
   open-cut : hasVerb t "open" ≡ true → (closed : Bool) → SameFault (openLine t closed) (openLine p closed)
   unfolding openLine bytes

@@ -9,7 +9,7 @@ use native.Mathlib.Omega.{arith}
 use lib.ListN.{drop}
 use lib.Seq.{drop-cons}
 use Rattle.requests.specs.declared.Device.{Device}
-use Rattle.requests.specs.declared.Device.the-variants.{G, S, C}
+use Rattle.requests.specs.declared.Device.the-variants.{G, S, C, B}
 use Rattle.requests.specs.declared.Request.the-variants.{Event, Packet, Offcore, Latency}
 use Rattle.requests.specs.Choice.{Row, firstHolding}
 use Rattle.requests.specs.Devices.{letterOf, boxOf}
@@ -79,6 +79,9 @@ open-on-tells (C b) =
     device-tells (C b) (decimal ∷ decimal ∷ decimal ∷ decimal ∷ core ∷ [])
     (λ v. openWith (C b) (v .0) (v .1 .0) (v .1 .1 .0) (v .1 .1 .1 .0) (v .1 .1 .1 .1 .0))
     (λ v h. (h .0, h .1 .0, h .1 .1 .0, h .1 .1 .1 .0, h .1 .1 .1 .1 .0)) (λ v. refl)
+open-on-tells B =
+    device-tells B (decimal ∷ decimal ∷ decimal ∷ core ∷ []) (λ v. openWith B (v .0) (v .1 .0) (v .1 .1 .0) (v .1 .1 .1 .0) 0)
+    (λ v h. (h .0, h .1 .0, omega arith, h .1 .1 .0, h .1 .1 .1 .0)) (λ v. refl)
 
 open-tells : (t : List ℕ) → hasVerb t "open" ≡ true → (closed : Bool) (r : Record) → openLine t closed ≡ Line r → Told t closed r
 unfolding openLine

@@ -5,7 +5,7 @@ use mathlib.Core.List.{List}
 use Prim.Native.Nat.{ℕ}
 use Rattle.requests.specs.declared.CounterSet.{CounterSet}
 use Rattle.requests.specs.declared.Device.{Device}
-use Rattle.requests.specs.declared.Device.the-variants.{G, S, C}
+use Rattle.requests.specs.declared.Device.the-variants.{G, S, C, B}
 use Rattle.requests.specs.declared.Core.{Core}
 use Rattle.requests.specs.declared.Setup.{Setup}
 use Rattle.requests.specs.declared.Request.the-variants.{Event, Packet, Offcore, Latency}
@@ -38,6 +38,8 @@ device-read t S u f z c h e =
     rw (e, decimal-reads (u .0) (h .0), decimal-reads f (h .1), decimal-reads z (h .3), core-reads c (h .4), core-back c)
 device-read t (C b) u f z c h e =
     rw (e, decimal-reads (u .0) (h .0), decimal-reads f (h .1), decimal-reads b (h .2), decimal-reads z (h .3), core-reads c (h .4), core-back c)
+device-read t B u f z c h e =
+    rw (e, decimal-reads (u .0) (h .0), decimal-reads f (h .1), decimal-reads z (h .3), core-reads c (h .4), core-back c)
 
 -- the letter is, too
 open-read : (t : List ℕ) (s : Setup) → OpenFits s → fields t ≡ openFields s → openLine t true ≡ Line (Open s)

@@ -8,7 +8,7 @@ use Prim.Native.Nat.{ℕ, suc, _+_, _≤_}
 use native.Mathlib.Omega.{arith}
 use lib.ListN.{length, take, set}
 use Rattle.requests.specs.declared.Device.{Device}
-use Rattle.requests.specs.declared.Device.the-variants.{G, S, C}
+use Rattle.requests.specs.declared.Device.the-variants.{G, S, C, B}
 use Rattle.requests.specs.declared.Request.the-variants.{Event, Packet, Offcore, Latency}
 use Rattle.requests.specs.Choice.{pick, firstHolding}
 use Rattle.grammar.specs.Fields.{fieldAt}
@@ -54,6 +54,7 @@ unfolding openFormats
 formats-few G = omega arith
 formats-few S = omega arith
 formats-few (C b) = omega arith
+formats-few B = omega arith
 
 open-settled : (t : List ℕ) (closed : Bool) → Settled (openLine t closed)
 unfolding openLine openOn

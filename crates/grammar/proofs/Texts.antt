@@ -12,7 +12,7 @@ use Rattle.requests.proofs.DeviceNumbers.{numbers}
 use Rattle.requests.proofs.Tests.{both-parts}
 use Rattle.requests.specs.declared.CounterSet.{CounterSet}
 use Rattle.requests.specs.declared.Device.{Device}
-use Rattle.requests.specs.declared.Device.the-variants.{G, S, C}
+use Rattle.requests.specs.declared.Device.the-variants.{G, S, C, B}
 use Rattle.requests.specs.declared.Core.{Core}
 use Rattle.requests.specs.declared.Core.the-variants.{NoCore, At}
 use Rattle.requests.specs.declared.Request.the-variants.{Event, Packet, Offcore, Latency}
@@ -86,6 +86,8 @@ open-written S u f z c h =
 open-written (C b) u f z c h =
     text-of _ _ _ refl _
     (more (letter-plain (C b)) (more (decimal-plain (u .0) (h .0)) (more (decimal-plain f (h .1)) (more (decimal-plain b (h .2)) (overflow-plain z c (h .3) (h .4)))))) refl
+open-written B u f z c h =
+    text-of _ _ _ refl _ (more (letter-plain B) (more (decimal-plain (u .0) (h .0)) (more (decimal-plain f (h .1)) (overflow-plain z c (h .3) (h .4))))) refl
 
 -- every record has one
 pub record-written : (r : Record) → Fits r → TextOf r

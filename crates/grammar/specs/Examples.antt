@@ -8,7 +8,7 @@ use Rattle.requests.specs.declared.CounterSet.{CounterSet}
 use Rattle.requests.specs.declared.Core.{Core}
 use Rattle.requests.specs.declared.Core.the-variants.{NoCore, At}
 use Rattle.requests.specs.declared.Device.{Device}
-use Rattle.requests.specs.declared.Device.the-variants.{G, S, C}
+use Rattle.requests.specs.declared.Device.the-variants.{G, S, C, B}
 use Rattle.requests.specs.declared.Request.the-variants.{Event, Packet, Offcore, Latency}
 use Rattle.requests.specs.Choice.{pick}
 use Rattle.grammar.specs.Text.{bytes, tab, newline}
@@ -49,6 +49,7 @@ examples =
     ∷ closed "open C 63 0 7 0 -" (opens (C 7) 63 0 0 NoCore)
     ∷ closed "open C 1 0 0 0 7" (opens (C 0) 1 0 0 (At 7))
     ∷ closed "open G 15 0 0 0" (opens G 15 0 0 (At 0))
+    ∷ closed "open B 15 7 0 -" (opens B 15 7 0 NoCore)
     -- numbers that no device opens with: the grammar does not judge them
     ∷ closed "open S 0 99999 2 8" (opens S 0 99999 2 (At 8))
     ∷ closed "open C 64 1 8 99999 99999" (opens (C 8) 64 1 99999 (At 99999))
@@ -62,7 +63,7 @@ examples =
     -- the number of the field at fault: the verb, a letter, a leading zero, six digits, lower case, a wrong width
     ∷ closed "" (Fault 0)
     ∷ closed "Turn" (Fault 0)
-    ∷ closed "open B 15 0 0 -" (Fault 1)
+    ∷ closed "open D 15 0 0 -" (Fault 1)
     ∷ closed "open GS 15 0 0 -" (Fault 1)
     ∷ closed "open G 15 08 0 -" (Fault 3)
     ∷ closed "open G 15 -1 0 -" (Fault 3)
@@ -91,6 +92,8 @@ examples =
     ∷ closed "open G 15 0 0 - 0" (Fault 6)
     ∷ closed "open S 15 0 7 0 -" (Fault 6)
     ∷ closed "open C 63 0 7 0 - 0" (Fault 7)
+    ∷ closed "open B 15 0" (Fault 4)
+    ∷ closed "open B 15 0 7 0 -" (Fault 6)
     ∷ closed "turn " (Fault 1)
     ∷ closed "drop 1 2" (Fault 2)
     ∷ closed "drop  1" (Fault 1)

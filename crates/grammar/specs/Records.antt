@@ -2,7 +2,7 @@
 use mathlib.Core.List.{List, [], _∷_, _++_}
 use Prim.Native.Nat.{ℕ, _^_, _<_}
 use Rattle.requests.specs.declared.Device.{Device}
-use Rattle.requests.specs.declared.Device.the-variants.{G, S, C}
+use Rattle.requests.specs.declared.Device.the-variants.{G, S, C, B}
 use Rattle.requests.specs.declared.Core.{Core}
 use Rattle.requests.specs.declared.Core.the-variants.{NoCore, At}
 use Rattle.requests.specs.declared.Overflow.{Overflow}
@@ -26,6 +26,7 @@ unfoldable pub boxFields : Device → List (List ℕ)
 boxFields G = []
 boxFields S = []
 boxFields (C b) = decimalText b ∷ []
+boxFields B = []
 
 -- "core or `-` for none"
 unfoldable pub coreText : Core → List ℕ

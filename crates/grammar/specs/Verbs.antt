@@ -8,7 +8,7 @@ use mathlib.Core.Option.{Option, none, some}
 use lib.ListN.{length, getD, set}
 use lib.Dec.{eqb}
 use Rattle.requests.specs.declared.Device.{Device}
-use Rattle.requests.specs.declared.Device.the-variants.{G, S, C}
+use Rattle.requests.specs.declared.Device.the-variants.{G, S, C, B}
 use Rattle.requests.specs.declared.CounterSet.{CounterSet}
 use Rattle.requests.specs.declared.Request.the-variants.{Event, Packet, Offcore, Latency}
 use Rattle.requests.specs.Choice.{both, pick, Row, firstHolding}
@@ -67,6 +67,7 @@ unfoldable pub openFormats : Device → List ℕ
 openFormats G = decimalFormat ∷ decimalFormat ∷ decimalFormat ∷ coreFormat ∷ []
 openFormats S = decimalFormat ∷ decimalFormat ∷ decimalFormat ∷ coreFormat ∷ []
 openFormats (C b) = decimalFormat ∷ decimalFormat ∷ decimalFormat ∷ decimalFormat ∷ coreFormat ∷ []
+openFormats B = decimalFormat ∷ decimalFormat ∷ decimalFormat ∷ coreFormat ∷ []
 
 -- the record that opens a device with these numbers
 unfoldable pub openAs : Device → ℕ → ℕ → ℕ → ℕ → Record
@@ -77,6 +78,7 @@ unfoldable pub openWith : Device → Made
 openWith G usable fixed freeze core absent = openAs G usable fixed freeze core
 openWith S usable fixed freeze core absent = openAs S usable fixed freeze core
 openWith (C b) usable fixed box freeze core = openAs (C box) usable fixed freeze core
+openWith B usable fixed freeze core absent = openAs B usable fixed freeze core
 
 -- `open` with a device that is known
 unfoldable pub openOn : List ℕ → Bool → Device → Parsed

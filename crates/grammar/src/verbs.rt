@@ -85,6 +85,7 @@ fn open_numbers(text: &[u8], parts: Parts, closed: bool, device: Device) -> Line
             2,
             &[DECIMAL, DECIMAL, DECIMAL, DECIMAL, CORE],
         ),
+        Device::B => numbers_of(text, parts, closed, 2, &[DECIMAL, DECIMAL, DECIMAL, CORE]),
     }
 }
 
@@ -112,6 +113,7 @@ fn open_with(device: Device, usable: u64, fixed: u64, third: u64, fourth: u64, f
         Device::G => open_as(Device::G, usable, fixed, third, fourth),
         Device::S => open_as(Device::S, usable, fixed, third, fourth),
         Device::C(_) => open_as(Device::C(third), usable, fixed, fourth, fifth),
+        Device::B => open_as(Device::B, usable, fixed, third, fourth),
     }
 }
 

@@ -9,7 +9,7 @@ use lib.Dec.{eqb}
 use lib.ListN.{length, getD}
 use borrow.Author.Tests.{eqb-true}
 use Rattle.requests.specs.declared.Device.{Device}
-use Rattle.requests.specs.declared.Device.the-variants.{G, S, C}
+use Rattle.requests.specs.declared.Device.the-variants.{G, S, C, B}
 use Rattle.requests.specs.Choice.{both, pick}
 use Rattle.requests.specs.Devices.{letterOf, boxOf}
 use Rattle.requests.proofs.DeviceNumbers.{numbers}
@@ -75,6 +75,7 @@ unfolding boxOf byLetter
 no-box-by-letter G = refl
 no-box-by-letter S = refl
 no-box-by-letter (C b) = refl
+no-box-by-letter B = refl
 
 letter-box : (f : List ℕ) (d : Device) → lettered f ≡ some d → boxOf d ≡ 0
 letter-box f d e =

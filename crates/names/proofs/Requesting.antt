@@ -15,7 +15,7 @@ use Rattle.requests.specs.Catalogue.{eventsOf, codeIn, pairIn}
 use Rattle.requests.specs.Checks.{kindNotOn, notListed, requestRows, requestRefusal}
 use Rattle.requests.specs.declared.CounterSet.{CounterSet}
 use Rattle.requests.specs.declared.Device.{Device}
-use Rattle.requests.specs.declared.Device.the-variants.{G, S, C}
+use Rattle.requests.specs.declared.Device.the-variants.{G, S, C, B}
 use Rattle.requests.specs.declared.Refusal.the-variants.{KindNotOnDevice, NotListed}
 use Rattle.requests.specs.declared.Request.the-variants.{Event, Packet, Offcore}
 use Rattle.requests.specs.declared.Setup.{Setup}
@@ -48,6 +48,7 @@ unfolding kindNotOn foreign packetsOn offcoreOn
 foreign-kind G a = refl
 foreign-kind S a = refl
 foreign-kind (C b) a = refl
+foreign-kind B a = refl
 
 foreign-refused : (s : Setup) (a : CounterSet) → requestRefusal s (foreign (s .device) a) ≡ some KindNotOnDevice
 unfolding requestRefusal requestRows firstHolding
@@ -59,12 +60,14 @@ unfolding notListed unlisted pairsJudged eventsOf cboxEvents pairIn codeIn allow
 unlisted-pair G a = refl
 unlisted-pair S a = refl
 unlisted-pair (C b) a = refl
+unlisted-pair B a = refl
 
 unlisted-kind : (d : Device) (a : CounterSet) → kindNotOn d (unlisted a) ≡ false
 unfolding kindNotOn unlisted
 unlisted-kind G a = refl
 unlisted-kind S a = refl
 unlisted-kind (C b) a = refl
+unlisted-kind B a = refl
 
 unlisted-refused : (s : Setup) (a : CounterSet) → requestRefusal s (unlisted a) ≡ some NotListed
 unfolding requestRefusal requestRows firstHolding

@@ -5,7 +5,7 @@ use mathlib.Core.List.{List, [], _∷_, _++_, map}
 use mathlib.Core.Option.{Option, none, some}
 use Prim.Native.Nat.{ℕ}
 use Prim.Native.String.{String}
-use Rattle.requests.specs.declared.Device.the-variants.{G, S, C}
+use Rattle.requests.specs.declared.Device.the-variants.{G, S, C, B}
 use Rattle.grammar.specs.Text.{bytes, newline}
 use Rattle.grammar.specs.Examples.{tabbed, typed}
 use Rattle.names.specs.Rows.{rowOf}
@@ -21,6 +21,7 @@ rows =
     ("CYCLES G 3C 00", Formed (record { device = G; code = 0x3C; mask = 0x00 }))
     ∷ ("A S 51 03", Formed (record { device = S; code = 0x51; mask = 0x03 }))
     ∷ ("_ C 0B 07", Formed (record { device = C 0; code = 0x0B; mask = 0x07 }))
+    ∷ ("STORES B CD 02", Formed (record { device = B; code = 0xCD; mask = 0x02 }))
     ∷ ("0123456789_ABCDEFGHIJKLMNOPQRSTUVWXYZ_89 G C0 00", Formed (record { device = G; code = 0xC0; mask = 0x00 }))
     -- 41 bytes, none, a lower-case letter, a device that `open` does not know, lower-case hex, one digit, too few and too many fields
     ∷ ("0123456789_ABCDEFGHIJKLMNOPQRSTUVWXYZ_890 G C0 00", Bad)

@@ -5,7 +5,7 @@ use Prim.Native.Nat.{ℕ}
 use Prim.Native.String.{String}
 use Rattle.requests.specs.declared.CounterSet.{CounterSet}
 use Rattle.requests.specs.declared.Device.{Device}
-use Rattle.requests.specs.declared.Device.the-variants.{G, S, C}
+use Rattle.requests.specs.declared.Device.the-variants.{G, S, C, B}
 use Rattle.requests.specs.declared.Request.the-variants.{Event, Packet, Offcore}
 use Rattle.grammar.specs.Text.{newline}
 use Rattle.grammar.specs.Examples.{tabbed, typed}
@@ -29,7 +29,7 @@ pub record Example : Type 0 where
 abbrev good : NameLists
 good = record {
   site = typed ("CYCLES G 3C 00" ∷ "STARVE C 0B 18" ∷ "CYCLES S 52 00" ∷ []);
-  house = typed ("CYCLES S 52 00" ∷ "INSTR G C0 00" ∷ "ODD G C0 05" ∷ []);
+  house = typed ("CYCLES S 52 00" ∷ "INSTR G C0 00" ∷ "ODD G C0 05" ∷ "STORES B CD 02" ∷ []);
 }
 
 -- a row of the house's that is not closed
@@ -55,10 +55,12 @@ examples =
     on G "named 1 CYCLES 15" (Named 1 (Event 0x3C 0x00 (set 15)))
     ∷ on G "named 2 INSTR 1" (Named 2 (Event 0xC0 0x00 (set 1)))
     ∷ on G "named 3 ODD 15" (Named 3 (Event 0xC0 0x05 (set 15)))
-    -- rows of other devices: packets on G and C, offcore on S, which they do not have
+    ∷ on B "named 4 STORES 8" (Named 4 (Event 0xCD 0x02 (set 8)))
+    -- rows of other devices: packets on G, C and B, offcore on S, which they do not have
     ∷ on G "named 3 STARVE 15" (Named 3 (Packet 0 0 (set 15)))
     ∷ on S "named 1 CYCLES 15" (Named 1 (Offcore 0 (set 15)))
     ∷ on (C 7) "named 1 CYCLES 63" (Named 1 (Packet 0 0 (set 63)))
+    ∷ on B "named 1 INSTR 15" (Named 1 (Packet 0 0 (set 15)))
     -- a row of the letter C serves every C-Box
     ∷ on (C 7) "named 1 STARVE 63" (Named 1 (Event 0x0B 0x18 (set 63)))
     -- in neither list, and the beginning of a name

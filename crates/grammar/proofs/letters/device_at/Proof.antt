@@ -16,7 +16,7 @@ abbrev Inv-loop : tie.InvT-loop
 Inv-loop text parts k ds i₀ i = letteredIn (drop i ds) (fieldAt text k) ≡ lettered (fieldAt text k)
 
 abbrev μ-loop : tie.MeasureT-loop
-μ-loop text parts k ds i₀ i = 3 - i
+μ-loop text parts k ds i₀ i = 4 - i
 
 loop-holds : tie.Need-loop-holds Inv-loop μ-loop
 loop-holds c = rw (c .devices .ensures) (lettered-all _)

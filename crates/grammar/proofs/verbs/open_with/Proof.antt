@@ -17,6 +17,10 @@ returns-3 : tie.Need-returns-3
 unfolding openWith
 returns-3 c = rw (c .before .enum-told3 .given .1) (c .open-as3 .ensures)
 
+returns-4 : tie.Need-returns-4
+unfolding openWith
+returns-4 c = rw (c .before .enum-told4 .given .1) (c .open-as4 .ensures)
+
 pub open-with-spec : {M : Type 1} → statement M
 open-with-spec =
     tie.close
@@ -27,6 +31,9 @@ open-with-spec =
     (λ c κs. search needs)
     (λ c. search needs)
     (λ c κs. search needs)
+    (λ c. search needs)
+    (λ c κs. search needs)
     returns
     returns-2
-    returns-3)
+    returns-3
+    returns-4)
