@@ -11,7 +11,7 @@ use Rattle.requests.specs.Choice.{both, either, pick, firstHolding}
 use Rattle.requests.specs.Devices.{letterOf, packetsOn, offcoreOn, pairsJudged}
 use Rattle.requests.specs.MaskRules.{allows}
 use Rattle.requests.specs.CBoxEvents.{cboxEvents}
-use Rattle.requests.specs.Catalogue.{eventsOf, codeIn, pairIn}
+use Rattle.requests.specs.Catalogue.{architecturalEvents, preciseEvents, eventsOf, codeIn, pairIn}
 use Rattle.requests.specs.Checks.{kindNotOn, notListed, requestRows, requestRefusal}
 use Rattle.requests.specs.declared.CounterSet.{CounterSet}
 use Rattle.requests.specs.declared.Device.{Device}
@@ -56,7 +56,7 @@ foreign-refused s a = rw (foreign-kind (s .device) a, firstHolding)
 
 -- 8
 unlisted-pair : (d : Device) (a : CounterSet) → notListed d (unlisted a) ≡ true
-unfolding notListed unlisted pairsJudged eventsOf cboxEvents pairIn codeIn allows both either
+unfolding notListed unlisted pairsJudged architecturalEvents preciseEvents eventsOf cboxEvents pairIn codeIn allows both either
 unlisted-pair G a = refl
 unlisted-pair S a = refl
 unlisted-pair (C b) a = refl
