@@ -27,11 +27,12 @@ const NAMES: [&str; 5] = ["BOTH", "SITE", "HOUSE", "HOUS", ""];
 /// And asked for by name.
 const LINES: &str = "open\tG\t15\t0\t0\t-\nnamed\t1\tBOTH\t15\nnamed\t2\tHOUSE\t15\nturn\n";
 /// The transcripts, each with its site's list and its house's.
-const TRANSCRIPTS: [[&str; 3]; 6] = [
+const TRANSCRIPTS: [[&str; 3]; 7] = [
     ["technician.txt", "technician.site", "house.txt"],
     ["g.txt", "no_site.txt", "house.txt"],
     ["s.txt", "no_site.txt", "house.txt"],
     ["c.txt", "no_site.txt", "house.txt"],
+    ["b.txt", "no_site.txt", "house.txt"],
     ["names.txt", "names.site", "names.house"],
     ["damaged.txt", "damaged.site", "damaged.house"],
 ];

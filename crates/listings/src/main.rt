@@ -15,4 +15,5 @@ fn main() {
     line(b"G", Device::G);
     line(b"S", Device::S);
     line(b"C", Device::C(0));
+    line(b"B", Device::B);
 }

@@ -34,6 +34,7 @@ fn report(list: &[u8]) {
     line(list, b"G", Device::G);
     line(list, b"S", Device::S);
     line(list, b"C", Device::C(0));
+    line(list, b"B", Device::B);
 }
 
 // Holds the list of a file to the catalogues.
@@ -63,6 +64,7 @@ fn main() {
     answer_named(b"g.txt", b"no_site.txt", b"house.txt");
     answer_named(b"s.txt", b"no_site.txt", b"house.txt");
     answer_named(b"c.txt", b"no_site.txt", b"house.txt");
+    answer_named(b"b.txt", b"no_site.txt", b"house.txt");
     answer_named(b"names.txt", b"names.site", b"names.house");
     answer_named(b"damaged.txt", b"damaged.site", b"damaged.house");
 }
