@@ -93,6 +93,7 @@ fn opening(s: Session) {
         Device::G => text(b"session G"),
         Device::S => text(b"session S"),
         Device::C(_) => text(b"session C"),
+        Device::B => text(b"session B"),
     }
     field(setup.usable.0);
     text(b" len");
