@@ -3,7 +3,7 @@ use mathlib.Core.Bool.{Bool, true, false}
 use Prim.Native.Nat.{ℕ, _≤_, _<_}
 use native.Mathlib.Omega.{arith}
 use Rattle.requests.specs.declared.Device.{Device}
-use Rattle.requests.specs.declared.Device.the-variants.{G, S, C}
+use Rattle.requests.specs.declared.Device.the-variants.{G, S, C, B}
 use Rattle.requests.specs.Devices.{capacity}
 use Rattle.layouts.specs.Layout.{layoutOf, controlAt, counterAt}
 use Rattle.layouts.specs.WriteCount.{writeLimit}
@@ -24,6 +24,7 @@ write-room S false = omega arith
 write-room S true = omega arith
 write-room (C b) false = omega arith
 write-room (C b) true = omega arith
+write-room B a = omega arith
 
 pub widths : (d : Device) → DeviceWidths d
 unfolding controlAt counterAt layoutOf capacity
@@ -44,4 +45,10 @@ widths (C b) =
       control = λ k l. omega (arith, cbox-range b .1);
       counter = λ k l. omega (arith, cbox-range b .1);
       global = omega (arith, cbox-range b .1);
+    }
+widths B =
+    record {
+      control = λ k l. omega arith;
+      counter = λ k l. omega arith;
+      global = omega arith;
     }

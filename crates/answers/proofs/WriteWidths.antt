@@ -11,7 +11,7 @@ use lib.ListN.{getD}
 use lib.Pow.{pow-mono}
 use borrow.Author.Tests.{ltb-true}
 use Rattle.requests.specs.declared.Device.{Device}
-use Rattle.requests.specs.declared.Device.the-variants.{G, S, C}
+use Rattle.requests.specs.declared.Device.the-variants.{G, S, C, B}
 use Rattle.requests.specs.declared.Core.{Core}
 use Rattle.requests.specs.declared.Core.the-variants.{NoCore, At}
 use Rattle.requests.specs.declared.Setup.{Setup}
@@ -29,9 +29,10 @@ use Rattle.plans.specs.Legal.{wordsOf, packetsOf, ofAll}
 use Rattle.requests.proofs.DeviceNumbers.{numbers}
 use Rattle.plans.proofs.Sets.{all-append}
 use Rattle.plans.proofs.PlanLengthHolds.{plan-length}
-use Rattle.layouts.specs.Layout.{tabulate, rsp0At, rsp1At, mmCfgAt, matchAt, maskAt, uboxAt, mmEnable, frzAll, enAll, coreSel, enabledOn, pmiEnable, enabled, eventWord, offcoreCode, rspMask, rspWord, packetWord}
+use Rattle.layouts.specs.declared.Settings.{Settings}
+use Rattle.layouts.specs.Layout.{tabulate, rsp0At, rsp1At, mmCfgAt, matchAt, maskAt, uboxAt, pebsAt, pebsOn, mmEnable, frzAll, enAll, coreSel, preciseStore, isEvent, enabledOn, pmiEnable, enabled, eventWord, offcoreCode, rspMask, rspWord, packetWord}
 use Rattle.layouts.specs.Settings.{usesOf, wordAt, headOr, nonempty, settingsOf}
-use Rattle.layouts.specs.Writes.{Write, unusable, fixedAt, fixedEnables, firstGlobal, lastGlobal, offcoreWrites, packetWrites, filterWrites, coreBit, uboxValue, writes}
+use Rattle.layouts.specs.Writes.{Write, unusable, fixedAt, fixedEnables, firstGlobal, lastGlobal, offcoreWrites, packetWrites, filterWrites, row, pebsEnable, preciseWrites, coreBit, uboxValue, writes}
 use Rattle.layouts.proofs.ListLaws.{all-head}
 use Rattle.layouts.proofs.Tabulated.{getD-tabulate}
 use Rattle.layouts.proofs.DeviceFacts.{facts, in-room}
@@ -179,6 +180,25 @@ packet-writes-fit true x y h =
     (cons (filter-fits mmCfgAt (2 ^ mmEnable) (omega arith) (omega arith)) nil)))
 packet-writes-fit false x y h = cons (filter-fits mmCfgAt 0 (omega arith) zero-fits) nil
 
+-- the enables of precise events are bits of a word
+pebs-fits : (f : ℕ → ℕ) → Hex 16 (pebsEnable f)
+unfolding pebsEnable preciseStore
+pebs-fits f = go (isEvent 0xC0 0x01 (f 1)) (isEvent 0xCD 0x02 (f 3))
+  where
+    go : (a b : Bool) → Hex 16 (pick a (2 ^ 1) 0 + pick b (2 ^ 3 + 2 ^ 63) 0)
+    go true true = omega arith
+    go true false = omega arith
+    go false true = omega arith
+    go false false = omega arith
+
+precise-fit : (d : Device) (t : Settings) → All WriteFits (preciseWrites d t)
+unfolding preciseWrites pebsAt
+precise-fit d t = go (pebsOn d)
+  where
+    go : (b : Bool) → All WriteFits (row b pebsAt (pebsEnable (λ k. getD (t .words) k 0)))
+    go true = cons (filter-fits pebsAt _ (omega arith) (pebs-fits (λ k. getD (t .words) k 0))) nil
+    go false = nil
+
 module _ (rs : List Request) (ps : List Place) (fit : All WordsFit rs) where
   -- the word of an RSP register
   rsp-word-fits : (i : ℕ) → Hex 16 (headOr 0 (ofAll (wordsOf i) rs ps))
@@ -189,6 +209,7 @@ module _ (rs : List Request) (ps : List Place) (fit : All WordsFit rs) where
   filters-fit s G = cons (filter-fits rsp0At _ (omega arith) (rsp-word-fits 0)) (cons (filter-fits rsp1At _ (omega arith) (rsp-word-fits 1)) nil)
   filters-fit s S = packet-writes-fit (nonempty (flatMap packetsOf rs)) _ _ (all-head (0, 0) (flatMap packetsOf rs) (zero-fits, zero-fits) (packets-fit fit))
   filters-fit s (C b) = nil
+  filters-fit s B = nil
 
   pub writes-fit : (s : Setup) → All WriteFits (writes s rs ps)
   unfolding writes settingsOf uboxAt
@@ -206,4 +227,5 @@ module _ (rs : List Request) (ps : List Place) (fit : All WordsFit rs) where
         widths d .control k (in-room d k l),
         rw (getD-tabulate capacity (wordAt us) k 0 (in-room d k l)) (word-at (Hex 16) us k zero-fits (of-all (usesOf s) (uses-fit s) fit ps)),
       ))
+      (precise-fit d t)
       (widths d .global, last-fits s (t .used .0)))
