@@ -6,4 +6,5 @@ pub mod Transcript
 pub mod Cutting
 pub mod Tries
 pub mod OrderTries
+pub mod PreciseTries
 pub mod NameTries
