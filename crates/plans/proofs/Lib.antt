@@ -17,3 +17,4 @@ pub mod AcceptanceTests
 pub mod ReachHolds
 pub mod FilterWordsHold
 pub mod ExtendsHold
+pub mod PrecisePlans

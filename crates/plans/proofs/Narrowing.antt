@@ -65,7 +65,7 @@ unfolding first
 counter-is k j e = ap first e
 
 -- the counter on which a request runs is one alone
-runs-one : (d : Device) (r : Request) (j k : ℕ) → RunsOn d r j → RunsOn d r k → j ≡ k
+pub runs-one : (d : Device) (r : Request) (j k : ℕ) → RunsOn d r j → RunsOn d r k → j ≡ k
 runs-one d r j k instructions instructions = refl
 runs-one d r j k stores stores = refl
 

@@ -13,6 +13,7 @@ pub mod Parts
 pub mod Reach
 pub mod FilterWords
 pub mod Extends
+pub mod PrecisePlans
 pub mod PlanTries
 -- The code's own: how it holds its values. No claim.
 pub mod Packed
