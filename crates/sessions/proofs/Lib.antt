@@ -17,6 +17,7 @@ pub mod Accepted
 pub mod QueueRules
 pub mod SoundKept
 pub mod HeadTaken
+pub mod LoneRequests
 pub mod Advance
 pub mod TurnsAt
 pub mod Settled

@@ -21,6 +21,7 @@ pub mod Agreement
 pub mod DistinctIds
 pub mod WellFormed
 pub mod HeadTaken
+pub mod LoneRequests
 pub mod Demand3
 pub mod Demand3From
 pub mod Runs
