@@ -17,6 +17,7 @@ use Rattle.layouts.proofs.OthersUntouched.{others-untouched}
 use Rattle.layouts.proofs.FixedEnables.{fixed-enables}
 use Rattle.layouts.proofs.UsedEnabled.{used-enabled}
 use Rattle.layouts.proofs.UBox.{ubox}
+use Rattle.layouts.proofs.PreciseEvents.{precise-events}
 use Rattle.layouts.proofs.RestWhileWritten.{rest-while-written}
 use Rattle.layouts.proofs.RoundTrip.{round-trip}
 use Rattle.layouts.specs.Writes.{filled}
@@ -61,6 +62,8 @@ turn-done limit s q slice result sound accepted plan-is count-is slice-is next-i
       rests = rest-while-written s _ _ (first .legal);
       with-host = λ n. ubox .with-host (openingOf s) s (sound .setup) n _ _;
       framed = λ n. ubox .framed (openingOf s) s (sound .setup) n _ _ (first .legal);
+      precise = λ on. precise-events .written s _ _ on formed (first .legal);
+      no-precise = precise-events .elsewhere s _ _;
       read = round-trip s _ _ (sound .setup) formed (first .legal);
       next = next-is;
     }

@@ -6,6 +6,7 @@ use mathlib.Core.Bool.{true, false, not}
 use Prim.Native.Nat.{ℕ, _*_, _≤_, _<_}
 use lib.Dec.{ltb}
 use lib.ListN.{length}
+use Rattle.requests.specs.declared.Device.the-variants.{B}
 use Rattle.requests.specs.declared.Setup.{Setup}
 use Rattle.requests.specs.declared.Entry.{Entry}
 use Rattle.requests.specs.declared.Answer.the-variants.{Accepted}
@@ -24,6 +25,7 @@ use Rattle.layouts.specs.OthersUntouched.{Ours}
 use Rattle.layouts.specs.FixedEnables.{Carries}
 use Rattle.layouts.specs.UBox.{askingNothing, withPmi, lastValue}
 use Rattle.layouts.specs.RestWhileWritten.{RestsInside}
+use Rattle.layouts.specs.PreciseEvents.{WrittenLast}
 use Rattle.layouts.specs.RoundTrip.{ReadBack}
 use Rattle.sessions.specs.Turns.{requestsOf, taken, turned, assign}
 use Rattle.sessions.specs.Calls.{Call, Plain, opened}
@@ -74,6 +76,9 @@ pub record TurnDone (s : Setup) (q : List Entry) (slice : List ℕ) (result : Tu
   pub framed : ¬ NothingAsked (s .overflow)
       → writes s (requestsOf (taken s q)) places
       ≡ (0x0C00, 0) ∷ map (withPmi s) (writes (askingNothing s) (requestsOf (taken s q)) places) ++ (0x0C00, lastValue (s .overflow)) ∷ []
+  -- order 12: on B the list ends with 03F1, whose value is that of the requests taken, and 038F; on another device 03F1 is not written
+  pub precise : s .device ≡ B → WrittenLast (requestsOf (taken s q)) (writes s (requestsOf (taken s q)) places)
+  pub no-precise : s .device ≢ B → All (λ (w : Write). w .0 ≢ 0x03F1) (writes s (requestsOf (taken s q)) places)
   -- "applied to any registers and read, give that turn's plan counter by counter"
   pub read : (registers : ℕ → ℕ) → ReadBack s (requestsOf (taken s q)) places (writes s (requestsOf (taken s q)) places) registers
   -- the queue afterwards
