@@ -26,3 +26,5 @@ pub mod Demand3
 pub mod Demand3From
 pub mod Runs
 pub mod TurnsRuns
+pub mod LoneRuns
+pub mod ShorterRuns
