@@ -2,7 +2,7 @@
 use requests::CounterSet;
 use requests::Request;
 
-// Every counter of G or S.
+// Every counter of G, S or B.
 const EVERY: u64 = 15;
 
 // Every counter of a C-Box.

@@ -28,7 +28,7 @@ pub const ANOTHER: u64 = 4;
 const NOT_ACCEPTED: u64 = 15;
 
 // What the reader tells of the values.
-pub fn reading(setup: Setup, values: [u64; 13]) -> Reading {
+pub fn reading(setup: Setup, values: [u64; 14]) -> Reading {
     read(opening_of(setup), given(values))
 }
 
@@ -46,8 +46,8 @@ fn answered(after: Reading) -> u64 {
 }
 
 // What comes of the change of a bit.
-fn outcome(setup: Setup, values: [u64; 13], told: Reading, register: usize, bit: u64) -> u64
-    requires { ⌜ (register < 13) × (bit < 64) ⌝ }
+fn outcome(setup: Setup, values: [u64; 14], told: Reading, register: usize, bit: u64) -> u64
+    requires { ⌜ (register < 14) × (bit < 64) ⌝ }
 {
     let after = reading(setup, changed(values, register, bit));
     if looked_at(setup, values, register) {
@@ -57,8 +57,8 @@ fn outcome(setup: Setup, values: [u64; 13], told: Reading, register: usize, bit:
 }
 
 // How many bits of a register have the outcome.
-fn bits_with(setup: Setup, values: [u64; 13], told: Reading, register: usize, wanted: u64) -> u64
-    requires { ⌜ register < 13 ⌝ }
+fn bits_with(setup: Setup, values: [u64; 14], told: Reading, register: usize, wanted: u64) -> u64
+    requires { ⌜ register < 14 ⌝ }
     ensures { λ r. ⌜ r ≤ 64 ⌝ }
 {
     let mut found: u64 = 0;
@@ -74,8 +74,8 @@ fn bits_with(setup: Setup, values: [u64; 13], told: Reading, register: usize, wa
 }
 
 // The same, where the device has the register.
-fn bits_on(setup: Setup, values: [u64; 13], told: Reading, register: usize, wanted: u64) -> u64
-    requires { ⌜ register < 13 ⌝ }
+fn bits_on(setup: Setup, values: [u64; 14], told: Reading, register: usize, wanted: u64) -> u64
+    requires { ⌜ register < 14 ⌝ }
     ensures { λ r. ⌜ r ≤ 64 ⌝ }
 {
     if on_device(setup, register) {
@@ -85,12 +85,12 @@ fn bits_on(setup: Setup, values: [u64; 13], told: Reading, register: usize, want
 }
 
 // How many bits of all registers of the device have the outcome.
-pub fn count(setup: Setup, values: [u64; 13], told: Reading, wanted: u64) -> u64
-    ensures { λ r. ⌜ r ≤ 832 ⌝ }
+pub fn count(setup: Setup, values: [u64; 14], told: Reading, wanted: u64) -> u64
+    ensures { λ r. ⌜ r ≤ 896 ⌝ }
 {
     let mut total: u64 = 0;
     let mut register: usize = 0;
-    while register < 13 {
+    while register < 14 {
         total += bits_on(setup, values, told, register, wanted);
         register += 1;
     }

@@ -59,7 +59,17 @@ fn c(usable: u64, cbox: u64) -> Setup {
     }
 }
 
-// The same, where an overflow does something.
+// Device B with a usable set and the enables of its fixed counters.
+fn b(usable: u64, fixed: u64) -> Setup {
+    Setup {
+        device: Device::B,
+        usable: CounterSet(usable),
+        fixed: fixed,
+        overflow: unasked(),
+    }
+}
+
+// A setup, where an overflow does something.
 fn asking(setup: Setup, freeze: u64, core: Core) -> Setup {
     let device = setup.device;
     let usable = setup.usable;
@@ -146,8 +156,31 @@ fn on_c() {
     run(asking(c(62, 7), 1, Core::NoCore), masked, 0);
 }
 
+fn on_b() {
+    let halted = event(0x3C, 0x00);
+    let retired = event(0xC0, 0x00);
+    let store = event(0xCD, 0x02);
+    let events = four(
+        retired,
+        event(0x3C, 0x01),
+        event(0x2E, 0x41),
+        event(0xC5, 0x00),
+    );
+    let lone = four(event(0xC0, 0x01), halted, halted, halted);
+    let stores = four(store, halted, event(0x2E, 0x4F), halted);
+    run(b(15, 0), events, 0);
+    run(b(15, 0), events, 4);
+    run(b(15, 0), lone, 1);
+    run(b(15, 5), lone, 1);
+    run(b(15, 0), four(retired, store, halted, halted), 2);
+    run(b(14, 7), stores, 3);
+    run(b(8, 0), stores, 1);
+    run(b(7, 1), four(event(0xC4, 0x00), halted, halted, halted), 1);
+}
+
 fn main() {
     on_g();
     on_s();
     on_c();
+    on_b();
 }

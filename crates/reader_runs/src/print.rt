@@ -22,6 +22,7 @@ fn device(d: Device) {
         Device::G => text(b"G"),
         Device::S => text(b"S"),
         Device::C(_) => text(b"C"),
+        Device::B => text(b"B"),
     }
 }
 
@@ -34,6 +35,7 @@ fn cbox(d: Device) {
             text(b" box ");
             decimal(number);
         }
+        Device::B => {}
     }
 }
 

@@ -22,7 +22,7 @@ fn planned(setup: Setup, requests: [Request; 8], count: usize, list: &mut [u64; 
 }
 
 // What comes of one bit changed.
-fn one_bit_changed(setup: Setup, values: [u64; 13], told: Reading) {
+fn one_bit_changed(setup: Setup, values: [u64; 14], told: Reading) {
     let same = changes::count(setup, values, told, changes::SAME);
     let another = changes::count(setup, values, told, changes::ANOTHER);
     prints::text(b"one bit changed: accepted ");

@@ -24,10 +24,12 @@ const MASK: usize = 11;
 
 const UBOX: usize = 12;
 
-// The place of any register that the reader is not given.
-const OTHER: usize = 13;
+const PEBS: usize = 13;
 
-// The place of the register at an address: of G, of S, and of C-Boxes 0, 1 and 7.
+// The place of any register that the reader is not given.
+const OTHER: usize = 14;
+
+// The place of the register at an address: of G and B, of S, and of C-Boxes 0, 1 and 7.
 fn place_of(address: u64) -> usize {
     match address {
         0x0186 | 0x0C50 | 0x0D10 | 0x0D90 | 0x0DF0 => 0, // IA32_PERFEVTSEL0, S_MSR_PMON_CTL0, CBx_CR_C_MSR_PMON_EVT_SEL_0
@@ -44,18 +46,19 @@ fn place_of(address: u64) -> usize {
         0x0E49 => MATCH, // S_MSR_MATCH
         0x0E4A => MASK, // S_MSR_MASK
         0x0C00 => UBOX, // U_MSR_PMON_GLOBAL_CTL
+        0x03F1 => PEBS, // IA32_PEBS_ENABLE
         _ => OTHER,
     }
 }
 
 // The values after a list of `count` writes, from registers with all bits set.
-pub fn after(list: &[u64; 44], count: usize) -> [u64; 13] {
-    let mut values = [ALL; 13];
+pub fn after(list: &[u64; 44], count: usize) -> [u64; 14] {
+    let mut values = [ALL; 14];
     let mut i: usize = 0;
     while i < 22 {
         let register = place_of(list[2 * i]);
         if i < count {
-            if register < 13 {
+            if register < 14 {
                 values[register] = list[2 * i + 1];
             }
         }
@@ -65,8 +68,8 @@ pub fn after(list: &[u64; 44], count: usize) -> [u64; 13] {
 }
 
 // The values with a bit of one of them changed.
-pub fn changed(values: [u64; 13], register: usize, bit: u64) -> [u64; 13]
-    requires { ⌜ (register < 13) × (bit < 64) ⌝ }
+pub fn changed(values: [u64; 14], register: usize, bit: u64) -> [u64; 14]
+    requires { ⌜ (register < 14) × (bit < 64) ⌝ }
 {
     let mut others = values;
     others[register] = values[register] ^ (1 << bit);
@@ -74,7 +77,7 @@ pub fn changed(values: [u64; 13], register: usize, bit: u64) -> [u64; 13]
 }
 
 // What the reader is given. The control values past the device's counters are not looked at.
-pub fn given(values: [u64; 13]) -> RegisterValues {
+pub fn given(values: [u64; 14]) -> RegisterValues {
     let control = [
         values[0],
         values[1],
@@ -97,6 +100,7 @@ pub fn given(values: [u64; 13]) -> RegisterValues {
         filters: filters,
         global: values[GLOBAL],
         ubox: values[UBOX],
+        pebs: values[PEBS],
     }
 }
 
@@ -106,24 +110,24 @@ pub fn on_device(setup: Setup, register: usize) -> bool {
     (register as u64) < counter_count(device) || GLOBAL <= register
 }
 
-// Whether the filter register is one of G.
+// Whether the register is a filter register of G.
 fn on_g(register: usize) -> bool {
     register == RSP0 || register == RSP1
 }
 
-// Whether the filter register is looked at on S: MATCH and MASK are not, where MM_CFG is 0.
+// Whether the register is looked at on S: MATCH and MASK are not, where MM_CFG is 0.
 fn looked_at_on_s(register: usize, mm_cfg: u64) -> bool {
     if register == MM_CFG {
         return true;
     }
-    if on_g(register) {
-        return false;
+    if register == MATCH || register == MASK {
+        return mm_cfg != 0;
     }
-    mm_cfg != 0
+    false
 }
 
 // Whether the reader looks at the value of a register.
-pub fn looked_at(setup: Setup, values: [u64; 13], register: usize) -> bool {
+pub fn looked_at(setup: Setup, values: [u64; 14], register: usize) -> bool {
     let device = setup.device;
     let usable = setup.usable;
     if register < GLOBAL {
@@ -139,5 +143,6 @@ pub fn looked_at(setup: Setup, values: [u64; 13], register: usize) -> bool {
         Device::G => on_g(register),
         Device::S => looked_at_on_s(register, values[MM_CFG]),
         Device::C(_) => false,
+        Device::B => register == PEBS,
     }
 }
