@@ -1,5 +1,5 @@
 // What the words of a call have to be, a byte a word: `v` a word that is known already, `l` a letter, `d` a decimal number, `x` a hex number,
-// `c` a core, a decimal number or `-`, and `0` itself, where no order has given the argument a meaning.
+// and `c` a core, a decimal number or `-`.
 use crate::numbers::Number;
 use crate::numbers::decimal;
 use crate::numbers::hex;
@@ -7,15 +7,6 @@ use crate::numbers::wide;
 use crate::words::Words;
 use crate::words::word;
 use grammar::words::same;
-
-// The number of a word that has to be the text: 0.
-fn exactly(word: &[u8], text: &[u8]) -> Number {
-    if same(word, text) {
-        Number::Value(0)
-    } else {
-        Number::Bad
-    }
-}
 
 // The number of a core: 0 for `-`.
 fn core(word: &[u8]) -> Number {
@@ -41,8 +32,7 @@ fn number_of(word: &[u8], kind: u8) -> Number {
         b'l' => letter(word),
         b'd' => decimal(word),
         b'x' => hex(word),
-        b'c' => core(word),
-        _ => exactly(word, b"0"),
+        _ => core(word),
     }
 }
 

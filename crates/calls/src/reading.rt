@@ -94,6 +94,7 @@ fn values(numbers: [u64; 20]) -> RegisterValues {
         },
         global: numbers[16],
         ubox: numbers[17],
+        pebs: numbers[18],
     }
 }
 

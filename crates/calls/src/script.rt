@@ -106,7 +106,7 @@ fn session_call(session: Session, line: &[u8], words: Words) -> Session {
         let at = numbers.at;
         return opened(session, opening(line, words, at));
     }
-    let values = numbers_in(line, words, b"vlddddcxxxxxxxxxxx0");
+    let values = numbers_in(line, words, b"vlddddcxxxxxxxxxxxx");
     if same(verb, b"read") && values.fits {
         let at = values.at;
         reading(opening(line, words, at), at);
