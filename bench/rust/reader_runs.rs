@@ -9,7 +9,7 @@ use planner::model::plan::first_plan;
 use planner::model::reader::{read, Registers, State};
 use planner::model::writes::list_of;
 use planner::requests::Request;
-use planner::u_box;
+use planner::{pebs, u_box};
 
 fn print_state(k: usize, state: State) {
     match state {
@@ -42,6 +42,7 @@ fn looked_at(setup: Setup, r: &Registers) -> (Vec<u64>, Vec<u64>) {
         (0xE49, has_match && r.mm_cfg != 0),
         (0xE4A, has_match && r.mm_cfg != 0),
         (u_box::ADDRESS, setup.asks()),
+        (pebs::ADDRESS, setup.device.has_precise()),
     ];
     let (yes, no): (Vec<_>, Vec<_>) = control.chain(filters).partition(|(_, looked)| *looked);
     let addresses = |rows: Vec<(u64, bool)>| rows.into_iter().map(|row| row.0).collect();
@@ -150,8 +151,23 @@ fn on_c() {
     run(asks(62, 7, 1, None), &[]);
 }
 
+fn on_b() {
+    let b = |usable, fixed| Opening::plain(66, usable, fixed, 0);
+    let (pdir, store) = (event(0xC0, 1), event(0xCD, 2));
+    let events = [event(0xC0, 0), event(0x3C, 1), event(0x2E, 0x41), event(0xC5, 0)];
+    run(b(15, 0), &[]);
+    run(b(15, 0), &events);
+    run(b(15, 0), &[pdir]);
+    run(b(15, 5), &[pdir]);
+    run(b(15, 0), &[event(0xC0, 0), store]);
+    run(b(14, 7), &[store, event(0x3C, 0), event(0x2E, 0x4F)]);
+    run(b(8, 0), &[store]);
+    run(b(7, 1), &[event(0xC4, 0)]);
+}
+
 fn main() {
     on_g();
     on_s();
     on_c();
+    on_b();
 }

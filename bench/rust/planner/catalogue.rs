@@ -1,5 +1,5 @@
 //! The events that each device lists, rising by code: those of G and S stand in document 01, those of C in section 2.3.5 of
-//! document 004.
+//! document 004, and those of B in order 12.
 
 /// The unit masks that are listed for a code.
 #[derive(Clone, Copy, Debug)]
@@ -50,6 +50,10 @@ const fn plain(code: u8) -> Event {
 
 /// The SDM's architectural events.
 pub const G: &[Event] = &[only(0x2E, &[0x41, 0x4F]), range(0x3C, 0, 1), plain(0xC0), plain(0xC4), plain(0xC5)];
+
+/// Those of G, and two more: C0/01, INST_RETIRED.ALL, and CD/02, MEM_TRANS_RETIRED.PRECISE_STORE.
+pub const B: &[Event] =
+    &[only(0x2E, &[0x41, 0x4F]), range(0x3C, 0, 1), range(0xC0, 0, 1), plain(0xC4), plain(0xC5), only(0xCD, &[0x02])];
 
 pub const S: &[Event] = &[plain(0x2B), plain(0x2D), plain(0x2F), range(0x31, 1, 3), range(0x51, 1, 3), plain(0x52)];
 

@@ -1,6 +1,7 @@
-//! The devices of document 01 and of order 3, a row each: whatever tells one from another stands in this table.
+//! The devices of document 01 and of the orders 3 and 12, a row each: whatever tells one from another stands in this table.
 
 use super::catalogue::{self, Event};
+use super::pebs::{self, Precise};
 use super::refusal::Refusal;
 use super::u_box;
 
@@ -42,9 +43,11 @@ pub struct Device {
     pub uncore: bool,
     /// Whether a pair that is not listed gets 8; otherwise only a code does, and a mask gets 9 or 10.
     pub listed_by_pair: bool,
+    /// The events that run on one counter only. Where there are some, the register that enables them is the session's.
+    pub precise: &'static [Precise],
 }
 
-pub static DEVICES: [Device; 3] = [
+pub static DEVICES: [Device; 4] = [
     Device {
         letter: b'G',
         counters: 4,
@@ -56,6 +59,7 @@ pub static DEVICES: [Device; 3] = [
         events: catalogue::G,
         uncore: false,
         listed_by_pair: true,
+        precise: &[],
     },
     Device {
         letter: b'S',
@@ -68,6 +72,7 @@ pub static DEVICES: [Device; 3] = [
         events: catalogue::S,
         uncore: true,
         listed_by_pair: false,
+        precise: &[],
     },
     Device {
         letter: b'C',
@@ -80,6 +85,20 @@ pub static DEVICES: [Device; 3] = [
         events: catalogue::C,
         uncore: true,
         listed_by_pair: false,
+        precise: &[],
+    },
+    Device {
+        letter: b'B',
+        counters: 4,
+        enable: 0x430000,
+        filters: Filters::Absent,
+        fixed: 7,
+        addresses: Addresses { global: 0x38F, control: 0x186, counter: 0xC1, step: 1 },
+        boxes: &[0],
+        events: catalogue::B,
+        uncore: false,
+        listed_by_pair: true,
+        precise: pebs::SANDY_BRIDGE,
     },
 ];
 
@@ -99,9 +118,20 @@ impl Device {
         self.boxes.len() > 1
     }
 
+    /// Whether some of its events are precise.
+    pub fn has_precise(&self) -> bool {
+        !self.precise.is_empty()
+    }
+
     /// Every pair that is listed, in the table's order.
     pub fn pairs(&self) -> Vec<(u8, u8)> {
         self.events.iter().flat_map(|event| event.masks.all().into_iter().map(move |mask| (event.code, mask))).collect()
+    }
+
+    /// Those that run on any counter.
+    pub fn plain_pairs(&self) -> Vec<(u8, u8)> {
+        let precise = |pair: &(u8, u8)| self.precise.iter().any(|row| (row.code, row.mask) == *pair);
+        self.pairs().into_iter().filter(|pair| !precise(pair)).collect()
     }
 
     /// The number that refuses an event's code and mask.

@@ -9,6 +9,7 @@ pub mod catalogue;
 pub mod devices;
 pub mod fast;
 pub mod model;
+pub mod pebs;
 pub mod refusal;
 pub mod requests;
 pub mod u_box;

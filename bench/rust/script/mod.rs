@@ -30,15 +30,14 @@ fn turns(s: &mut impl Calls, count: &str, length: &str, room: &str) -> Option<St
     Some(format!("{}\n{}\n{}", texts::answer(&result), texts::slice("list", &lists), texts::slice("ends", &ends)))
 }
 
-/// The last word stands for a register that no device has yet: it is 0.
 fn reading(words: &[&str]) -> Option<String> {
     let (opened, values) = words.split_at_checked(6)?;
-    let (opening, values) = (opening(opened)?, values.strip_suffix(&["0"])?);
+    let opening = opening(opened)?;
     let v: Vec<u64> = values.iter().map(|word| hex(word)).collect::<Option<_>>()?;
-    let [c0, c1, c2, c3, c4, c5, f0, f1, f2, global, u_box] = v[..] else { return None };
+    let [c0, c1, c2, c3, c4, c5, f0, f1, f2, global, u_box, pebs] = v[..] else { return None };
     let mut control = [0; PLACES];
     control[..6].copy_from_slice(&[c0, c1, c2, c3, c4, c5]);
-    let registers = Registers { control, rsp: [f0, f1], mm_cfg: f0, match_word: f1, mask_word: f2, global, u_box };
+    let registers = Registers { control, rsp: [f0, f1], mm_cfg: f0, match_word: f1, mask_word: f2, global, u_box, pebs };
     Some(match read(opening, &registers) {
         Err(number) => format!("no {number}"),
         Ok(states) => states.into_iter().fold("ok".into(), |text, state| format!("{text} {}", texts::told(state))),

@@ -32,6 +32,7 @@ fn without_one(sets: u64, allowed: u64) -> u64 {
 }
 
 /// The sets that a request leaves.
+#[inline(always)]
 pub fn sets_after(sets: u64, request: Request) -> u64 {
     match request {
         Request::Event { allowed, .. } | Request::Packet { allowed, .. } | Request::Offcore { allowed, .. } => {

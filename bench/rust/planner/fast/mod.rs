@@ -4,6 +4,7 @@
 
 mod left;
 pub mod lent;
+mod precise;
 mod road;
 mod rules;
 pub mod search;

@@ -1,17 +1,57 @@
 //! Two roads to the requests that a turn takes and to their plan.
 
 use super::left::{sets_after, Left};
+use super::precise;
 use super::search::first_plan;
 use crate::planner::devices::Setup;
 use crate::planner::requests::{Entry, Place, Request};
 use crate::planner::Turn;
 
 pub trait Road {
-    /// Whether a well-formed request has a plan alone.
-    fn plans_alone(setup: Setup, request: Request) -> bool;
+    /// Whether a request that no rule narrows has a place by itself.
+    fn has_place(setup: Setup, request: Request) -> bool;
+
     /// Goes through the queue from the front, takes what has a plan together, and gives the places; tells where in the queue
-    /// each stood that is taken.
-    fn choose(setup: Setup, queue: &[Entry], turn: &mut Turn, taken_at: impl FnMut(usize));
+    /// each stood that is taken. Requests are taken as they are asked for, and passed over where that is nothing.
+    fn choose_from(
+        setup: Setup,
+        queue: &[Entry],
+        asked: impl Fn(Request) -> Option<Request>,
+        turn: &mut Turn,
+        taken_at: impl FnMut(usize),
+    );
+
+    /// Whether a well-formed request has a plan alone.
+    #[inline(always)]
+    fn plans_alone(setup: Setup, request: Request) -> bool {
+        match setup.device.has_precise() {
+            false => Self::has_place(setup, request),
+            true => Self::plans_precise(setup, request),
+        }
+    }
+
+    /// The same where some events are precise; a call of its own, so that the others lose nothing by it.
+    #[inline(never)]
+    fn plans_precise(setup: Setup, request: Request) -> bool {
+        precise::by_itself(setup, request).is_some_and(|request| Self::has_place(setup, request))
+    }
+
+    /// The requests that a turn takes from a queue in which each has a plan alone.
+    #[inline(always)]
+    fn choose(setup: Setup, queue: &[Entry], turn: &mut Turn, taken_at: impl FnMut(usize)) {
+        match setup.device.has_precise() {
+            false => Self::choose_from(setup, queue, Some, turn, taken_at),
+            true => Self::choose_precise(setup, queue, turn, taken_at),
+        }
+    }
+
+    #[inline(never)]
+    fn choose_precise(setup: Setup, queue: &[Entry], turn: &mut Turn, taken_at: impl FnMut(usize)) {
+        match precise::reachable(setup.device, queue) {
+            head @ [_] => Self::choose_from(setup, head, |request| precise::by_itself(setup, request), turn, taken_at),
+            queue => Self::choose_from(setup, queue, |request| precise::beside(setup.device, request), turn, taken_at),
+        }
+    }
 }
 
 /// What is left of counters and of filter words decides what is taken, and a turn searches once.
@@ -25,7 +65,7 @@ fn pair_fits(first: u64, second: u64) -> bool {
 
 impl Road for Fastest {
     #[inline(always)]
-    fn plans_alone(setup: Setup, request: Request) -> bool {
+    fn has_place(setup: Setup, request: Request) -> bool {
         match request {
             Request::Event { allowed, .. } | Request::Packet { allowed, .. } | Request::Offcore { allowed, .. } => {
                 allowed & setup.usable != 0
@@ -35,13 +75,19 @@ impl Road for Fastest {
     }
 
     #[inline(always)]
-    fn choose(setup: Setup, queue: &[Entry], turn: &mut Turn, mut taken_at: impl FnMut(usize)) {
+    fn choose_from(
+        setup: Setup,
+        queue: &[Entry],
+        asked: impl Fn(Request) -> Option<Request>,
+        turn: &mut Turn,
+        mut taken_at: impl FnMut(usize),
+    ) {
         let mut left = Left::all(setup.usable);
         for (place, entry) in queue.iter().enumerate() {
             if left.no_counter() {
                 break;
             }
-            if left.take(entry.request) {
+            if asked(entry.request).is_some_and(|request| left.take(request)) {
                 turn.taken[turn.count] = *entry;
                 turn.count += 1;
                 taken_at(place);
@@ -64,11 +110,12 @@ fn counters_of(place: Place) -> u64 {
     }
 }
 
-/// Takes an entry behind the others if it has a plan with them.
-fn extend(setup: Setup, entry: &Entry, turn: &mut Turn) -> bool {
+/// Takes an entry, asked for like this, behind the others if it has a plan with them.
+#[inline(always)]
+fn extend(setup: Setup, entry: &Entry, asked: Request, turn: &mut Turn) -> bool {
     let count = turn.count;
     turn.taken[count] = *entry;
-    if let Request::Event { allowed, .. } = entry.request {
+    if let Request::Event { allowed, .. } = asked {
         let used = turn.places[..count].iter().fold(0, |used, &place| used | counters_of(place));
         let free = allowed & setup.usable & !used;
         if free != 0 {
@@ -84,7 +131,7 @@ fn extend(setup: Setup, entry: &Entry, turn: &mut Turn) -> bool {
 }
 
 impl Road for Proved {
-    fn plans_alone(setup: Setup, request: Request) -> bool {
+    fn has_place(setup: Setup, request: Request) -> bool {
         match request {
             Request::Event { allowed, .. } | Request::Packet { allowed, .. } | Request::Offcore { allowed, .. } => {
                 allowed & setup.usable != 0
@@ -93,15 +140,22 @@ impl Road for Proved {
         }
     }
 
-    fn choose(setup: Setup, queue: &[Entry], turn: &mut Turn, mut taken_at: impl FnMut(usize)) {
+    fn choose_from(
+        setup: Setup,
+        queue: &[Entry],
+        asked: impl Fn(Request) -> Option<Request>,
+        turn: &mut Turn,
+        mut taken_at: impl FnMut(usize),
+    ) {
         let most = setup.usable.count_ones() as usize;
         let mut sets = 1 << setup.usable;
         for (place, entry) in queue.iter().enumerate() {
             if turn.count == most {
                 break;
             }
-            let left = sets_after(sets, entry.request);
-            if left != 0 && extend(setup, entry, turn) {
+            let Some(request) = asked(entry.request) else { continue };
+            let left = sets_after(sets, request);
+            if left != 0 && extend(setup, entry, request, turn) {
                 sets = left;
                 taken_at(place);
             }

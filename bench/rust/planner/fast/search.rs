@@ -1,6 +1,6 @@
 //! The first plan: requests placed one after another, each at its first place that leaves a plan for the rest.
 
-use super::counters;
+use super::{counters, precise};
 use crate::planner::devices::Setup;
 use crate::planner::requests::{latency_words, Entry, Place, Request};
 use crate::planner::PLACES;
@@ -96,8 +96,23 @@ impl Search<'_> {
     }
 }
 
-/// The first legal plan of at most `PLACES` requests.
-pub fn first_plan(setup: Setup, entries: &[Entry]) -> Option<[Place; PLACES]> {
+/// The first plan of requests that no rule narrows.
+#[inline(always)]
+fn searched(setup: Setup, entries: &[Entry]) -> Option<[Place; PLACES]> {
     let mut search = Search { entries, rsp: [None; 2], packet: None, plan: [Place::Counter(0); PLACES] };
     search.place_from(0, setup.usable & setup.device.all()).then_some(search.plan)
+}
+
+/// A call of its own, as all that precise events need: the others lose nothing by them.
+#[inline(never)]
+fn searched_precise(setup: Setup, entries: &[Entry]) -> Option<[Place; PLACES]> {
+    searched(setup, &precise::searched(setup, entries)?[..entries.len()])
+}
+
+/// The first legal plan of at most `PLACES` requests.
+pub fn first_plan(setup: Setup, entries: &[Entry]) -> Option<[Place; PLACES]> {
+    match setup.device.has_precise() {
+        false => searched(setup, entries),
+        true => searched_precise(setup, entries),
+    }
 }

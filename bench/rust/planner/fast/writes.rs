@@ -3,7 +3,7 @@
 use super::counters;
 use crate::planner::devices::{Addresses, Filters, Setup};
 use crate::planner::requests::{latency_words, Entry, Place, Request};
-use crate::planner::{u_box, PLACES};
+use crate::planner::{pebs, u_box, PLACES};
 use std::slice::ChunksExactMut;
 
 /// The event words by counter, the counters that have one, and the words of the filter registers.
@@ -62,7 +62,8 @@ impl Settings {
     fn count(&self, setup: Setup) -> usize {
         let (usable, used) = (setup.usable.count_ones() as usize, self.used.count_ones() as usize);
         let frame = if setup.asks() { 2 } else { 0 };
-        2 + usable + self.filter_writes(setup.device.filters) + 2 * used + frame
+        let precise = setup.device.has_precise() as usize;
+        2 + usable + self.filter_writes(setup.device.filters) + 2 * used + precise + frame
     }
 }
 
@@ -94,7 +95,13 @@ impl List<'_> {
     }
 }
 
+/// What enables the precise events that are taken.
+fn enables(setup: Setup, taken: &[Entry]) -> u64 {
+    taken.iter().filter_map(|entry| pebs::row_of(setup.device.precise, entry.request)).fold(0, |bits, row| bits | row.enable)
+}
+
 /// Puts the writes, address then value, and tells how many; none where the slice is too short.
+#[inline(always)]
 pub fn write_list(setup: Setup, taken: &[Entry], plan: &[Place; PLACES], out: &mut [u64]) -> Option<usize> {
     let settings = Settings::of(setup, taken, plan);
     let count = settings.count(setup);
@@ -114,6 +121,9 @@ pub fn write_list(setup: Setup, taken: &[Entry], plan: &[Place; PLACES], out: &m
     }
     for k in counters(settings.used) {
         list.put(control + step * k as u64, settings.words[k as usize]);
+    }
+    if setup.device.has_precise() {
+        list.put(pebs::ADDRESS, enables(setup, taken));
     }
     list.put(global, setup.global(settings.used));
     if let Some(value) = u_box {

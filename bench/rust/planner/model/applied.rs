@@ -3,13 +3,21 @@
 use super::reader::Registers;
 use super::writes::Write;
 use crate::planner::devices::Setup;
-use crate::planner::{u_box, PLACES};
+use crate::planner::{pebs, u_box, PLACES};
 
 /// The registers after the writes, from registers with all bits set.
 pub fn applied(setup: Setup, writes: &[Write]) -> Registers {
     let all = u64::MAX;
-    let control = [all; PLACES];
-    let mut r = Registers { control, rsp: [all; 2], mm_cfg: all, match_word: all, mask_word: all, global: all, u_box: all };
+    let mut r = Registers {
+        control: [all; PLACES],
+        rsp: [all; 2],
+        mm_cfg: all,
+        match_word: all,
+        mask_word: all,
+        global: all,
+        u_box: all,
+        pebs: all,
+    };
     for (address, value) in writes {
         if let Some(register) = register(setup, &mut r, *address) {
             *register = *value;
@@ -32,6 +40,7 @@ pub fn register(setup: Setup, r: &mut Registers, address: u64) -> Option<&mut u6
         0xE49 => Some(&mut r.match_word),
         0xE4A => Some(&mut r.mask_word),
         u_box::ADDRESS => Some(&mut r.u_box),
+        pebs::ADDRESS => Some(&mut r.pebs),
         _ => None,
     }
 }

@@ -2,7 +2,7 @@
 //! under that number. The rows stand in the order of the numbers, and those of one number from the left: the first that fails
 //! is the answer.
 
-use super::c_box;
+use super::{c_box, sandy_bridge};
 use crate::planner::devices::{Device, Filters, Opening, Setup};
 use crate::planner::refusal::Refusal;
 use crate::planner::requests::{Request, MASK_BITS, MATCH_BITS};
@@ -14,10 +14,12 @@ fn first_of(rows: &[Row]) -> Option<Refusal> {
     rows.iter().find(|row| row.2).map(|&(number, field, _)| Refusal { number, field })
 }
 
-/// The number that refuses an event's code and mask: by the printed pages on C, and elsewhere by the first row with the code.
+/// The number that refuses an event's code and mask: by the printed pages on C, by the list of pairs on B, and elsewhere by the
+/// first row with the code.
 fn pair_refusal(device: &Device, code: u8, mask: u8) -> Option<u64> {
     match device.letter {
         b'C' => c_box::event_refusal(code, mask),
+        b'B' => sandy_bridge::event_refusal(code, mask),
         _ => device.row_refusal(device.events.iter().find(|event| event.code == code), mask),
     }
 }

@@ -8,6 +8,7 @@ pub mod lent;
 pub mod plan;
 pub mod reader;
 pub mod rules;
+pub mod sandy_bridge;
 pub mod writes;
 
 use super::devices::{Opening, Setup};

@@ -1,5 +1,6 @@
 //! Legal plans, and the first of them: places are tried in their order, and what they make together is judged as a plan.
 
+use super::sandy_bridge;
 use crate::planner::devices::{Device, Setup};
 use crate::planner::requests::{latency_words, Place, Request};
 
@@ -65,11 +66,13 @@ fn agree(one: (Request, Place), other: (Request, Place)) -> bool {
         && same(packet_words(one.0), packet_words(other.0))
 }
 
-/// Document 01: "legal". The plan gives places to the first requests; it is legal by what holds of each and of every two.
+/// Document 01: "legal". The plan gives places to the first requests; it is legal by what holds of each and of every two, and on
+/// B by the rules of two events.
 pub fn legal(setup: Setup, requests: &[Request], plan: &[Place]) -> bool {
     let given: Vec<(Request, Place)> = requests.iter().copied().zip(plan.iter().copied()).collect();
     given.iter().all(|&(request, place)| fits(setup.usable, request, place))
         && (0..given.len()).all(|i| given[..i].iter().all(|&earlier| agree(earlier, given[i])))
+        && sandy_bridge::keeps_rules(setup, &given)
 }
 
 /// The first legal plan that begins with these places.

@@ -1,8 +1,9 @@
 //! The reader: register values back to what each counter counts.
 
+use super::sandy_bridge::{enables, is_sandy_bridge, keeps_rules};
 use super::{refusal_of, setup_of};
 use crate::planner::devices::{Filters, Opening, Setup};
-use crate::planner::requests::{latency_words, Request, OUTSTANDING};
+use crate::planner::requests::{latency_words, Place, Request, OUTSTANDING};
 use crate::planner::PLACES;
 
 /// The values that the reader is given; what a device does not have is not looked at.
@@ -15,6 +16,7 @@ pub struct Registers {
     pub mask_word: u64,
     pub global: u64,
     pub u_box: u64,
+    pub pebs: u64,
 }
 
 #[derive(Clone, Copy, PartialEq, Eq, Debug)]
@@ -80,6 +82,24 @@ fn filters_held(setup: Setup, r: &Registers, states: &[State]) -> bool {
     }
 }
 
+/// The events that count, each at its counter.
+fn counted(states: &[State]) -> Vec<(Request, Place)> {
+    let event = |(k, state): (usize, &State)| match *state {
+        State::Counts { code, mask, .. } => {
+            Some((Request::Event { code: code as u8, mask: mask as u8, allowed: 1 << k }, Place::Counter(k as u8)))
+        }
+        _ => None,
+    };
+    states.iter().enumerate().filter_map(event).collect()
+}
+
+/// Order 12: what counts on B keeps the rules of its two events, and their register is as a turn would leave it.
+fn precise_held(setup: Setup, r: &Registers, states: &[State]) -> bool {
+    let given = counted(states);
+    let requests: Vec<Request> = given.iter().map(|(request, _)| *request).collect();
+    !is_sandy_bridge(setup.device) || keeps_rules(setup, &given) && r.pebs == enables(&requests)
+}
+
 /// What the reader answers: the state of each counter, or the number of the refusal, which is no check of a request and has no
 /// field: 3 for every opening that is refused. The U-Box register is looked at only where something is asked of an overflow.
 pub fn read(opening: Opening, r: &Registers) -> Result<Vec<State>, u64> {
@@ -96,7 +116,7 @@ pub fn read(opening: Opening, r: &Registers) -> Result<Vec<State>, u64> {
         }
     }
     let enabled = r.global == setup.global(used) && setup.u_box().is_none_or(|value| r.u_box == value);
-    match filters_held(setup, r, &states) && enabled {
+    match filters_held(setup, r, &states) && precise_held(setup, r, &states) && enabled {
         true => Ok(states),
         false => Err(15),
     }

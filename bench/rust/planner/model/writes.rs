@@ -1,8 +1,10 @@
-//! The write list of a plan, in the order of document 01, 'Writes, in order'.
+//! The write list of a plan, in the order of document 01, 'Writes, in order'. On B the register of the precise events comes just
+//! before the last write (order 12).
 
+use super::sandy_bridge::{enables, is_sandy_bridge};
 use crate::planner::devices::{Filters, Setup};
 use crate::planner::requests::{latency_words, Place, Request};
-use crate::planner::u_box;
+use crate::planner::{pebs, u_box};
 
 /// An address and the value to write there.
 pub type Write = (u64, u64);
@@ -65,6 +67,9 @@ fn device_list(setup: Setup, requests: &[Request], plan: &[Place]) -> Vec<Write>
     list.extend(filters);
     list.extend(words.iter().map(|&(k, _)| (at.counter + at.step * k as u64, 0)));
     list.extend(words.iter().map(|&(k, word)| (at.control + at.step * k as u64, word)));
+    if is_sandy_bridge(device) {
+        list.push((pebs::ADDRESS, enables(requests)));
+    }
     list.push((at.global, setup.global(used)));
     list
 }
