@@ -2,6 +2,7 @@
 
 use crate::planner::devices::Setup;
 use crate::planner::model::plan::{first_plan, legal, places_for};
+use crate::planner::model::sandy_bridge::{is_pdir, is_precise_store, is_sandy_bridge};
 use crate::planner::model::{requests_of, select};
 use crate::planner::requests::{Entry, Place, Request};
 use crate::planner::LIMIT;
@@ -18,7 +19,7 @@ pub struct Turned {
 
 type Test = fn(&Turned) -> bool;
 
-pub const KINDS: [(&str, Test); 16] = [
+pub const KINDS: [(&str, Test); 22] = [
     ("the queue is full", |turned| turned.queue.len() == LIMIT),
     ("one is taken behind one passed over", Turned::skips),
     ("first fit without going back gets stuck", Turned::first_fit_stuck),
@@ -35,6 +36,12 @@ pub const KINDS: [(&str, Test); 16] = [
     ("an overflow only interrupts a core", |turned| turned.setup.freeze == 0 && turned.setup.core.is_some()),
     ("an overflow does both", |turned| turned.setup.freeze != 0 && turned.setup.core.is_some()),
     ("nothing asked on the uncore", |turned| turned.setup.device.uncore && !turned.setup.asks()),
+    ("all wait behind an event that must be alone", |turned| turned.has_pdir(&turned.taken) && !turned.passed.is_empty()),
+    ("an event that must be alone waits", |turned| turned.has_pdir(&turned.passed) && !turned.has_pdir(&turned.taken)),
+    ("two events that must be alone", |turned| turned.has_pdir(&turned.taken) && turned.has_pdir(&turned.passed)),
+    ("a precise store beside others", |turned| turned.has_store(&turned.taken) && turned.taken.len() > 1),
+    ("a precise store waits for another", |turned| turned.has_store(&turned.taken) && turned.has_store(&turned.passed)),
+    ("a precise store, and a counter of others", |turned| turned.has_store(&turned.taken) && turned.setup.others() != 0),
 ];
 
 fn is_latency(request: &Request) -> bool {
@@ -69,6 +76,18 @@ impl Turned {
 
     fn takes(&self, kind: fn(&Request) -> bool) -> usize {
         self.requests.iter().filter(|request| kind(request)).count()
+    }
+
+    fn has(&self, entries: &[Entry], kind: fn(Request) -> bool) -> bool {
+        is_sandy_bridge(self.setup.device) && entries.iter().any(|entry| kind(entry.request))
+    }
+
+    fn has_pdir(&self, entries: &[Entry]) -> bool {
+        self.has(entries, is_pdir)
+    }
+
+    fn has_store(&self, entries: &[Entry]) -> bool {
+        self.has(entries, is_precise_store)
     }
 
     /// Those taken are not the front of the queue.

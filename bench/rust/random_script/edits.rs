@@ -3,6 +3,7 @@
 use super::{damaged, entry_of, Script};
 use crate::planner::devices::{Filters, Setup};
 use crate::planner::model::{refusal_of, rules};
+use crate::planner::pebs::Precise;
 use crate::planner::requests::{Entry, Request, VACANT};
 use crate::script::texts::record;
 
@@ -78,9 +79,9 @@ impl Script {
         drawn
     }
 
-    /// A listed event for these counters.
+    /// A listed event for these counters that may run on any of them.
     fn event(&mut self, allowed: u64) -> Request {
-        let (code, mask) = self.lent_bench.numbers.pick(&self.lent_bench.device.pairs());
+        let (code, mask) = self.lent_bench.numbers.pick(&self.lent_bench.device.plain_pairs());
         Request::Event { code, mask, allowed }
     }
 
@@ -107,8 +108,16 @@ impl Script {
             (Filters::OffcoreResponse, 0) => Request::Latency { types: 1, first: one, second: one },
             (Filters::OffcoreResponse, 1) => Request::Offcore { word: 0x10001, allowed: others },
             (Filters::PacketMatch, 0) => Request::Packet { match_word: 0, mask_word: 0, allowed: others },
+            (Filters::Absent, 0 | 1) if self.lent_bench.device.has_precise() => self.precise_elsewhere(),
             _ => self.event(others),
         }
+    }
+
+    /// A precise event on every counter but its own.
+    fn precise_elsewhere(&mut self) -> Request {
+        let rows: Vec<&Precise> = self.lent_bench.device.precise.iter().collect();
+        let Precise { code, mask, counter, .. } = *self.lent_bench.numbers.pick(&rows);
+        Request::Event { code, mask, allowed: self.lent_bench.device.all() & !(1 << counter) }
     }
 
     /// So many sound requests: of a few kinds, or half of them on one counter, mixed or those first.

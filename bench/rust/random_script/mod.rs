@@ -16,7 +16,7 @@ use crate::planner::{Calls, LIST, SHIFT};
 use crate::script::words::LONGEST_SLICE;
 use crate::script::Host;
 use crate::transcript::calls::Bench;
-use crate::transcript::{bench_on, faults, numbers_from, own_adds};
+use crate::transcript::{bench_on, faults, numbers_from, own_adds, usable_in};
 
 /// Words that are in no place of the notation, or in few.
 const ODD_WORDS: [&str; 12] =
@@ -168,7 +168,7 @@ pub fn random(number: u64, seed: u64) -> String {
     let count = DEVICES.len() as u64;
     let device = &DEVICES[(number % count) as usize];
     let round = number / count;
-    let usable = round % device.all() + 1;
+    let usable = usable_in(device, round);
     let odd = [0, 4, 15, 40][(round / device.all() % 4) as usize];
     let damage = numbers.pick(&[0, 0, 5, 20]);
     let calls = numbers.below(60);

@@ -7,7 +7,7 @@ use crate::transcript::{faults, refused_opening};
 
 /// An open of any device with numbers that it may not have.
 pub fn odd(bench: &mut Bench) -> Vec<String> {
-    let letter = bench.numbers.pick(&['G', 'S', 'C', 'H', 'g', '0']);
+    let letter = bench.numbers.pick(&['G', 'S', 'C', 'B', 'H', 'g', '0']);
     let usable = bench.numbers.pick(&[0, 7, 15, 16, 63, 64, u64::MAX, 1 << 32]);
     let fixed = bench.numbers.pick(&[0, 0, 0, 1, 7, 8, u64::MAX]);
     let box_number = bench.numbers.pick(&[0, 0, 0, 1, 7, 8, u64::MAX]);

@@ -19,12 +19,12 @@ fn values_of(filters: Filters, r: &Registers) -> Vec<u64> {
         Filters::PacketMatch => [r.mm_cfg, r.match_word, r.mask_word],
         _ => [r.rsp[0], r.rsp[1], 0],
     };
-    [&r.control[..6], &filter_words, &[r.global, r.u_box]].concat()
+    [&r.control[..6], &filter_words, &[r.global, r.u_box, r.pebs]].concat()
 }
 
 fn read_words(opening: &[String], values: &[u64]) -> Vec<String> {
     let values = values.iter().map(|value| format!("{value:X}"));
-    ["read".into()].into_iter().chain(opening[1..].iter().cloned()).chain(values).chain(["0".into()]).collect()
+    ["read".into()].into_iter().chain(opening[1..].iter().cloned()).chain(values).collect()
 }
 
 /// The values that the plan of some requests leaves, on the bench's own opening.

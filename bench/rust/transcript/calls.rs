@@ -24,7 +24,7 @@ pub struct Bench {
 }
 
 /// Pairs that are not listed, or are listed on another device, or have a mask out of range.
-const ODD_PAIRS: [(u8, u8); 18] = [
+const ODD_PAIRS: [(u8, u8); 21] = [
     (0xB7, 1),
     (0xB7, 2),
     (0, 0),
@@ -43,6 +43,9 @@ const ODD_PAIRS: [(u8, u8); 18] = [
     (0x0E, 1),
     (0x15, 1),
     (0x19, 1),
+    (0xC0, 2),
+    (0xCD, 1),
+    (0xCD, 2),
 ];
 const WORDS: [u64; 12] = [
     0x10001,
@@ -82,6 +85,9 @@ const ODD_WORDS: [u64; 19] = [
     0x60001,
     0xC0001,
 ];
+
+/// So many of a hundred events are precise ones.
+const PRECISE: u64 = 40;
 
 /// The 32 lower bits of the mask's field, and the higher ones.
 const MASKS: [u64; 2] = [0xFFFF_FFFF, 0x7F_0000_0000];
@@ -144,8 +150,12 @@ impl Bench {
         self.numbers.pick(&[all >> without, all >> without, all << without & all])
     }
 
-    /// A listed pair: every code as often as another, and every mask of a code.
+    /// A listed pair: every code as often as another, and every mask of a code; but many precise events where there are some.
     fn pair(&mut self) -> (u8, u8) {
+        if self.device.has_precise() && self.numbers.chance(PRECISE) {
+            let rows: Vec<(u8, u8)> = self.device.precise.iter().map(|row| (row.code, row.mask)).collect();
+            return self.numbers.pick(&rows);
+        }
         let listed = |event: &&Event| !event.masks.all().is_empty();
         let events: Vec<&Event> = self.device.events.iter().filter(listed).collect();
         let event = self.numbers.pick(&events);
@@ -251,7 +261,7 @@ impl Bench {
         if !self.odd() {
             return self.own_open();
         }
-        let letter = self.numbers.pick(&['G', 'S', 'C', 'C', 'H']);
+        let letter = self.numbers.pick(&['G', 'S', 'C', 'C', 'B', 'H']);
         let usable = self.numbers.pick(&[0, 7, 7, 16, 63, 64, 99999]);
         let fixed = self.numbers.pick(&["", "\t0", "\t0", "\t0", "\t1", "\t7", "\t8", "\t99999", "\t07", "\t-1"]);
         let box_number = self.numbers.pick(&["", "", "\t0", "\t1", "\t7", "\t8", "\t99999", "\t01", "\t", "\t0\t0"]);

@@ -58,6 +58,14 @@ fn next_call(bench: &mut Bench, session: &Session, goal: usize) -> Vec<u8> {
     }
 }
 
+/// The usable set of this round: every one in turn, but mostly all counters where an event can need all of them.
+pub fn usable_in(device: &Device, round: u64) -> u64 {
+    match device.has_precise() && round % 2 == 0 {
+        true => device.all(),
+        false => round % device.all() + 1,
+    }
+}
+
 /// A bench on this device, with any fixed enables and box that it has, and in three of four cases on the uncore with
 /// something asked of an overflow.
 pub fn bench_on(device: &'static Device, usable: u64, odd: u64, mut numbers: Numbers) -> Bench {
@@ -271,7 +279,7 @@ pub fn random(number: u64, seed: u64) -> Transcript {
     let device = &DEVICES[(number % count) as usize];
     let round = number / count;
     let calls = if round % 250 == 249 { 6000 } else { numbers.below(100) };
-    let usable = round % device.all() + 1;
+    let usable = usable_in(device, round);
     let odd = [0, 4, 15, 40][(round / device.all() % 4) as usize];
     let mut bench = bench_on(device, usable, odd, numbers);
     let lists = lists::drawn(&mut bench);
