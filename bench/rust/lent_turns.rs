@@ -18,7 +18,7 @@ use std::hint::black_box;
 use std::process::{Command, Stdio};
 use std::time::Instant;
 
-const RECORDS: [u64; 5] = [16, 32, 64, 128, 256];
+const RECORDS: &[u64] = &[16, 32, 64, 128, 256];
 const TURNS: usize = 10_000;
 /// Under valgrind, where a count does not swing.
 const COUNTED_TURNS: usize = 1_000;
@@ -44,12 +44,15 @@ struct Input {
     code: u8,
     /// Whether the odd ids stand before the even ones.
     pinned_first: bool,
+    /// How many records there are.
+    records: &'static [u64],
 }
 
-const INPUTS: [Input; 3] = [
-    Input { name: "G, in turn", letter: b'G', usable: 15, code: 0xC0, pinned_first: false },
-    Input { name: "G, pinned first", letter: b'G', usable: 15, code: 0xC0, pinned_first: true },
-    Input { name: "C, in turn", letter: b'C', usable: 63, code: 0x18, pinned_first: false },
+const INPUTS: [Input; 4] = [
+    Input { name: "G, in turn", letter: b'G', usable: 15, code: 0xC0, pinned_first: false, records: RECORDS },
+    Input { name: "G, pinned first", letter: b'G', usable: 15, code: 0xC0, pinned_first: true, records: RECORDS },
+    Input { name: "C, in turn", letter: b'C', usable: 63, code: 0x18, pinned_first: false, records: RECORDS },
+    Input { name: "B, in turn", letter: b'B', usable: 15, code: 0xC0, pinned_first: false, records: &[256] },
 ];
 
 impl Input {
@@ -143,7 +146,7 @@ fn times(input: &Input, records: &[u64]) -> [[f64; 2]; SIDES.len()] {
 
 /// Every task: an input with so many records.
 fn tasks() -> impl Iterator<Item = (&'static Input, u64)> {
-    INPUTS.iter().flat_map(|input| RECORDS.map(|count| (input, count)))
+    INPUTS.iter().flat_map(|input| input.records.iter().map(move |count| (input, *count)))
 }
 
 /// Does each task once, between marks.

@@ -95,6 +95,9 @@ fn likely_request(numbers: &mut Numbers) -> Request {
         (0x0E, 1),
         (0x14, 5),
         (0x28, 0xFF),
+        (0xC0, 1),
+        (0xCD, 2),
+        (0xCD, 1),
     ];
     let words = [0x10001, 0x10002, 0x10004, 0x1_2000_0001, 0x10040, 1, 0x2_0001_0001, 0x8001_0001, 0x40001, 0x50001, 0x60001];
     let masks = [0, 1, 0, 1, 1 << 38, 1 << 39, 1 << 63];
@@ -111,9 +114,14 @@ fn likely_request(numbers: &mut Numbers) -> Request {
 }
 
 fn open_call(numbers: &mut Numbers) -> [u64; CALL] {
-    let letter = numbers.pick(&[71, 83, 67, 67, 72]);
+    let letter = numbers.pick(&[71, 83, 67, 67, 66, 66, 72]);
     let (four, six) = (numbers.below(17), numbers.below(65));
-    let usable = if letter == 67 { six } else { four };
+    let quiet = numbers.pick(&[15, four]);
+    let usable = match letter {
+        67 => six,
+        66 => quiet,
+        _ => four,
+    };
     [0, letter, usable, numbers.pick(&[0, 0, 0, 1, 5, 7, 8]), numbers.pick(&[0, 0, 0, 1, 2, 4, 7, 8]), 0]
 }
 
@@ -165,7 +173,8 @@ fn rust_turns(letter: u64, usable: u64, rows: &[u64], turns: usize) -> usize {
     writes
 }
 
-/// A queue of so many requests: all free, all on one counter, or mixed. On C they are events alone, some of them on counter 0.
+/// A queue of so many requests: all free, all on one counter, or mixed. On C they are events alone, some of them on counter 0; on
+/// B one of four must be alone, and one is a precise store.
 fn queue(kind: &str, length: usize) -> Vec<u64> {
     let event = |code, allowed| Request::Event { code, mask: 0, allowed };
     let mixed = [
@@ -177,6 +186,8 @@ fn queue(kind: &str, length: usize) -> Vec<u64> {
         Request::Latency { types: 2, first: 3, second: 12 },
     ];
     let half = [event(0x19, 63), event(0x19, 1)];
+    let precise = |code, mask| Request::Event { code, mask, allowed: 15 };
+    let fourth = [event(0xC0, 15), precise(0xCD, 2), event(0xC4, 15), precise(0xC0, 1)];
     let request = |i| match kind {
         "free" => event(0xC0, 15),
         "pinned" => event(0xC0, 1),
@@ -184,6 +195,7 @@ fn queue(kind: &str, length: usize) -> Vec<u64> {
         "pinned on C" => event(0x19, 1),
         "half pinned on C" => half[i % half.len()],
         "5 free, 1 pinned on C" => event(0x19, if i < 5 { 63 } else { 1 }),
+        "mixed on B" => fourth[i % fourth.len()],
         "4 free, 2 pinned on C" => event(0x19, if i < 4 { 63 } else { 1 }),
         _ => mixed[i % mixed.len()],
     };
@@ -209,5 +221,5 @@ pub fn cases() -> Vec<Case<'static>> {
     let kinds = on_g.into_iter().chain(on_c);
     let queues = kinds.flat_map(|(letter, usable, kind)| [1, 4, 16].map(|length| case(letter, usable, kind, length)));
     let crowded = ["5 free, 1 pinned on C", "4 free, 2 pinned on C"].map(|kind| case(67, 63, kind, 6));
-    queues.chain(crowded).collect()
+    queues.chain(crowded).chain([case(66, 15, "mixed on B", 16)]).collect()
 }

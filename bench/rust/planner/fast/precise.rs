@@ -6,27 +6,28 @@ use crate::planner::pebs::row_of;
 use crate::planner::requests::{Entry, Request, VACANT};
 use crate::planner::PLACES;
 
-fn is_alone(device: &Device, request: Request) -> bool {
-    row_of(device.precise, request).is_some_and(|row| row.alone)
-}
-
-/// The request with what its rule leaves of the counters that it allows.
-fn narrowed(device: &Device, request: Request) -> Request {
+/// A request with what its rule leaves of the counters that it allows; none where it must be alone and may not be here.
+#[inline(always)]
+fn narrowed(device: &Device, request: Request, alone: bool) -> Option<Request> {
     match (row_of(device.precise, request), request) {
-        (Some(row), Request::Event { code, mask, allowed }) => Request::Event { code, mask, allowed: allowed & 1 << row.counter },
-        _ => request,
+        (Some(row), _) if row.alone && !alone => None,
+        (Some(row), Request::Event { code, mask, allowed }) => {
+            Some(Request::Event { code, mask, allowed: allowed & 1 << row.counter })
+        }
+        _ => Some(request),
     }
 }
 
 /// A request as it stands by itself; none where somebody else's counter could not be quieted for it.
-pub fn by_itself(setup: Setup, request: Request) -> Option<Request> {
-    let quiet = setup.usable == setup.device.all();
-    (quiet || !is_alone(setup.device, request)).then(|| narrowed(setup.device, request))
+#[inline(always)]
+pub fn by_itself(setup: &Setup, request: Request) -> Option<Request> {
+    narrowed(setup.device, request, setup.usable == setup.device.all())
 }
 
 /// A request as it stands beside others; none where it must be alone.
+#[inline(always)]
 pub fn beside(device: &Device, request: Request) -> Option<Request> {
-    (!is_alone(device, request)).then(|| narrowed(device, request))
+    narrowed(device, request, false)
 }
 
 /// Requests as the search takes them; none where one that must be alone is not.
@@ -34,7 +35,7 @@ pub fn searched(setup: Setup, entries: &[Entry]) -> Option<[Entry; PLACES]> {
     let mut searched = [VACANT; PLACES];
     for (place, entry) in searched.iter_mut().zip(entries) {
         let request = match entries.len() {
-            1 => by_itself(setup, entry.request)?,
+            1 => by_itself(&setup, entry.request)?,
             _ => beside(setup.device, entry.request)?,
         };
         *place = Entry { id: entry.id, request };
@@ -45,7 +46,7 @@ pub fn searched(setup: Setup, entries: &[Entry]) -> Option<[Entry; PLACES]> {
 /// The part of a queue that a turn can take from: the head where it must be alone.
 pub fn reachable<'a>(device: &Device, queue: &'a [Entry]) -> &'a [Entry] {
     match queue {
-        [head, ..] if is_alone(device, head.request) => &queue[..1],
+        [head, ..] if beside(device, head.request).is_none() => &queue[..1],
         _ => queue,
     }
 }

@@ -9,7 +9,7 @@ use crate::planner::Turn;
 
 pub trait Road {
     /// Whether a request that no rule narrows has a place by itself.
-    fn has_place(setup: Setup, request: Request) -> bool;
+    fn has_place(setup: &Setup, request: &Request) -> bool;
 
     /// Goes through the queue from the front, takes what has a plan together, and gives the places; tells where in the queue
     /// each stood that is taken. Requests are taken as they are asked for, and passed over where that is nothing.
@@ -25,15 +25,14 @@ pub trait Road {
     #[inline(always)]
     fn plans_alone(setup: Setup, request: Request) -> bool {
         match setup.device.has_precise() {
-            false => Self::has_place(setup, request),
-            true => Self::plans_precise(setup, request),
+            false => Self::has_place(&setup, &request),
+            true => Self::plans_precise(&setup, &request),
         }
     }
 
-    /// The same where some events are precise; a call of its own, so that the others lose nothing by it.
-    #[inline(never)]
-    fn plans_precise(setup: Setup, request: Request) -> bool {
-        precise::by_itself(setup, request).is_some_and(|request| Self::has_place(setup, request))
+    /// The same where some events are precise.
+    fn plans_precise(setup: &Setup, request: &Request) -> bool {
+        precise::by_itself(setup, *request).is_some_and(|request| Self::has_place(setup, &request))
     }
 
     /// The requests that a turn takes from a queue in which each has a plan alone.
@@ -48,7 +47,7 @@ pub trait Road {
     #[inline(never)]
     fn choose_precise(setup: Setup, queue: &[Entry], turn: &mut Turn, taken_at: impl FnMut(usize)) {
         match precise::reachable(setup.device, queue) {
-            head @ [_] => Self::choose_from(setup, head, |request| precise::by_itself(setup, request), turn, taken_at),
+            head @ [_] => Self::choose_from(setup, head, |request| precise::by_itself(&setup, request), turn, taken_at),
             queue => Self::choose_from(setup, queue, |request| precise::beside(setup.device, request), turn, taken_at),
         }
     }
@@ -65,8 +64,8 @@ fn pair_fits(first: u64, second: u64) -> bool {
 
 impl Road for Fastest {
     #[inline(always)]
-    fn has_place(setup: Setup, request: Request) -> bool {
-        match request {
+    fn has_place(setup: &Setup, request: &Request) -> bool {
+        match *request {
             Request::Event { allowed, .. } | Request::Packet { allowed, .. } | Request::Offcore { allowed, .. } => {
                 allowed & setup.usable != 0
             }
@@ -131,12 +130,13 @@ fn extend(setup: Setup, entry: &Entry, asked: Request, turn: &mut Turn) -> bool 
 }
 
 impl Road for Proved {
-    fn has_place(setup: Setup, request: Request) -> bool {
-        match request {
+    #[inline(always)]
+    fn has_place(setup: &Setup, request: &Request) -> bool {
+        match *request {
             Request::Event { allowed, .. } | Request::Packet { allowed, .. } | Request::Offcore { allowed, .. } => {
                 allowed & setup.usable != 0
             }
-            Request::Latency { .. } => first_plan(setup, &[Entry { id: 0, request }]).is_some(),
+            Request::Latency { .. } => first_plan(*setup, &[Entry { id: 0, request: *request }]).is_some(),
         }
     }
 

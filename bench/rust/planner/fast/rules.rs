@@ -2,7 +2,7 @@
 
 use super::road::Road;
 use crate::planner::devices::Setup;
-use crate::planner::requests::{refusal_of, Entry, VACANT};
+use crate::planner::requests::{refusal_of, Entry, Request, VACANT};
 use crate::planner::RECORDS;
 
 /// A bit for each id up to 65535.
@@ -23,9 +23,10 @@ pub fn lendable(rows: &[Entry]) -> bool {
     (1..=RECORDS).contains(&rows.len())
 }
 
-/// How many of the rows wait; none where they are too few or too many or break a rule. Behind the first vacant record all must
-/// be vacant.
-pub fn waiting<R: Road>(setup: Setup, rows: &[Entry]) -> Option<usize> {
+/// How many of the rows wait, each with a plan alone; none where they are too few or too many or break a rule. Behind the first
+/// vacant record all must be vacant.
+#[inline(always)]
+fn waiting_with(setup: Setup, rows: &[Entry], plans_alone: impl Fn(&Setup, &Request) -> bool) -> Option<usize> {
     if !lendable(rows) {
         return None;
     }
@@ -36,7 +37,20 @@ pub fn waiting<R: Road>(setup: Setup, rows: &[Entry]) -> Option<usize> {
         row.id <= 65535
             && seen.first(row.id)
             && refusal_of(setup.device, row.request).is_none()
-            && R::plans_alone(setup, row.request)
+            && plans_alone(&setup, &row.request)
     });
     (sound && rest.iter().all(|row| *row == VACANT)).then_some(count)
+}
+
+#[inline(never)]
+fn waiting_precise<R: Road>(setup: Setup, rows: &[Entry]) -> Option<usize> {
+    waiting_with(setup, rows, R::plans_precise)
+}
+
+/// How many of the rows wait; whether some events are precise is asked once for all rows.
+pub fn waiting<R: Road>(setup: Setup, rows: &[Entry]) -> Option<usize> {
+    match setup.device.has_precise() {
+        false => waiting_with(setup, rows, R::has_place),
+        true => waiting_precise::<R>(setup, rows),
+    }
 }
