@@ -3,3 +3,7 @@ pub mod Kept
 pub mod LineByLine
 pub mod TranscriptHolds
 pub mod AcceptanceTests
+pub mod FeedAnswers
+pub mod FeedRules
+pub mod FeedCut
+pub mod KeptBytes

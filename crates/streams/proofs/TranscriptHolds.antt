@@ -101,7 +101,7 @@ module _ (n : NameLists) where
     line-first : feedText n (lineStart s) (closed text ++ input) ≡ answerLine n s (closed text) .text ++ feedText n (lineStart (answerLine n s (closed text) .session)) input
     line-first = text-append n (lineStart s) (closed text) input ∙ rw (line-by-line n s text free .reply, line-by-line n s text free .next)
 
-    state-first : feedState n (lineStart s) (closed text ++ input) ≡ feedState n (lineStart (answerLine n s (closed text) .session)) input
+    pub state-first : feedState n (lineStart s) (closed text ++ input) ≡ feedState n (lineStart (answerLine n s (closed text) .session)) input
     state-first = state-append n (lineStart s) (closed text) input ∙ rw (line-by-line n s text free .next)
 
   output : (s : Session) (texts : List (List ℕ)) (rest : List ℕ) → All NewlineFree texts → NewlineFree rest

@@ -1,4 +1,5 @@
-// The state of the line program between two bytes of its input.
+// The state of the line program between two bytes of its input, and of a text that is given in pieces.
+use requests::Answer;
 use sessions::Session;
 
 // The most bytes of a line that are kept.
@@ -10,4 +11,17 @@ pub struct Feed {
     pub kept: [u8; LONGEST],
     pub used: usize,
     pub long: bool,
+}
+
+// A text that is given in pieces: the state after them, and whether the end has been declared.
+pub struct PieceFeed {
+    pub feed: Feed,
+    pub ended: bool,
+}
+
+// What a piece or the end leaves: the answer, the state, and the number of bytes written.
+pub struct PieceAnswered {
+    pub answer: Answer,
+    pub state: PieceFeed,
+    pub written: usize,
 }
