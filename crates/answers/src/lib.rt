@@ -9,7 +9,7 @@ pub mod replies;
 mod reply_fields;
 mod set_lines;
 mod take_lines;
-mod texts;
+pub mod texts;
 
 // The reply to a line: its text in the first `length` bytes, and the session afterwards.
 pub struct LineReply {

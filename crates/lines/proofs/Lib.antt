@@ -4,3 +4,5 @@ pub mod NextLine
 pub mod Taking
 pub mod Feeding
 pub mod Ending
+pub mod Passes
+pub mod Delivered

@@ -3,3 +3,4 @@ pub mod Progress
 -- The code's own: how it holds its values. No claim.
 pub mod Pieces
 pub mod Blocks
+pub mod Passing

@@ -1,6 +1,7 @@
-// The line program: lines in, replies out, however the input is cut into blocks.
+// The line program: lines in, replies out, however the input is cut: into blocks, or into pieces that are taken whole or refused.
 use streams::Feed;
 
+pub mod feeds;
 mod newlines;
 mod pieces;
 pub mod stream;

@@ -26,7 +26,7 @@ ghost use Rattle.lines.specs.Pieces.{stateOf};
 ghost use Rattle.lines.specs.Blocks.{fedOf, fedOut};
 
 // The state at the beginning of a line.
-fn line_start(session: Session) -> Feed
+pub fn line_start(session: Session) -> Feed
     ensures { λ r. ⌜ r ≡ lineStart session ⌝ }
 {
     Feed {

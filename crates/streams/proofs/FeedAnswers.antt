@@ -1,6 +1,6 @@
 -- The answer and the output of a piece or end, by the rows of its table: after the end, without room, with room. Assumes nothing.
 use mathlib.Core.Bool.{Bool, true, false}
-use mathlib.Core.List.{List, [], _∷_, _++_}
+use mathlib.Core.List.{List, _++_}
 use mathlib.Core.Option.{none, some}
 use mathlib.Core.Path.{_≡_, refl, sym, _∙_}
 use Prim.Native.Nat.{ℕ}
@@ -9,7 +9,7 @@ use lib.Dec.{ltb}
 use lib.ListN.{length, drop}
 use Rattle.requests.specs.declared.Refusal.{Refusal}
 use Rattle.requests.specs.declared.Refusal.the-variants.{CallOrder, SliceTooShort}
-use Rattle.requests.specs.declared.Answer.the-variants.{Accepted, Refused}
+use Rattle.requests.specs.declared.Answer.the-variants.{Accepted}
 use Rattle.requests.proofs.FirstHolding.{holds, skips, ends}
 use Rattle.streams.specs.Feeds.{feedTable, feedRefusal, refusedFeed, feedAnswer, feedOut}
 use Rattle.streams.specs.declared.PieceFeed.{PieceFeed}

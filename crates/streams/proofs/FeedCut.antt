@@ -9,14 +9,13 @@ use borrow.Author.Tests.{le-ltb}
 use lib.Dec.{ltb}
 use lib.ListN.{length, take, drop}
 use lib.Seq.{take-at}
-use Rattle.requests.specs.declared.Answer.the-variants.{Accepted, Refused}
+use Rattle.requests.specs.declared.Answer.the-variants.{Accepted}
 use Rattle.requests.specs.declared.Refusal.the-variants.{SliceTooShort}
 use Rattle.names.specs.Lists.{NameLists}
 use Rattle.streams.specs.Stream.{lineStart, feedStart, feedState, feedText, endText, transcript}
 use Rattle.streams.specs.Feeds.{newFeed, refusedFeed, pieceState, pieceOf, pieceOut, endState, endOf, endOut}
 use Rattle.streams.specs.FeedCutting.{Lent, answered, written, takenText, stateAfter, outputOf, textOf, FeedCutting}
 use Rattle.streams.specs.declared.PieceFeed.{PieceFeed}
-use Rattle.streams.specs.declared.PieceAnswered.{PieceAnswered}
 use Rattle.streams.proofs.Cut.{state-append, text-append}
 use Rattle.streams.proofs.FeedAnswers.{answer-short, answer-fits, accepted-fits, out-fits}
 use Rattle.streams.proofs.FeedRules.{either-state}

@@ -1,6 +1,6 @@
 -- What a piece and the end are refused with, write and leave, by the cases of their answer. Assumes nothing.
 use mathlib.Core.Bool.{Bool, true, false}
-use mathlib.Core.List.{List, _++_}
+use mathlib.Core.List.{List}
 use mathlib.Core.Path.{_≡_, refl, sym, ap}
 use Prim.Native.Nat.{ℕ}
 use borrow.Author.Tests.{lt-ltb, le-ltb}
@@ -9,7 +9,6 @@ use lib.ListN.{length}
 use Rattle.requests.specs.Refusals.{numberOf, answerNumber}
 use Rattle.requests.specs.Faults.{fieldOf, answerField, noFields}
 use Rattle.requests.specs.declared.Answer.the-variants.{Accepted}
-use Rattle.names.specs.Lists.{NameLists}
 use Rattle.streams.specs.Stream.{feedText, endText}
 use Rattle.streams.specs.Feeds.{newFeed, refusedFeed, feedAnswer, feedOut, pieceState, pieceOf, pieceOut, endState, endOf, endOut}
 use Rattle.streams.specs.FeedRules.{Ruled, FeedRules}

@@ -2,14 +2,14 @@
 -- state that a run leaves. Assumes nothing.
 use mathlib.Core.Bool.{Bool, true, false}
 use mathlib.Core.List.{List, [], _∷_, _++_, append-assoc, flatMap}
-use mathlib.Core.Path.{_≡_, refl, sym, ap, _∙_}
-use Prim.Native.Nat.{ℕ, _-_, _≤_, _<_}
+use mathlib.Core.Path.{_≡_, refl}
+use Prim.Native.Nat.{ℕ, _-_, _≤_}
 use native.Mathlib.Omega.{arith}
 use native.Mathlib.Nat.{zero-add}
 use borrow.Author.Tests.{ltb-true, lt-ltb, le-ltb}
 use lib.Dec.{ltb, eqb}
-use lib.ListN.{length, take, drop, replicate, length-set, length-take, length-replicate}
-use lib.Seq.{sets, sets-eq}
+use lib.ListN.{length, take, replicate, length-set, length-take, length-replicate}
+use lib.Seq.{sets-eq}
 use Rattle.plans.specs.Lists.{All, nil, cons}
 use Rattle.requests.specs.Choice.{either}
 use Rattle.sessions.specs.declared.Session.{Session}

@@ -2,13 +2,12 @@
 use mathlib.Core.Bool.{true, false}
 use mathlib.Core.List.{List, _++_}
 use mathlib.Core.Logic.{_≢_}
-use mathlib.Core.Option.{none, some}
+use mathlib.Core.Option.{some}
 use mathlib.Core.Path.{_≡_}
 use Prim.Native.Nat.{ℕ, _≤_, _<_}
 use lib.ListN.{length, drop}
 use Rattle.requests.specs.Refusals.{answerNumber}
 use Rattle.requests.specs.Faults.{answerField, noFields}
-use Rattle.requests.specs.declared.Answer.{Answer}
 use Rattle.requests.specs.declared.Answer.the-variants.{Accepted}
 use Rattle.names.specs.Lists.{NameLists}
 use Rattle.streams.specs.Stream.{feedText, endText}

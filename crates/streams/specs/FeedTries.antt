@@ -5,7 +5,6 @@ use mathlib.Core.Option.{Option, none, some}
 use Prim.Native.Nat.{ℕ, _-_}
 use lib.ListN.{length, replicate}
 use Rattle.requests.specs.Refusals.{answerNumber}
-use Rattle.grammar.specs.Text.{bytes}
 use Rattle.grammar.specs.Examples.{tabbed, typed}
 use Rattle.streams.specs.Stream.{noNames}
 use Rattle.streams.specs.Feeds.{newFeed, pieceOf, pieceOut, endOf, endOut}
