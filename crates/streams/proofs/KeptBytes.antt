@@ -25,7 +25,7 @@ use Rattle.streams.specs.Feeds.{newFeed, pieceState, pieceOf, endState, 
 use Rattle.streams.specs.KeptBytes.{Keeps80, Holds, KeptBytes}
 use Rattle.streams.specs.declared.Feed.{Feed}
 use Rattle.streams.specs.declared.PieceFeed.{PieceFeed}
-use Rattle.streams.proofs.FeedRules.{either-state}
+use Rattle.streams.proofs.FeedRules.{either-state, accepted-state}
 use Rattle.streams.proofs.Kept.{afterRun, kept-run}
 use Rattle.streams.proofs.TranscriptHolds.{state-first}
 
@@ -64,6 +64,11 @@ run-holds s rest =
       all = λ h. le-ltb 80 (length rest) h;
     }
 
+-- of none nothing
+none-holds : (s : Session) → Holds [] (lineStart s)
+unfolding lineStart longest
+none-holds s = record { bytes = refl; number = refl; more = λ h. absurd (omega (arith, h)); all = λ h. refl }
+
 after-lines : (n : NameLists) (s : Session) (texts : List (List ℕ)) (rest : List ℕ) → All NewlineFree texts → NewlineFree rest
     → Holds rest (feedState n (lineStart s) (flatMap closed texts ++ rest))
 unfolding flatMap
@@ -80,5 +85,6 @@ kept-bytes =
       piece =
           λ n s text room k. either-state s (feedText n (s .feed) text) (pieceState n s text) (λ (t : PieceFeed). Keeps80 (t .feed)) room k (λ e. text-keeps n (s .feed) text k);
       end = λ s room k. either-state s (endText (s .feed)) (endState s) (λ (t : PieceFeed). Keeps80 (t .feed)) room k (λ e. start-keeps (s .feed .session));
+      after-end = λ s room given. rw (accepted-state s (endText (s .feed)) (endState s) room given) (none-holds (s .feed .session));
       holds = λ n. after-lines n newSession;
     }

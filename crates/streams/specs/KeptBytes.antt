@@ -1,10 +1,11 @@
 -- Document 02, order 13: "keeping of it at most 80 bytes of the unfinished line".
 use mathlib.Core.Bool.{true, false}
-use mathlib.Core.List.{List, _++_, flatMap}
+use mathlib.Core.List.{List, [], _++_, flatMap}
 use mathlib.Core.Path.{_≡_}
 use Prim.Native.Nat.{ℕ, _-_, _≤_, _<_}
 use lib.ListN.{length, take, replicate}
 use Rattle.plans.specs.Lists.{All}
+use Rattle.requests.specs.declared.Answer.the-variants.{Accepted}
 use Rattle.names.specs.Lists.{NameLists}
 use Rattle.streams.specs.Stream.{NewlineFree, feedStart, feedState}
 use Rattle.streams.specs.Transcript.{closed}
@@ -28,6 +29,8 @@ pub record KeptBytes : Type 0 where
   pub new-feed : Keeps80 (newFeed .feed)
   pub piece : (n : NameLists) (s : PieceFeed) (text : List ℕ) (room : ℕ) → Keeps80 (s .feed) → Keeps80 (pieceOf n s text room .state .feed)
   pub end : (s : PieceFeed) (room : ℕ) → Keeps80 (s .feed) → Keeps80 (endOf s room .state .feed)
+  -- after the end nothing is
+  pub after-end : (s : PieceFeed) (room : ℕ) → endOf s room .answer ≡ Accepted → Holds [] (endOf s room .state .feed)
   -- after lines and the beginning of another, what is held is that beginning
   pub holds : (n : NameLists) (texts : List (List ℕ)) (rest : List ℕ) → All NewlineFree texts → NewlineFree rest
       → Holds rest (feedState n feedStart (flatMap closed texts ++ rest))
