@@ -80,7 +80,7 @@ module _ (text : List ℕ) where
   unfolding textLength
   text-length = rw (closed, closed-length)
 
-  parsed : (n : NameLists) (d : Device) → parseLineWith n d line ≡ parseTextWith n d (take longest text) true (ltb longest (length text))
+  pub parsed : (n : NameLists) (d : Device) → parseLineWith n d line ≡ parseTextWith n d (take longest text) true (ltb longest (length text))
   unfolding parseLineWith
   parsed n d = rw (closed, text-length, take-at text (newline ∷ []) (length text) refl)
 

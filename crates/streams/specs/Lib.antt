@@ -3,6 +3,7 @@ pub mod Stream
 pub mod Feeds
 -- Statements: what is claimed of it.
 pub mod LineByLine
+pub mod LongLines
 pub mod Transcript
 pub mod Cutting
 pub mod FeedRules
