@@ -79,7 +79,7 @@ module _ (n : NameLists) where
   unfolding pieceState
   still-open s l e = ap (λ (t : PieceFeed). t .ended) (one-state s l e)
 
-  all-state : (s : PieceFeed) (ls : List Lent) → s .ended ≡ false → stateAfter n s ls ≡ pieceState n s (textOf n s ls)
+  pub all-state : (s : PieceFeed) (ls : List Lent) → s .ended ≡ false → stateAfter n s ls ≡ pieceState n s (textOf n s ls)
   unfolding stateAfter textOf pieceState
   all-state s [] e = state-none s e
   all-state s (l ∷ rest) e =

@@ -2,7 +2,7 @@
 -- state that a run leaves. Assumes nothing.
 use mathlib.Core.Bool.{Bool, true, false}
 use mathlib.Core.List.{List, [], _∷_, _++_, append-assoc, flatMap}
-use mathlib.Core.Path.{_≡_, refl}
+use mathlib.Core.Path.{_≡_, refl, ap, sym, subst, _∙_}
 use Prim.Native.Nat.{ℕ, _-_, _≤_}
 use native.Mathlib.Omega.{arith}
 use native.Mathlib.Nat.{zero-add}
@@ -22,10 +22,12 @@ use Rattle.answers.proofs.Delivering.{drop-zeros}
 use Rattle.streams.specs.Stream.{NewlineFree, lineStart, feedStart, lineReply, keepByte, byteState, feedState, feedText, endText}
 use Rattle.streams.specs.Transcript.{closed}
 use Rattle.streams.specs.Feeds.{newFeed, pieceState, pieceOf, endState, endOf}
+use Rattle.streams.specs.FeedCutting.{Lent, stateAfter, textOf}
 use Rattle.streams.specs.KeptBytes.{Keeps80, Holds, KeptBytes}
 use Rattle.streams.specs.declared.Feed.{Feed}
 use Rattle.streams.specs.declared.PieceFeed.{PieceFeed}
 use Rattle.streams.proofs.FeedRules.{either-state, accepted-state}
+use Rattle.streams.proofs.FeedCut.{all-state}
 use Rattle.streams.proofs.Kept.{afterRun, kept-run}
 use Rattle.streams.proofs.TranscriptHolds.{state-first}
 
@@ -77,6 +79,12 @@ after-lines n s (text ∷ texts) rest (cons f fs) free =
     rw (append-assoc (closed text) (flatMap closed texts) rest, state-first n s text f (flatMap closed texts ++ rest))
     (after-lines n (answerLine n s (closed text) .session) texts rest fs free)
 
+after-pieces : (n : NameLists) (ls : List Lent) (texts : List (List ℕ)) (rest : List ℕ) → All NewlineFree texts → NewlineFree rest
+    → textOf n newFeed ls ≡ flatMap closed texts ++ rest → Holds rest (stateAfter n newFeed ls .feed)
+unfolding pieceState newFeed feedStart
+after-pieces n ls texts rest f g is =
+    subst (λ (t : PieceFeed). Holds rest (t .feed)) (sym (all-state n newFeed ls refl ∙ ap (pieceState n newFeed) is)) (after-lines n newSession texts rest f g)
+
 pub kept-bytes : KeptBytes
 unfolding pieceOf pieceState endOf endState newFeed feedStart
 kept-bytes =
@@ -87,4 +95,5 @@ kept-bytes =
       end = λ s room k. either-state s (endText (s .feed)) (endState s) (λ (t : PieceFeed). Keeps80 (t .feed)) room k (λ e. start-keeps (s .feed .session));
       after-end = λ s room given. rw (accepted-state s (endText (s .feed)) (endState s) room given) (none-holds (s .feed .session));
       holds = λ n. after-lines n newSession;
+      pieces = after-pieces;
     }

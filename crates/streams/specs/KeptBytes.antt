@@ -10,6 +10,7 @@ use Rattle.names.specs.Lists.{NameLists}
 use Rattle.streams.specs.Stream.{NewlineFree, feedStart, feedState}
 use Rattle.streams.specs.Transcript.{closed}
 use Rattle.streams.specs.Feeds.{newFeed, pieceOf, endOf}
+use Rattle.streams.specs.FeedCutting.{Lent, stateAfter, textOf}
 use Rattle.streams.specs.declared.Feed.{Feed}
 use Rattle.streams.specs.declared.PieceFeed.{PieceFeed}
 
@@ -34,3 +35,6 @@ pub record KeptBytes : Type 0 where
   -- after lines and the beginning of another, what is held is that beginning
   pub holds : (n : NameLists) (texts : List (List ℕ)) (rest : List ℕ) → All NewlineFree texts → NewlineFree rest
       → Holds rest (feedState n feedStart (flatMap closed texts ++ rest))
+  -- so after accepted pieces, however the text is cut
+  pub pieces : (n : NameLists) (ls : List Lent) (texts : List (List ℕ)) (rest : List ℕ) → All NewlineFree texts → NewlineFree rest
+      → textOf n newFeed ls ≡ flatMap closed texts ++ rest → Holds rest (stateAfter n newFeed ls .feed)
