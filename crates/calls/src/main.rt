@@ -3,6 +3,8 @@
 mod answers;
 mod asked;
 mod edits;
+mod escapes;
+mod feed_calls;
 mod formats;
 mod host;
 mod lending;

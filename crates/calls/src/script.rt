@@ -2,6 +2,8 @@
 use crate::asked::Asked;
 use crate::asked::add_numbers;
 use crate::asked::request_of;
+use crate::feed_calls::feed_call;
+use crate::feed_calls::is_fed;
 use crate::formats::numbers_in;
 use crate::host::Host;
 use crate::host::new_host;
@@ -118,7 +120,7 @@ fn session_call(session: Session, line: &[u8], words: Words) -> Session {
     unknown_session(session)
 }
 
-// The call of a line, of the one session or the other.
+// The call of a line, of the one session or the other, or of the text in pieces.
 fn call(host: Host, line: &[u8], words: Words) -> Host {
     let verb = word(line, words, 0);
     let alone = numbers_in(line, words, b"v");
@@ -127,6 +129,9 @@ fn call(host: Host, line: &[u8], words: Words) -> Host {
     }
     if is_lent(verb) {
         return lent_call(host, line, words);
+    }
+    if is_fed(verb) {
+        return feed_call(host, line, words);
     }
     let session = host.session;
     with_session(host, session_call(session, line, words))
