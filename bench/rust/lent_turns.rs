@@ -1,7 +1,15 @@
 //! Turns on lent rows, to be measured: the task of order 10, for several numbers of records, half of them pinned to counter 0.
 //! `lent_turns CALLS FOLDER`, where CALLS is the proved program, and the folder is for what is counted.
 
+#[path = "line_program/answer.rs"]
+mod answer;
+#[path = "line_program/call.rs"]
+mod call;
+mod expected;
+mod feed;
+mod grammar;
 mod instructions;
+mod names;
 mod planner;
 mod rows;
 mod script;

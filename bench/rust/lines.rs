@@ -78,7 +78,7 @@ fn print_rows(device: char, what: &str, runs: [Vec<f64>; 3]) {
 impl Bench<'_> {
     fn write_transcript(&self, device: char, lines: usize) -> String {
         let input = format!("{}/lines.{device}.txt", self.folder);
-        fs::write(&input, transcript::long(device, lines, SEED)).expect("a place for the transcript");
+        fs::write(&input, transcript::long::transcript(device, lines, SEED)).expect("a place for the transcript");
         input
     }
 

@@ -6,6 +6,9 @@ mod answer;
 mod answer_tally;
 #[path = "line_program/call.rs"]
 mod call;
+mod expected;
+mod feed;
+mod grammar;
 mod names;
 mod numbers;
 mod planner;
@@ -14,16 +17,23 @@ mod script;
 mod script_tally;
 mod transcript;
 
-use planner::{fast, model, Calls};
+use feed::Fed;
+use planner::{fast, model};
 use script::Host;
 use script_tally::Tally;
 use std::fs::{self, File};
+use std::io::Write;
 use std::process::{exit, Command, Stdio};
 
 const INPUT: &str = "target/bench/scripts.txt";
 
+/// A script's characters as the bytes that they stand for.
+fn bytes_of(script: &str) -> Vec<u8> {
+    script.chars().map(|letter| letter as u8).collect()
+}
+
 /// All answers to a script by one of the Rust planners.
-fn answers_of<Session: Calls + Clone>(script: &str, mut show: impl FnMut(&Host<Session>, &[&str], &str)) -> String {
+fn answers_of<Session: Fed + Clone>(script: &str, mut show: impl FnMut(&Host<Session>, &[&str], &str)) -> String {
     let mut text = String::new();
     script::answer_calls::<Session>(script, |before, words, answer| {
         show(before, words, answer);
@@ -54,7 +64,7 @@ fn fail(number: u64, seed: u64, what: &str, theirs: &str, model: &str) -> ! {
 /// One script through all of them.
 fn compare(program: &str, number: u64, seed: u64, tally: &mut Tally) {
     let script = random_script::random(number, seed);
-    fs::write(INPUT, &script).expect("a place for the script");
+    fs::write(INPUT, bytes_of(&script)).expect("a place for the script");
     let model = answers_of::<model::Session>(&script, |before, words, answer| tally.count(before, words, answer));
     let fast = answers_of::<fast::session::Session>(&script, |_, _, _| {});
     if fast != model {
@@ -70,7 +80,10 @@ fn main() {
     let words: Vec<String> = std::env::args().skip(1).collect();
     let number = |word: &str| word.parse::<u64>().expect("a number");
     match words.iter().map(String::as_str).collect::<Vec<_>>()[..] {
-        [at, seed] => print!("{}", random_script::random(number(at), number(seed))),
+        [at, seed] => {
+            let script = random_script::random(number(at), number(seed));
+            std::io::stdout().write_all(&bytes_of(&script)).expect("standard output");
+        }
         [program, count, seed] => {
             println!("scripts {program} {count} {seed}");
             let mut tally = Tally::default();
@@ -78,7 +91,7 @@ fn main() {
             println!("{count} scripts, {} calls: the same, byte for byte", tally.calls);
             tally.print();
             tally.nothing_else();
-            if number(count) >= 1000 {
+            if number(count) >= 2000 {
                 tally.nothing_missed();
             }
         }

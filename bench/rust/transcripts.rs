@@ -18,7 +18,7 @@ fn main() {
     let number = |word: &str| word.parse().expect("a number");
     let device = |word: &str| word.chars().next().expect("a device");
     let transcript = match words[..] {
-        ["long", d, lines, seed] => transcript::long(device(d), number(lines) as usize, number(seed)),
+        ["long", d, lines, seed] => transcript::long::transcript(device(d), number(lines) as usize, number(seed)),
         ["mixed", d, usable, calls, seed] => transcript::mixed(device(d), number(usable), number(calls), number(seed)),
         ["random", n, seed] => transcript::random(number(n), number(seed)).text,
         ["site", n, seed] => transcript::random(number(n), number(seed)).lists.texts.site,

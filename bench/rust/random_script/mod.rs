@@ -1,8 +1,9 @@
 //! Random scripts of library calls: sessions of any device with slices that fit, just fit or are too short, shifts of turns,
 //! and readings of what plans leave, whole and with a value changed; and mixed with them the calls and the edits of a lent
-//! session, mostly of another device.
+//! session, mostly of another device, and pieces of a text.
 
 mod edits;
+mod feeds;
 mod lent;
 mod openings;
 mod readings;
@@ -14,20 +15,27 @@ use crate::planner::fast::session::Session;
 use crate::planner::requests::Entry;
 use crate::planner::{Calls, LIST, SHIFT};
 use crate::script::words::LONGEST_SLICE;
-use crate::script::Host;
+use crate::script::{words_in, Host};
 use crate::transcript::calls::Bench;
 use crate::transcript::{bench_on, faults, numbers_from, own_adds, usable_in};
 
 /// Words that are in no place of the notation, or in few.
-const ODD_WORDS: [&str; 12] =
-    ["x", "-", "-1", "+1", "0x1", "1f", "A", "18446744073709551616", "10000000000000000", "8193", "event", "GG"];
+const ODD_WORDS: [&str; 14] =
+    ["x", "-", "-1", "+1", "0x1", "1f", "A", "18446744073709551616", "10000000000000000", "8193", "event", "GG", "\\", "\\r"];
 
-/// A script on its way: what the calls of the session and those of the lent one are drawn for, the host that they leave, and
-/// their lines. So many of a hundred calls are damaged.
+/// So many of a hundred calls in a text are adds by a name, which no list has.
+const NAMED: u64 = 5;
+
+/// A script on its way: what the calls of the session and those of the lent one are drawn for, what of the feed's text is not
+/// yet sent, the host that the calls leave, and their lines. So many of a hundred calls are damaged, of the lent session, and
+/// of the feed.
 struct Script {
     bench: Bench,
     lent_bench: Bench,
+    unsent: Vec<u8>,
     damage: u64,
+    lent: u64,
+    fed: u64,
     host: Host<Session>,
     text: String,
 }
@@ -77,17 +85,21 @@ fn damaged(numbers: &mut Numbers, mut words: Vec<String>) -> Vec<String> {
 
 impl Script {
     /// Puts a line, and answers it, so that the next one can be drawn for what it leaves.
+    fn answered(&mut self, words: &[String]) -> String {
+        let line = words.join(" ");
+        self.text += &format!("{line}\n");
+        self.host.answer(&words_in(&line))
+    }
+
     fn put(&mut self, words: &[String]) {
-        let words: Vec<&str> = words.iter().map(String::as_str).collect();
-        self.host.answer(&words);
-        self.text += &format!("{}\n", words.join(" "));
+        self.answered(words);
     }
 
     /// Puts a line that may be damaged.
-    fn put_or_damage(&mut self, words: Vec<String>) {
+    fn put_or_damage(&mut self, words: Vec<String>) -> String {
         let damage = self.bench.numbers.chance(self.damage);
         let words = if damage { damaged(&mut self.bench.numbers, words) } else { words };
-        self.put(&words);
+        self.answered(&words)
     }
 
     /// The numbers that so many turns write; as many as there may be where there is no session or there are too many turns.
@@ -134,8 +146,8 @@ impl Script {
         own_adds(&self.bench).iter().for_each(|line| self.put(&words_of(line)));
     }
 
-    /// So many calls, mostly after an open; so many of a hundred are of the lent session, or edits.
-    fn calls(&mut self, count: u64, lent: u64) {
+    /// So many calls, mostly after an open.
+    fn calls(&mut self, count: u64) {
         while self.bench.numbers.chance(30) {
             let words = openings::first(&mut self.bench);
             self.put(&words);
@@ -143,20 +155,22 @@ impl Script {
         if self.bench.numbers.chance(90) {
             self.put(&words_of(&self.bench.own_open()));
         }
-        if lent > 0 {
+        if self.lent > 0 {
             self.lend_and_open();
         }
         for _ in 0..count {
-            if self.bench.numbers.chance(lent) {
-                self.lent_step();
-            } else {
-                let words = self.call();
-                self.put_or_damage(words);
+            match (self.bench.numbers.chance(self.lent), self.bench.numbers.chance(self.fed)) {
+                (true, _) => self.lent_step(),
+                (_, true) => self.feed_step(),
+                _ => {
+                    let words = self.call();
+                    self.put_or_damage(words);
+                }
             }
         }
     }
 
-    /// Both sessions afresh.
+    /// Both sessions and the feed afresh.
     fn renew(&mut self) {
         self.put(&["new".into()]);
     }
@@ -172,22 +186,23 @@ pub fn random(number: u64, seed: u64) -> String {
     let odd = [0, 4, 15, 40][(round / device.all() % 4) as usize];
     let damage = numbers.pick(&[0, 0, 5, 20]);
     let calls = numbers.below(60);
-    let lent = numbers.pick(&[0, 30, 50, 90]);
+    let (lent, fed) = (numbers.pick(&[0, 30, 50, 90]), numbers.pick(&[0, 10, 40]));
     let lent_bench = lent::bench(numbers_from(seed ^ number << 20 ^ 3), odd);
     let mut bench = bench_on(device, usable, odd, numbers);
     bench.tight = round % 4 == 3;
-    bench.ids = bench.numbers.pick(&[4, 8, 30]);
-    let mut script = Script { bench, lent_bench, damage, host: Host::new(), text: String::new() };
-    script.calls(calls, lent);
+    (bench.ids, bench.named) = (bench.numbers.pick(&[4, 8, 30]), NAMED);
+    let mut script = Script { bench, lent_bench, unsent: Vec::new(), damage, lent, fed, host: Host::new(), text: String::new() };
+    script.calls(calls);
     match round % 32 {
         5 => readings::every_bit(&mut script),
+        9 | 25 => script.feed_run(),
         13 => script.overfill(),
         21 => script.lent_run(),
         29 => script.lent_overfill(),
         _ => {}
     }
-    script.calls(calls / 2, lent);
+    script.calls(calls / 2);
     script.renew();
-    script.calls(calls / 4, lent);
+    script.calls(calls / 4);
     script.text
 }

@@ -1,9 +1,12 @@
-//! Scripts of library calls and their answers; the notation is in docs/MAINTAINING.md.
+//! Scripts of library calls and their answers; the notation is in docs/MAINTAINING.md. A script holds any bytes: byte b stands
+//! as the character of this number.
 
+pub mod feed;
 pub mod lent;
 pub mod texts;
 pub mod words;
 
+use crate::feed::{Fed, Feed};
 use crate::planner::model::reader::{read, Registers};
 use crate::planner::{Calls, PLACES};
 use lent::Lent;
@@ -11,11 +14,12 @@ use words::{decimal, hex, opening, request, slice};
 
 const LONGEST_LINE: usize = 4096;
 
-/// What the calls of a script are made on: a session, and apart from it a lent one with its rows.
+/// What the calls of a script are made on: a session, and apart from it a lent one with its rows, and a feed.
 #[derive(Clone)]
-pub struct Host<Session: Calls> {
+pub struct Host<Session: Fed> {
     pub session: Session,
     pub lent: Lent<Session::Lent>,
+    pub feed: Session::Feed,
 }
 
 fn turn(s: &mut impl Calls, length: &str) -> Option<String> {
@@ -57,9 +61,9 @@ fn call(s: &mut impl Calls, words: &[&str]) -> Option<String> {
     Some(format!("{answer}\n{}", texts::queue(s.queue())))
 }
 
-impl<Session: Calls> Host<Session> {
+impl<Session: Fed> Host<Session> {
     pub fn new() -> Host<Session> {
-        Host { session: Session::new(), lent: Lent::new() }
+        Host { session: Session::new(), lent: Lent::new(), feed: Session::Feed::new() }
     }
 
     fn answered(&mut self, words: &[&str]) -> Option<String> {
@@ -69,6 +73,7 @@ impl<Session: Calls> Host<Session> {
                 Some(String::new())
             }
             ["read", rest @ ..] => reading(rest),
+            ["piece" | "end", ..] => feed::answer(&mut self.feed, words),
             ["rows" | "row" | "ropen" | "radd" | "rdrop" | "rturn" | "rrun", ..] => self.lent.answer(words),
             _ => call(&mut self.session, words),
         }
@@ -84,16 +89,24 @@ impl<Session: Calls> Host<Session> {
     }
 }
 
+/// The words of a line, up to a remark. Behind the length of a piece and one blank all is its text.
+pub fn words_in(line: &str) -> Vec<&str> {
+    match line.trim_start_matches(' ').strip_prefix("piece ") {
+        None => line.split('#').next().unwrap_or_default().split(' ').filter(|word| !word.is_empty()).collect(),
+        Some(rest) => ["piece"].into_iter().chain(rest.trim_start_matches(' ').splitn(2, ' ')).collect(),
+    }
+}
+
 /// Answers a script, and shows of each line the host before it, its words, and the lines that are printed.
-pub fn answer_calls<Session: Calls + Clone>(script: &str, mut show: impl FnMut(&Host<Session>, &[&str], &str)) {
+pub fn answer_calls<Session: Fed + Clone>(script: &str, mut show: impl FnMut(&Host<Session>, &[&str], &str)) {
     let mut host = Host::<Session>::new();
-    for line in script.lines() {
-        let words: Vec<&str> = line.split('#').next().unwrap().split(' ').filter(|word| !word.is_empty()).collect();
+    for line in script.split('\n') {
+        let words = words_in(line);
         if words.is_empty() {
             continue;
         }
         let before = host.clone();
-        let answer = if line.len() > LONGEST_LINE { "?\n".into() } else { host.answer(&words) };
+        let answer = if line.chars().count() > LONGEST_LINE { "?\n".into() } else { host.answer(&words) };
         show(&before, &words, &answer);
     }
 }

@@ -1,6 +1,7 @@
-//! How often each call of a script got each answer, with its field, and how many shifts of turns and calls on lent rows there
-//! were of each kind.
+//! How often each call of a script got each answer, with its field, and how many shifts of turns, calls of the feed and calls on
+//! lent rows there were of each kind.
 
+mod feeds;
 mod lent;
 mod shifts;
 
@@ -8,13 +9,14 @@ use crate::answer_tally::{AnswerTally, Answers};
 use crate::planner::model::rules::RULES;
 use crate::planner::model::Session;
 use crate::script::Host;
+use feeds::{FedCall, FEEDS};
 use lent::{LentCall, KINDS};
 use shifts::{Shift, SHIFTS};
 use std::collections::BTreeMap;
 
 /// Every answer that a call can get, with the field at fault but for the reader's; an edit gets none where it is done. A call
 /// that is not in the notation is counted by its first word.
-const ANSWERS: [Answers; 22] = [
+const ANSWERS: [Answers; 24] = [
     ("open", "ok, no 2 0, no 3 1, no 3 2, no 3 3, no 3 4, no 7 0, no 10 4, no 10 5, ?"),
     ("open C", "ok, no 2 0, no 3 2, no 3 3, no 3 4, no 10 5, no 10 6"),
     ("add", "?"),
@@ -26,6 +28,8 @@ const ANSWERS: [Answers; 22] = [
     ("turn", "ok, no 2 0, no 14 0, ?"),
     ("turns", "ok, no 2 0, no 10 1, no 14 0, ?"),
     ("read", "ok, no 3, no 15, ?"),
+    ("piece", "ok, no 2 0, no 14 0, ?"),
+    ("end", "ok, no 2 0, no 14 0, ?"),
     ("rows", "done, ?"),
     ("row", "done, ?"),
     ("ropen", "ok, no 2 0, no 3 0, no 3 1, no 3 2, no 3 3, no 3 4, no 7 0, no 10 4, no 10 5, ?"),
@@ -82,8 +86,14 @@ impl Tally {
         match words[0] {
             "rows" | "row" => self.edited = true,
             "ropen" | "radd" | "rdrop" | "rturn" => self.count_lent(LentCall::of(before, words, answer)),
+            "piece" | "end" => self.count_fed(FedCall::of(before, words, answer, printed)),
             _ => {}
         }
+    }
+
+    fn count_fed(&mut self, call: Option<FedCall>) {
+        let kinds = FEEDS.iter().filter(|(_, test)| call.as_ref().is_some_and(test));
+        kinds.for_each(|(kind, _)| *self.kinds.entry(kind).or_default() += 1);
     }
 
     fn count_lent(&mut self, call: LentCall) {
@@ -95,7 +105,7 @@ impl Tally {
 
     /// Each kind with its count, and last the rules of lent rows for which alone calls were refused.
     fn kinds(&self) -> impl Iterator<Item = (&str, u64)> {
-        let shifts = SHIFTS.iter().map(|(kind, _)| *kind);
+        let shifts = SHIFTS.iter().map(|(kind, _)| *kind).chain(FEEDS.iter().map(|(kind, _)| *kind));
         let names = shifts.chain(KINDS.iter().map(|(kind, _)| *kind)).chain(RULES.iter().map(|(rule, _)| *rule));
         names.map(|kind| (kind, self.kinds.get(kind).copied().unwrap_or(0)))
     }

@@ -7,19 +7,14 @@ pub mod faults;
 mod field_damage;
 pub mod list_damage;
 pub mod lists;
+pub mod long;
 
-use crate::answer::{answer, Output, LONGEST_ANSWER};
-use crate::names::road::EachTime;
-use crate::names::Texts;
 use crate::numbers::Numbers;
 use crate::planner::devices::{Device, Filters, Opening, DEVICES};
-use crate::planner::fast::session::Session;
-use crate::planner::{u_box, Calls};
+use crate::planner::u_box;
 use calls::{open_line, Bench};
 use lists::DrawnLists;
 
-/// The lines between two choices of how long the queue should be.
-const STRETCH: usize = 64;
 /// So many ids that the queue can get full, and so few that many of them are waiting.
 const IDS: u64 = 30;
 
@@ -35,27 +30,6 @@ pub fn numbers_from(seed: u64) -> Numbers {
 fn push(transcript: &mut Vec<u8>, line: &[u8]) {
     transcript.extend_from_slice(line);
     transcript.push(b'\n');
-}
-
-/// A call for a queue that should be about this long.
-fn next_call(bench: &mut Bench, session: &Session, goal: usize) -> Vec<u8> {
-    let waiting: Vec<u64> = session.queue().iter().map(|entry| entry.id).collect();
-    match bench.numbers.below(100) {
-        0..=19 => "turn".into(),
-        20..=24 => damage::damaged(&mut bench.numbers, b"event\t7\tC0\t00\t15"),
-        25..=26 => bench.drop().into(),
-        27..=35 => {
-            bench.odd = 30;
-            let call = if bench.numbers.chance(10) { bench.open() } else { bench.add() };
-            bench.odd = 0;
-            call.into()
-        }
-        _ if waiting.len() < goal || waiting.is_empty() => {
-            let id = bench.numbers.below(65535) + 1;
-            bench.add_with(id).into()
-        }
-        _ => format!("drop\t{}", bench.numbers.pick(&waiting)).into(),
-    }
 }
 
 /// The usable set of this round: every one in turn, but mostly all counters where an event can need all of them.
@@ -74,28 +48,6 @@ pub fn bench_on(device: &'static Device, usable: u64, odd: u64, mut numbers: Num
     let freeze = if device.uncore { numbers.below(2) } else { 0 };
     let core = (device.uncore && numbers.chance(50)).then(|| numbers.below(u_box::CORES));
     Bench { numbers, device, usable, fixed, box_number, freeze, core, ids: IDS, odd, named: 0, names: Vec::new(), tight: false }
-}
-
-/// A transcript of so many lines: mostly accepted adds and drops, a fifth turns, a tenth refused or ill-formed lines.
-pub fn long(device: char, lines: usize, seed: u64) -> Vec<u8> {
-    let device = Device::named(device as u64).expect("a device");
-    let mut bench = bench_on(device, device.all(), 0, numbers_from(seed));
-    (bench.fixed, bench.box_number, bench.freeze, bench.core) = (0, 0, 0, None);
-    let mut session = Session::new();
-    let no_names = Texts::default();
-    let mut block = [0; LONGEST_ANSWER];
-    let mut transcript = Vec::new();
-    let mut goal = 0;
-    for n in 0..lines {
-        if n % STRETCH == 0 {
-            goal = bench.numbers.below(18) as usize;
-        }
-        let mut line = if n == 0 { bench.open().into() } else { next_call(&mut bench, &session, goal) };
-        line.retain(|&byte| byte != b'\n');
-        answer(&mut session, &EachTime::of(&no_names), &line, &mut Output { block: &mut block, used: 0 });
-        push(&mut transcript, &line);
-    }
-    transcript
 }
 
 /// More adds than the queue has room for, each of which has a plan alone.
@@ -205,6 +157,16 @@ fn opening(bench: &mut Bench, transcript: &mut Vec<u8>, damage: u64) {
     push(transcript, bench.own_open().as_bytes());
 }
 
+/// A line of a call, so many of a hundred damaged or noise.
+pub fn line(bench: &mut Bench, damage: u64, noise: u64) -> Vec<u8> {
+    let line: Vec<u8> = call(bench).into();
+    match (bench.numbers.chance(damage), bench.numbers.chance(noise)) {
+        (_, true) => damage::noise(&mut bench.numbers),
+        (true, _) => damaged(&mut bench.numbers, &line),
+        _ => line,
+    }
+}
+
 fn mixed_lines(bench: &mut Bench, mix: Mix) -> Vec<u8> {
     let mut transcript = Vec::new();
     for n in 0..mix.calls {
@@ -214,13 +176,7 @@ fn mixed_lines(bench: &mut Bench, mix: Mix) -> Vec<u8> {
         if n == mix.overflow_at {
             overflow(bench, &mut transcript);
         }
-        let line: Vec<u8> = call(bench).into();
-        let line = match (bench.numbers.chance(mix.damage), bench.numbers.chance(mix.noise)) {
-            (_, true) => damage::noise(&mut bench.numbers),
-            (true, _) => damaged(&mut bench.numbers, &line),
-            _ => line,
-        };
-        push(&mut transcript, &line);
+        push(&mut transcript, &line(bench, mix.damage, mix.noise));
     }
     transcript
 }

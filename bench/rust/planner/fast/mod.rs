@@ -5,7 +5,7 @@
 mod left;
 pub mod lent;
 mod precise;
-mod road;
+pub mod road;
 mod rules;
 pub mod search;
 pub mod session;
