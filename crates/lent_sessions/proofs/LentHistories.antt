@@ -17,7 +17,7 @@ use Rattle.sessions.specs.Table.{refusal}
 use Rattle.sessions.specs.Plain.{step}
 use Rattle.sessions.specs.Sound.{Sound}
 use Rattle.sessions.proofs.Faithful.{Faithful, planFor, one-plan-each}
-use Rattle.sessions.proofs.Promised.{promises}
+use Rattle.sessions.proofs.Demand3.{promises}
 use Rattle.lent_sessions.specs.Records.{standing}
 use Rattle.lent_sessions.specs.RowRules.{IsCount, SoundRows}
 use Rattle.lent_sessions.specs.Lent.{plainWith, lentTurned, lentPlan}
