@@ -1,13 +1,13 @@
 -- The runs, by computation: every definition that they reach is unfolded.
 use mathlib.Core.Path.{_≡_, refl}
-use mathlib.Core.List.{flatMap, map}
+use mathlib.Core.List.{[], _∷_, flatMap, map}
 use Rattle.requests.specs.Askings.{overflowOn, coreCount, unasked, coreGiven, asks, asked, overflowNotOn, coreFits, overflowFits}
 use Rattle.requests.specs.Bits.{bit, inList, anyBit, onlyBits, typeBits, anyResponse, answerBits, outstanding, rsp1Bits, rsp0Bits, rising, field, matchBits, maskBits, latencyWord}
 use Rattle.requests.specs.CBoxEvents.{sinkMasks, ringMasks, starvedMasks, bypassMasks, cboxEvents}
 use Rattle.requests.specs.Catalogue.{eventsOf, codeIn, pairIn, maskNotListed}
 use Rattle.requests.specs.Checks.{kindNotOn, notListed, tooWide, outOfRange, incomplete, conflicting, requestRows}
 use Rattle.requests.specs.Choice.{both, either, every, firstHolding}
-use Rattle.requests.specs.Devices.{has, capacity, counterCount, allCounters, fixedCount, allFixed, letterOf, boxCount, devices, named, deviceOf, packetsOn, offcoreOn, pairsJudged, usableSet, opens, rowsWhere, openingRows, onDevice, openingTable, setupOn, openedOn, openedBy, openedSetup, setupOf}
+use Rattle.requests.specs.Devices.{has, size, capacity, counterCount, allCounters, fixedCount, allFixed, letterOf, boxCount, boxOf, devices, named, deviceOf, packetsOn, offcoreOn, pairsJudged, usableSet, opens, rowsWhere, openingRows, onDevice, openingTable, setupOn, openedOn, openedBy, openedSetup, setupOf, openingOf}
 use Rattle.requests.specs.MaskRules.{allows}
 use Rattle.requests.specs.Refusals.{numberOf, answerFor, answerNumber}
 use Rattle.plans.specs.Legal.{wordsOf, packetsOf, ofAll, counters}
@@ -23,6 +23,8 @@ use Rattle.sessions.specs.LoneRuns.{loneRuns, LoneRuns}
 use Rattle.sessions.specs.Plain.{removed, onQueue, change, step}
 use Rattle.sessions.specs.Runs.{numbersOf, outcomeOf, upTo, runs, Runs}
 use Rattle.sessions.specs.Sessions.{queueLimit, vacant, queued, padded, sessionOf, newSession, plainOf, refusedBy, answered, openOf, addOf, dropOf, unassigned, turnAnswer, turnOf, planOf, turnedSession, turnsAnswer, turnsSlice, turnsEnds, answerTo, nextSession, sessionAfter}
+use Rattle.sessions.specs.ShorterPromise.{rounds}
+use Rattle.sessions.specs.ShorterRuns.{entriesFrom, callsOf, gives, firstWith, turnOfMine, aheadOf, shorterBound, tight, outside, Waits}
 use Rattle.sessions.specs.Table.{outsideIds, addRows, dropRows, turnRows, turnsLimit, turnsRows, beforeOpen, onceOpen, table, refusal}
 use Rattle.sessions.specs.Turns.{requestsOf, fits, taken, passed, turned, placesOf, assign, writesOf, turnedTimes, listsOf, joined, endsFrom}
 use Rattle.sessions.specs.TurnsRuns.{listAfter, endsAfter, times, shifts, Shift, TurnsRuns}
@@ -44,16 +46,10 @@ ends = refl
 pub turns-hold : TurnsRuns
 turns-hold = record { lists = lists; ends = ends }
 
--- ---- order 12
-
-pub lone-runs-hold : LoneRuns
-unfolding flatMap overflowOn coreCount unasked coreGiven asks asked overflowNotOn coreFits overflowFits bit inList anyBit onlyBits typeBits anyResponse answerBits outstanding rsp1Bits rsp0Bits rising field matchBits maskBits latencyWord sinkMasks ringMasks starvedMasks bypassMasks cboxEvents architecturalEvents preciseEvents eventsOf codeIn pairIn maskNotListed kindNotOn notListed tooWide outOfRange incomplete conflicting requestRows both either every firstHolding has capacity counterCount allCounters fixedCount allFixed letterOf boxCount devices named deviceOf packetsOn offcoreOn pairsJudged usableSet opens rowsWhere openingRows onDevice openingTable setupOn openedOn openedBy openedSetup setupOf ruleOnB hasRules ruleOf ruleFor wantsQuiet allows numberOf answerFor answerNumber wordsOf packetsOf ofAll counters onlyCounter allowedBy narrowed anyLone quietKept countedOf countersOf first second takeCounter takeWord takePacket placeOf admit width firstFrom putFirst thenRest tryNumber planIn firstPlan hasPlan tabulate cboxGlobals cboxGlobal layoutOf rsp0At rsp1At mmCfgAt matchAt maskAt uboxAt pebsAt pebsOn mmEnable frzAll enAll coreSel preciseStore enabledOn pmiEnable enabled eventWord codeOf maskOf isEvent offcoreCode rspMask rspWord packetWord usesOf wordAt setFrom settingsOf rows zeros unusable fixedAt fixedEnables firstGlobal lastGlobal offcoreWrites packetWrites filterWrites pebsEnable preciseWrites coreBit uboxValue boxWrites writesFor writes waits takenAfter passedAfter turnsIf singleTurns turnsBy turnsOf loneRuns removed onQueue change step numbersOf outcomeOf upTo queueLimit vacant queued padded sessionOf newSession plainOf refusedBy answered openOf addOf dropOf unassigned turnAnswer turnOf planOf turnedSession turnsAnswer answerTo nextSession sessionAfter outsideIds addRows dropRows turnRows turnsLimit turnsRows beforeOpen onceOpen table refusal requestsOf fits taken passed turned placesOf assign writesOf turnedTimes listsOf joined
-lone-runs-hold = refl
-
 -- ---- order 14
 
 pub tight-turns : map turnOfMine tight ≡ map (λ (w : Waits). w .turn) tight
-unfolding flatMap overflowOn coreCount unasked coreGiven asks asked overflowNotOn coreFits overflowFits bit inList anyBit onlyBits typeBits anyResponse answerBits outstanding rsp1Bits rsp0Bits rising field matchBits maskBits latencyWord sinkMasks ringMasks starvedMasks bypassMasks cboxEvents architecturalEvents preciseEvents eventsOf codeIn pairIn maskNotListed kindNotOn notListed tooWide outOfRange incomplete conflicting requestRows both either every firstHolding has capacity counterCount allCounters fixedCount allFixed letterOf boxCount boxOf devices named deviceOf packetsOn offcoreOn pairsJudged usableSet opens rowsWhere openingRows onDevice openingTable setupOn openedOn openedBy openedSetup setupOf openingOf ruleOnB hasRules ruleOf ruleFor wantsQuiet allows answerFor wordsOf packetsOf ofAll counters onlyCounter allowedBy narrowed anyLone quietKept countedOf countersOf first second takeCounter takeWord takePacket placeOf admit width firstFrom putFirst thenRest tryNumber planIn firstPlan hasPlan tabulate cboxGlobals cboxGlobal layoutOf rsp0At rsp1At mmCfgAt matchAt maskAt uboxAt pebsAt pebsOn mmEnable frzAll enAll coreSel preciseStore enabledOn pmiEnable enabled eventWord codeOf maskOf isEvent offcoreCode rspMask rspWord packetWord usesOf wordAt setFrom settingsOf rows zeros unusable fixedAt fixedEnables firstGlobal lastGlobal offcoreWrites packetWrites filterWrites pebsEnable preciseWrites coreBit uboxValue boxWrites writesFor writes waits takenAfter passedAfter turnsIf singleTurns turnsBy turnsOf removed onQueue change step upTo queueLimit vacant queued padded sessionOf newSession plainOf refusedBy answered openOf addOf dropOf unassigned turnAnswer turnOf planOf turnedSession turnsAnswer answerTo nextSession entriesFrom callsOf gives firstWith turnOfMine tight outsideIds addRows dropRows turnRows turnsLimit turnsRows beforeOpen onceOpen table refusal requestsOf fits taken passed turned placesOf assign writesOf turnedTimes listsOf joined
+unfolding flatMap overflowOn coreCount unasked coreGiven asks asked overflowNotOn coreFits overflowFits bit inList anyBit onlyBits typeBits anyResponse answerBits outstanding rsp1Bits rsp0Bits rising field matchBits maskBits latencyWord sinkMasks ringMasks starvedMasks bypassMasks cboxEvents eventsOf codeIn pairIn maskNotListed kindNotOn notListed tooWide outOfRange incomplete conflicting requestRows both either every firstHolding has capacity counterCount allCounters fixedCount allFixed letterOf boxCount boxOf devices named deviceOf packetsOn offcoreOn pairsJudged usableSet opens rowsWhere openingRows onDevice openingTable setupOn openedOn openedBy openedSetup setupOf openingOf allows answerFor wordsOf packetsOf ofAll counters countedOf countersOf first second takeCounter takeWord takePacket placeOf admit width firstFrom putFirst thenRest tryNumber planIn firstPlan hasPlan tabulate cboxGlobals cboxGlobal layoutOf rsp0At rsp1At mmCfgAt matchAt maskAt uboxAt mmEnable frzAll enAll coreSel enabledOn pmiEnable enabled eventWord offcoreCode rspMask rspWord packetWord usesOf wordAt setFrom settingsOf rows zeros unusable fixedAt fixedEnables firstGlobal lastGlobal offcoreWrites packetWrites filterWrites coreBit uboxValue boxWrites writesFor writes waits takenAfter passedAfter turnsIf singleTurns turnsBy turnsOf removed onQueue change step upTo queueLimit vacant queued padded sessionOf newSession plainOf refusedBy answered openOf addOf dropOf unassigned turnAnswer turnOf planOf turnedSession turnsAnswer answerTo nextSession entriesFrom callsOf gives firstWith turnOfMine tight outsideIds addRows dropRows turnRows turnsLimit turnsRows beforeOpen onceOpen table refusal requestsOf fits taken passed turned placesOf assign writesOf turnedTimes listsOf joined
 tight-turns = refl
 
 pub tight-bounds : map shorterBound tight ≡ map (λ (w : Waits). w .turn) tight
@@ -61,9 +57,9 @@ unfolding unasked bit has size counterCount rounds entriesFrom aheadOf shorterBo
 tight-bounds = refl
 
 pub outside-turns : map turnOfMine outside ≡ map (λ (w : Waits). w .turn) outside
-unfolding flatMap overflowOn coreCount unasked coreGiven asks asked overflowNotOn coreFits overflowFits bit inList anyBit onlyBits typeBits anyResponse answerBits outstanding rsp1Bits rsp0Bits rising field matchBits maskBits latencyWord sinkMasks ringMasks starvedMasks bypassMasks cboxEvents architecturalEvents preciseEvents eventsOf codeIn pairIn maskNotListed kindNotOn notListed tooWide outOfRange incomplete conflicting requestRows both either every firstHolding has capacity counterCount allCounters fixedCount allFixed letterOf boxCount boxOf devices named deviceOf packetsOn offcoreOn pairsJudged usableSet opens rowsWhere openingRows onDevice openingTable setupOn openedOn openedBy openedSetup setupOf openingOf ruleOnB hasRules ruleOf ruleFor wantsQuiet allows answerFor wordsOf packetsOf ofAll counters onlyCounter allowedBy narrowed anyLone quietKept countedOf countersOf first second takeCounter takeWord takePacket placeOf admit width firstFrom putFirst thenRest tryNumber planIn firstPlan hasPlan tabulate cboxGlobals cboxGlobal layoutOf rsp0At rsp1At mmCfgAt matchAt maskAt uboxAt pebsAt pebsOn mmEnable frzAll enAll coreSel preciseStore enabledOn pmiEnable enabled eventWord codeOf maskOf isEvent offcoreCode rspMask rspWord packetWord usesOf wordAt setFrom settingsOf rows zeros unusable fixedAt fixedEnables firstGlobal lastGlobal offcoreWrites packetWrites filterWrites pebsEnable preciseWrites coreBit uboxValue boxWrites writesFor writes waits takenAfter passedAfter turnsIf singleTurns turnsBy turnsOf removed onQueue change step upTo queueLimit vacant queued padded sessionOf newSession plainOf refusedBy answered openOf addOf dropOf unassigned turnAnswer turnOf planOf turnedSession turnsAnswer answerTo nextSession entriesFrom callsOf gives firstWith turnOfMine outside outsideIds addRows dropRows turnRows turnsLimit turnsRows beforeOpen onceOpen table refusal requestsOf fits taken passed turned placesOf assign writesOf turnedTimes listsOf joined
+unfolding flatMap overflowOn coreCount unasked coreGiven asks asked overflowNotOn coreFits overflowFits bit inList anyBit onlyBits typeBits anyResponse answerBits outstanding rsp1Bits rsp0Bits rising field matchBits maskBits latencyWord sinkMasks ringMasks starvedMasks bypassMasks cboxEvents eventsOf codeIn pairIn maskNotListed kindNotOn notListed tooWide outOfRange incomplete conflicting requestRows both either every firstHolding has capacity counterCount allCounters fixedCount allFixed letterOf boxCount boxOf devices named deviceOf packetsOn offcoreOn pairsJudged usableSet opens rowsWhere openingRows onDevice openingTable setupOn openedOn openedBy openedSetup setupOf openingOf allows answerFor wordsOf packetsOf ofAll counters countedOf countersOf first second takeCounter takeWord takePacket placeOf admit width firstFrom putFirst thenRest tryNumber planIn firstPlan hasPlan tabulate cboxGlobals cboxGlobal layoutOf rsp0At rsp1At mmCfgAt matchAt maskAt uboxAt mmEnable frzAll enAll coreSel enabledOn pmiEnable enabled eventWord offcoreCode rspMask rspWord packetWord usesOf wordAt setFrom settingsOf rows zeros unusable fixedAt fixedEnables firstGlobal lastGlobal offcoreWrites packetWrites filterWrites coreBit uboxValue boxWrites writesFor writes waits takenAfter passedAfter turnsIf singleTurns turnsBy turnsOf removed onQueue change step upTo queueLimit vacant queued padded sessionOf newSession plainOf refusedBy answered openOf addOf dropOf unassigned turnAnswer turnOf planOf turnedSession turnsAnswer answerTo nextSession entriesFrom callsOf gives firstWith turnOfMine outside outsideIds addRows dropRows turnRows turnsLimit turnsRows beforeOpen onceOpen table refusal requestsOf fits taken passed turned placesOf assign writesOf turnedTimes listsOf joined
 outside-turns = refl
 
-pub outside-bounds : map shorterBound outside ≡ 1 ∷ 2 ∷ 1 ∷ 1 ∷ []
+pub outside-bounds : map shorterBound outside ≡ 1 ∷ 2 ∷ []
 unfolding unasked bit has size counterCount rounds entriesFrom aheadOf shorterBound outside
 outside-bounds = refl

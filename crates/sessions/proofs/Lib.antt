@@ -29,7 +29,9 @@ pub mod TurnByTurn
 pub mod Given
 pub mod Promised
 pub mod Demand3
+pub mod ShorterPromise
 pub mod TurnPlan
 pub mod AcceptanceTests
+pub mod ShorterRuns
 pub mod FaultTable
 pub mod FaultRows

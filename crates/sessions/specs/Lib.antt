@@ -24,7 +24,7 @@ pub mod HeadTaken
 pub mod LoneRequests
 pub mod Demand3
 pub mod Demand3From
+pub mod ShorterPromise
 pub mod Runs
 pub mod TurnsRuns
-pub mod LoneRuns
 pub mod ShorterRuns
