@@ -1,6 +1,7 @@
 -- A lent session does what the plain queue does, with as many places as there are records. Assumes nothing.
 --     Stands, faithful    it is a faithful machine, so
 --     lent-demand3        it keeps the promise of demand 3
+--     lent-shorter        and the shorter one
 use mathlib.Core.Path.{_≡_, refl, ap, ap₂, sym, _∙_}
 use mathlib.Core.List.{List}
 use mathlib.Core.Bool.{Bool, true, false}
@@ -18,11 +19,13 @@ use Rattle.sessions.specs.Plain.{step}
 use Rattle.sessions.specs.Sound.{Sound}
 use Rattle.sessions.proofs.Faithful.{Faithful, planFor, one-plan-each}
 use Rattle.sessions.proofs.Demand3.{promises}
+use Rattle.sessions.proofs.ShorterPromise.{shorter-promises}
 use Rattle.lent_sessions.specs.Records.{standing}
 use Rattle.lent_sessions.specs.RowRules.{IsCount, SoundRows}
 use Rattle.lent_sessions.specs.Lent.{plainWith, lentTurned, lentPlan}
 use Rattle.lent_sessions.specs.Histories.{State, lentAnswer, nextLent, plainIn, lentSession, IsOpened, Lends, closed, kept}
 use Rattle.lent_sessions.specs.LentDemand3.{LentDemand3}
+use Rattle.lent_sessions.specs.LentShorterPromise.{LentShorterPromise}
 use Rattle.lent_sessions.specs.declared.LentSession.{LentSession}
 use Rattle.lent_sessions.proofs.RowRules.{row-rules}
 use Rattle.lent_sessions.proofs.LentCalls.{with-closed, with-opened, in-order, refused-as, sound-of, answer-by, next-is, lends-next, count-next}
@@ -87,4 +90,12 @@ lent-demand3 =
       plans-start = λ s rows h c. one-plan-each lentSession (length rows) (Stands (length rows)) (faithful (length rows)) (s, rows) notOpen (stands-start s rows h c);
       plans-rows = λ s rows o k.
           one-plan-each lentSession (length rows) (Stands (length rows)) (faithful (length rows)) (s, rows) (opened (s .setup) (k .queue)) (stands-rows s rows o k);
+    }
+
+pub lent-shorter : LentShorterPromise
+lent-shorter =
+    record {
+      from-start = λ s rows h c. shorter-promises lentSession (length rows) (Stands (length rows)) (faithful (length rows)) (s, rows) notOpen (stands-start s rows h c) tt;
+      from-rows = λ s rows o k.
+          shorter-promises lentSession (length rows) (Stands (length rows)) (faithful (length rows)) (s, rows) (opened (s .setup) (k .queue)) (stands-rows s rows o k) (sound-rows s rows o k);
     }

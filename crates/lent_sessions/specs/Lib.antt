@@ -11,4 +11,5 @@ pub mod LentUnchanged
 pub mod SameAsSmall
 pub mod LentTurnPlan
 pub mod LentDemand3
+pub mod LentShorterPromise
 pub mod LentRuns
