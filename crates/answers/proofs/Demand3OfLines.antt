@@ -1,4 +1,5 @@
--- Demand 3 of lines: demand 3 of the calls that they make, each call found at its line, and what the lines' replies say. Assumes nothing.
+-- Demand 3 and order 14's promise of lines: those of the calls that they make, each call found at its line, and what the lines' replies say. Assumes
+-- nothing.
 --     turn-found            a completed turn in its place among the calls
 --     dropped-by, taken-by  the lines that drop and take
 use mathlib.Core.Path.{_≡_, refl, ap, subst, _∙_}
@@ -29,6 +30,7 @@ use Rattle.sessions.specs.Completed.{smallSession, CompletedTurn, turnsIf, turn
 use Rattle.sessions.specs.Sound.{Sound}
 use Rattle.sessions.specs.DistinctIds.{Distinct}
 use Rattle.sessions.specs.Demand3.{InOneOf, Dropped}
+use Rattle.sessions.specs.ShorterPromise.{rounds}
 use Rattle.sessions.proofs.Lists.{all-joined, pairwise-right}
 use Rattle.sessions.proofs.Agreed.{answer-is, next-is}
 use Rattle.sessions.proofs.SmallSession.{agreement}
@@ -36,6 +38,7 @@ use Rattle.sessions.proofs.Given.{taken-distinct}
 use Rattle.sessions.proofs.TableAnswers.{turn-closed}
 use Rattle.sessions.proofs.SoundKept.{well-formed}
 use Rattle.sessions.proofs.Demand3.{demand3}
+use Rattle.sessions.proofs.ShorterPromise.{shorter-promise}
 use Rattle.grammar.specs.Records.{Fits}
 use Rattle.grammar.specs.declared.Record.{Record}
 use Rattle.grammar.specs.declared.Record.the-variants.{Open, Add, Drop, Turn}
@@ -44,6 +47,7 @@ use Rattle.answers.specs.Reader.{Said, Answers}
 use Rattle.answers.specs.LinesAreCalls.{callOf, takesOf, setsOf}
 use Rattle.answers.specs.LineLists.{callsBy, callsAfter}
 use Rattle.answers.specs.Demand3OfLines.{DroppedBy, TakenBy, Demand3OfLines}
+use Rattle.answers.specs.ShorterPromiseOfLines.{ShorterPromiseOfLines}
 use Rattle.answers.proofs.LineLists.{LineOf, line-of, calls-append, run-append, CallFits, calls-fit}
 use Rattle.answers.proofs.LinesSay.{lines-say}
 use Rattle.answers.proofs.GivenTo.{given-append, given-end, Placed, placed}
@@ -207,15 +211,20 @@ module _ (n : NameLists) (start : Session) (closed : start .opened ≡ false) (b
         allowed = g .allowed;
       }
 
+  -- what is promised of the calls is promised of the lines
+  by-lines : Dropped queueLimit from (callsAfter n before after) p e
+      ⊎ InOneOf (take (suc p) (turnsOf smallSession queueLimit from (sessionAfter start (callsBy n before)) (callsAfter n before after))) e
+      → DroppedBy n start before after p e ⊎ TakenBy n start before after p e
+  by-lines (inl d) = inl (dropped-by d)
+  by-lines (inr o) = inr (taken-by o)
+
 pub demand3-of-lines : Demand3OfLines
 unfolding from sessionAfter
-demand3-of-lines n start closed before after ahead behind e waits enough = go (demand3 start closed (callsBy n before) (callsAfter n before after) ahead behind e waits enough)
-  where
-    p : ℕ
-    p = length ahead
+demand3-of-lines n start closed before after ahead behind e waits enough =
+    by-lines n start closed before after (length ahead) e (demand3 start closed (callsBy n before) (callsAfter n before after) ahead behind e waits enough)
 
-    go : Dropped queueLimit (queueAfter (callsBy n before)) (callsAfter n before after) p e
-        ⊎ InOneOf (take (suc p) (turnsOf smallSession queueLimit (queueAfter (callsBy n before)) (sessionAfter start (callsBy n before)) (callsAfter n before after))) e
-        → DroppedBy n start before after p e ⊎ TakenBy n start before after p e
-    go (inl d) = inl (dropped-by n start closed before after p e d)
-    go (inr o) = inr (taken-by n start closed before after p e o)
+pub shorter-promise-of-lines : ShorterPromiseOfLines
+unfolding from sessionAfter
+shorter-promise-of-lines n start closed before after s ahead behind e is known enough =
+    by-lines n start closed before after (rounds s ahead) e
+    (shorter-promise start closed (callsBy n before) (callsAfter n before after) s ahead behind e is known enough)

@@ -9,6 +9,7 @@ pub mod LinesAreCalls
 pub mod LinesSay
 pub mod OutputSays
 pub mod Demand3OfLines
+pub mod ShorterPromiseOfLines
 pub mod NeverShort
 pub mod ReplyLength
 pub mod Examples
