@@ -4,18 +4,20 @@ use mathlib.Core.List.{[], _∷_, flatMap, map}
 use Rattle.requests.specs.Askings.{overflowOn, coreCount, unasked, coreGiven, asks, asked, overflowNotOn, coreFits, overflowFits}
 use Rattle.requests.specs.Bits.{bit, inList, anyBit, onlyBits, typeBits, anyResponse, answerBits, outstanding, rsp1Bits, rsp0Bits, rising, field, matchBits, maskBits, latencyWord}
 use Rattle.requests.specs.CBoxEvents.{sinkMasks, ringMasks, starvedMasks, bypassMasks, cboxEvents}
-use Rattle.requests.specs.Catalogue.{eventsOf, codeIn, pairIn, maskNotListed}
+use Rattle.requests.specs.Catalogue.{architecturalEvents, preciseEvents, eventsOf, codeIn, pairIn, maskNotListed}
 use Rattle.requests.specs.Checks.{kindNotOn, notListed, tooWide, outOfRange, incomplete, conflicting, requestRows}
 use Rattle.requests.specs.Choice.{both, either, every, firstHolding}
 use Rattle.requests.specs.Devices.{has, size, capacity, counterCount, allCounters, fixedCount, allFixed, letterOf, boxCount, boxOf, devices, named, deviceOf, packetsOn, offcoreOn, pairsJudged, usableSet, opens, rowsWhere, openingRows, onDevice, openingTable, setupOn, openedOn, openedBy, openedSetup, setupOf, openingOf}
+use Rattle.requests.specs.EventRules.{ruleOnB, hasRules, ruleOf, ruleFor, wantsQuiet}
 use Rattle.requests.specs.MaskRules.{allows}
 use Rattle.requests.specs.Refusals.{numberOf, answerFor, answerNumber}
 use Rattle.plans.specs.Legal.{wordsOf, packetsOf, ofAll, counters}
+use Rattle.plans.specs.Narrowed.{onlyCounter, allowedBy, narrowed, anyLone, quietKept}
 use Rattle.plans.specs.Places.{countedOf, countersOf, first, second}
 use Rattle.plans.specs.Search.{takeCounter, takeWord, takePacket, placeOf, admit, width, firstFrom, putFirst, thenRest, tryNumber, planIn, firstPlan, hasPlan}
-use Rattle.layouts.specs.Layout.{tabulate, cboxGlobals, cboxGlobal, layoutOf, rsp0At, rsp1At, mmCfgAt, matchAt, maskAt, uboxAt, mmEnable, frzAll, enAll, coreSel, enabledOn, pmiEnable, enabled, eventWord, offcoreCode, rspMask, rspWord, packetWord}
+use Rattle.layouts.specs.Layout.{tabulate, cboxGlobals, cboxGlobal, layoutOf, rsp0At, rsp1At, mmCfgAt, matchAt, maskAt, uboxAt, pebsAt, pebsOn, mmEnable, frzAll, enAll, coreSel, preciseStore, enabledOn, pmiEnable, enabled, eventWord, codeOf, maskOf, isEvent, offcoreCode, rspMask, rspWord, packetWord}
 use Rattle.layouts.specs.Settings.{usesOf, wordAt, setFrom, settingsOf}
-use Rattle.layouts.specs.Writes.{rows, zeros, unusable, fixedAt, fixedEnables, firstGlobal, lastGlobal, offcoreWrites, packetWrites, filterWrites, coreBit, uboxValue, boxWrites, writesFor, writes, flat, filled}
+use Rattle.layouts.specs.Writes.{rows, zeros, unusable, fixedAt, fixedEnables, firstGlobal, lastGlobal, offcoreWrites, packetWrites, filterWrites, pebsEnable, preciseWrites, coreBit, uboxValue, boxWrites, writesFor, writes, flat, filled}
 use Rattle.sessions.specs.Calls.{waits}
 use Rattle.sessions.specs.Choose.{takenAfter, passedAfter}
 use Rattle.sessions.specs.Completed.{turnsIf, singleTurns, turnsBy, turnsOf}
@@ -30,17 +32,17 @@ use Rattle.sessions.specs.Turns.{requestsOf, fits, taken, passed, turned
 use Rattle.sessions.specs.TurnsRuns.{listAfter, endsAfter, times, shifts, Shift, TurnsRuns}
 
 pub runs-hold : Runs
-unfolding flatMap overflowOn coreCount unasked coreGiven asks asked overflowNotOn coreFits overflowFits bit inList anyBit onlyBits typeBits anyResponse answerBits outstanding rsp1Bits rsp0Bits rising field matchBits maskBits latencyWord sinkMasks ringMasks starvedMasks bypassMasks cboxEvents eventsOf codeIn pairIn maskNotListed kindNotOn notListed tooWide outOfRange incomplete conflicting requestRows both either every firstHolding has capacity counterCount allCounters fixedCount allFixed letterOf boxCount devices named deviceOf packetsOn offcoreOn pairsJudged usableSet opens rowsWhere openingRows onDevice openingTable setupOn openedOn openedBy openedSetup setupOf allows numberOf answerFor answerNumber wordsOf packetsOf ofAll counters countedOf countersOf first second takeCounter takeWord takePacket placeOf admit width firstFrom putFirst thenRest tryNumber planIn firstPlan hasPlan tabulate cboxGlobals cboxGlobal layoutOf rsp0At rsp1At mmCfgAt matchAt maskAt uboxAt mmEnable frzAll enAll coreSel enabledOn pmiEnable enabled eventWord offcoreCode rspMask rspWord packetWord usesOf wordAt setFrom settingsOf rows zeros unusable fixedAt fixedEnables firstGlobal lastGlobal offcoreWrites packetWrites filterWrites coreBit uboxValue boxWrites writesFor writes waits takenAfter passedAfter turnsIf singleTurns turnsBy turnsOf removed onQueue change step numbersOf outcomeOf upTo runs queueLimit vacant queued padded sessionOf newSession plainOf refusedBy answered openOf addOf dropOf unassigned turnAnswer turnOf planOf turnedSession turnsAnswer answerTo nextSession sessionAfter outsideIds addRows dropRows turnRows turnsLimit turnsRows beforeOpen onceOpen table refusal requestsOf fits taken passed turned placesOf assign writesOf turnedTimes listsOf joined
+unfolding flatMap overflowOn coreCount unasked coreGiven asks asked overflowNotOn coreFits overflowFits bit inList anyBit onlyBits typeBits anyResponse answerBits outstanding rsp1Bits rsp0Bits rising field matchBits maskBits latencyWord sinkMasks ringMasks starvedMasks bypassMasks cboxEvents architecturalEvents preciseEvents eventsOf codeIn pairIn maskNotListed kindNotOn notListed tooWide outOfRange incomplete conflicting requestRows both either every firstHolding has capacity counterCount allCounters fixedCount allFixed letterOf boxCount devices named deviceOf packetsOn offcoreOn pairsJudged usableSet opens rowsWhere openingRows onDevice openingTable setupOn openedOn openedBy openedSetup setupOf ruleOnB hasRules ruleOf ruleFor wantsQuiet allows numberOf answerFor answerNumber wordsOf packetsOf ofAll counters onlyCounter allowedBy narrowed anyLone quietKept countedOf countersOf first second takeCounter takeWord takePacket placeOf admit width firstFrom putFirst thenRest tryNumber planIn firstPlan hasPlan tabulate cboxGlobals cboxGlobal layoutOf rsp0At rsp1At mmCfgAt matchAt maskAt uboxAt pebsAt pebsOn mmEnable frzAll enAll coreSel preciseStore enabledOn pmiEnable enabled eventWord codeOf maskOf isEvent offcoreCode rspMask rspWord packetWord usesOf wordAt setFrom settingsOf rows zeros unusable fixedAt fixedEnables firstGlobal lastGlobal offcoreWrites packetWrites filterWrites pebsEnable preciseWrites coreBit uboxValue boxWrites writesFor writes waits takenAfter passedAfter turnsIf singleTurns turnsBy turnsOf removed onQueue change step numbersOf outcomeOf upTo runs queueLimit vacant queued padded sessionOf newSession plainOf refusedBy answered openOf addOf dropOf unassigned turnAnswer turnOf planOf turnedSession turnsAnswer answerTo nextSession sessionAfter outsideIds addRows dropRows turnRows turnsLimit turnsRows beforeOpen onceOpen table refusal requestsOf fits taken passed turned placesOf assign writesOf turnedTimes listsOf joined
 runs-hold = refl
 
 -- ---- order 6
 
 lists : map listAfter shifts ≡ map (λ (x : Shift). x .list) shifts
-unfolding flatMap overflowOn coreCount unasked coreGiven asks asked overflowNotOn coreFits overflowFits bit inList anyBit onlyBits typeBits anyResponse answerBits outstanding rsp1Bits rsp0Bits rising field matchBits maskBits latencyWord sinkMasks ringMasks starvedMasks bypassMasks cboxEvents eventsOf codeIn pairIn maskNotListed kindNotOn notListed tooWide outOfRange incomplete conflicting requestRows both either every firstHolding has capacity counterCount allCounters fixedCount allFixed letterOf boxCount devices named deviceOf packetsOn offcoreOn pairsJudged usableSet opens rowsWhere openingRows onDevice openingTable setupOn openedOn openedBy openedSetup setupOf allows answerFor wordsOf packetsOf ofAll counters countedOf countersOf first second takeCounter takeWord takePacket placeOf admit width firstFrom putFirst thenRest tryNumber planIn firstPlan hasPlan tabulate cboxGlobals cboxGlobal layoutOf rsp0At rsp1At mmCfgAt matchAt maskAt uboxAt mmEnable frzAll enAll coreSel enabledOn pmiEnable enabled eventWord offcoreCode rspMask rspWord packetWord usesOf wordAt setFrom settingsOf rows zeros unusable fixedAt fixedEnables firstGlobal lastGlobal offcoreWrites packetWrites filterWrites coreBit uboxValue boxWrites writesFor writes flat filled waits takenAfter passedAfter removed upTo queueLimit vacant queued padded sessionOf newSession plainOf refusedBy answered openOf addOf dropOf unassigned turnAnswer turnOf turnedSession turnsAnswer turnsSlice nextSession sessionAfter outsideIds addRows dropRows turnRows turnsLimit turnsRows beforeOpen onceOpen table refusal requestsOf fits taken passed turned placesOf assign writesOf listsOf joined listAfter times shifts
+unfolding flatMap overflowOn coreCount unasked coreGiven asks asked overflowNotOn coreFits overflowFits bit inList anyBit onlyBits typeBits anyResponse answerBits outstanding rsp1Bits rsp0Bits rising field matchBits maskBits latencyWord sinkMasks ringMasks starvedMasks bypassMasks cboxEvents architecturalEvents preciseEvents eventsOf codeIn pairIn maskNotListed kindNotOn notListed tooWide outOfRange incomplete conflicting requestRows both either every firstHolding has capacity counterCount allCounters fixedCount allFixed letterOf boxCount devices named deviceOf packetsOn offcoreOn pairsJudged usableSet opens rowsWhere openingRows onDevice openingTable setupOn openedOn openedBy openedSetup setupOf ruleOnB hasRules ruleOf ruleFor wantsQuiet allows answerFor wordsOf packetsOf ofAll counters onlyCounter allowedBy narrowed anyLone quietKept countedOf countersOf first second takeCounter takeWord takePacket placeOf admit width firstFrom putFirst thenRest tryNumber planIn firstPlan hasPlan tabulate cboxGlobals cboxGlobal layoutOf rsp0At rsp1At mmCfgAt matchAt maskAt uboxAt pebsAt pebsOn mmEnable frzAll enAll coreSel preciseStore enabledOn pmiEnable enabled eventWord codeOf maskOf isEvent offcoreCode rspMask rspWord packetWord usesOf wordAt setFrom settingsOf rows zeros unusable fixedAt fixedEnables firstGlobal lastGlobal offcoreWrites packetWrites filterWrites pebsEnable preciseWrites coreBit uboxValue boxWrites writesFor writes flat filled waits takenAfter passedAfter removed upTo queueLimit vacant queued padded sessionOf newSession plainOf refusedBy answered openOf addOf dropOf unassigned turnAnswer turnOf turnedSession turnsAnswer turnsSlice nextSession sessionAfter outsideIds addRows dropRows turnRows turnsLimit turnsRows beforeOpen onceOpen table refusal requestsOf fits taken passed turned placesOf assign writesOf listsOf joined listAfter times shifts
 lists = refl
 
 ends : map endsAfter shifts ≡ map (λ (x : Shift). x .ends) shifts
-unfolding flatMap overflowOn coreCount unasked coreGiven asks asked overflowNotOn coreFits overflowFits bit inList anyBit onlyBits typeBits anyResponse answerBits outstanding rsp1Bits rsp0Bits rising field matchBits maskBits latencyWord sinkMasks ringMasks starvedMasks bypassMasks cboxEvents eventsOf codeIn pairIn maskNotListed kindNotOn notListed tooWide outOfRange incomplete conflicting requestRows both either every firstHolding has capacity counterCount allCounters fixedCount allFixed letterOf boxCount devices named deviceOf packetsOn offcoreOn pairsJudged usableSet opens rowsWhere openingRows onDevice openingTable setupOn openedOn openedBy openedSetup setupOf allows answerFor wordsOf packetsOf ofAll counters countedOf countersOf first second takeCounter takeWord takePacket placeOf admit width firstFrom putFirst thenRest tryNumber planIn firstPlan hasPlan tabulate cboxGlobals cboxGlobal layoutOf rsp0At rsp1At mmCfgAt matchAt maskAt uboxAt mmEnable frzAll enAll coreSel enabledOn pmiEnable enabled eventWord offcoreCode rspMask rspWord packetWord usesOf wordAt setFrom settingsOf rows zeros unusable fixedAt fixedEnables firstGlobal lastGlobal offcoreWrites packetWrites filterWrites coreBit uboxValue boxWrites writesFor writes waits takenAfter passedAfter removed upTo queueLimit vacant queued padded sessionOf newSession plainOf refusedBy answered openOf addOf dropOf unassigned turnAnswer turnOf turnedSession turnsAnswer turnsEnds nextSession sessionAfter outsideIds addRows dropRows turnRows turnsLimit turnsRows beforeOpen onceOpen table refusal requestsOf fits taken passed turned placesOf assign writesOf listsOf joined endsFrom endsAfter times shifts
+unfolding flatMap overflowOn coreCount unasked coreGiven asks asked overflowNotOn coreFits overflowFits bit inList anyBit onlyBits typeBits anyResponse answerBits outstanding rsp1Bits rsp0Bits rising field matchBits maskBits latencyWord sinkMasks ringMasks starvedMasks bypassMasks cboxEvents architecturalEvents preciseEvents eventsOf codeIn pairIn maskNotListed kindNotOn notListed tooWide outOfRange incomplete conflicting requestRows both either every firstHolding has capacity counterCount allCounters fixedCount allFixed letterOf boxCount devices named deviceOf packetsOn offcoreOn pairsJudged usableSet opens rowsWhere openingRows onDevice openingTable setupOn openedOn openedBy openedSetup setupOf ruleOnB hasRules ruleOf ruleFor wantsQuiet allows answerFor wordsOf packetsOf ofAll counters onlyCounter allowedBy narrowed anyLone quietKept countedOf countersOf first second takeCounter takeWord takePacket placeOf admit width firstFrom putFirst thenRest tryNumber planIn firstPlan hasPlan tabulate cboxGlobals cboxGlobal layoutOf rsp0At rsp1At mmCfgAt matchAt maskAt uboxAt pebsAt pebsOn mmEnable frzAll enAll coreSel preciseStore enabledOn pmiEnable enabled eventWord codeOf maskOf isEvent offcoreCode rspMask rspWord packetWord usesOf wordAt setFrom settingsOf rows zeros unusable fixedAt fixedEnables firstGlobal lastGlobal offcoreWrites packetWrites filterWrites pebsEnable preciseWrites coreBit uboxValue boxWrites writesFor writes waits takenAfter passedAfter removed upTo queueLimit vacant queued padded sessionOf newSession plainOf refusedBy answered openOf addOf dropOf unassigned turnAnswer turnOf turnedSession turnsAnswer turnsEnds nextSession sessionAfter outsideIds addRows dropRows turnRows turnsLimit turnsRows beforeOpen onceOpen table refusal requestsOf fits taken passed turned placesOf assign writesOf listsOf joined endsFrom endsAfter times shifts
 ends = refl
 
 pub turns-hold : TurnsRuns
@@ -49,7 +51,7 @@ turns-hold = record { lists = lists; ends = ends }
 -- ---- order 14
 
 pub tight-turns : map turnOfMine tight ≡ map (λ (w : Waits). w .turn) tight
-unfolding flatMap overflowOn coreCount unasked coreGiven asks asked overflowNotOn coreFits overflowFits bit inList anyBit onlyBits typeBits anyResponse answerBits outstanding rsp1Bits rsp0Bits rising field matchBits maskBits latencyWord sinkMasks ringMasks starvedMasks bypassMasks cboxEvents eventsOf codeIn pairIn maskNotListed kindNotOn notListed tooWide outOfRange incomplete conflicting requestRows both either every firstHolding has capacity counterCount allCounters fixedCount allFixed letterOf boxCount boxOf devices named deviceOf packetsOn offcoreOn pairsJudged usableSet opens rowsWhere openingRows onDevice openingTable setupOn openedOn openedBy openedSetup setupOf openingOf allows answerFor wordsOf packetsOf ofAll counters countedOf countersOf first second takeCounter takeWord takePacket placeOf admit width firstFrom putFirst thenRest tryNumber planIn firstPlan hasPlan tabulate cboxGlobals cboxGlobal layoutOf rsp0At rsp1At mmCfgAt matchAt maskAt uboxAt mmEnable frzAll enAll coreSel enabledOn pmiEnable enabled eventWord offcoreCode rspMask rspWord packetWord usesOf wordAt setFrom settingsOf rows zeros unusable fixedAt fixedEnables firstGlobal lastGlobal offcoreWrites packetWrites filterWrites coreBit uboxValue boxWrites writesFor writes waits takenAfter passedAfter turnsIf singleTurns turnsBy turnsOf removed onQueue change step upTo queueLimit vacant queued padded sessionOf newSession plainOf refusedBy answered openOf addOf dropOf unassigned turnAnswer turnOf planOf turnedSession turnsAnswer answerTo nextSession entriesFrom callsOf gives firstWith turnOfMine tight outsideIds addRows dropRows turnRows turnsLimit turnsRows beforeOpen onceOpen table refusal requestsOf fits taken passed turned placesOf assign writesOf turnedTimes listsOf joined
+unfolding flatMap overflowOn coreCount unasked coreGiven asks asked overflowNotOn coreFits overflowFits bit inList anyBit onlyBits typeBits anyResponse answerBits outstanding rsp1Bits rsp0Bits rising field matchBits maskBits latencyWord sinkMasks ringMasks starvedMasks bypassMasks cboxEvents architecturalEvents preciseEvents eventsOf codeIn pairIn maskNotListed kindNotOn notListed tooWide outOfRange incomplete conflicting requestRows both either every firstHolding has capacity counterCount allCounters fixedCount allFixed letterOf boxCount boxOf devices named deviceOf packetsOn offcoreOn pairsJudged usableSet opens rowsWhere openingRows onDevice openingTable setupOn openedOn openedBy openedSetup setupOf openingOf ruleOnB hasRules ruleOf ruleFor wantsQuiet allows answerFor wordsOf packetsOf ofAll counters onlyCounter allowedBy narrowed anyLone quietKept countedOf countersOf first second takeCounter takeWord takePacket placeOf admit width firstFrom putFirst thenRest tryNumber planIn firstPlan hasPlan tabulate cboxGlobals cboxGlobal layoutOf rsp0At rsp1At mmCfgAt matchAt maskAt uboxAt pebsAt pebsOn mmEnable frzAll enAll coreSel preciseStore enabledOn pmiEnable enabled eventWord codeOf maskOf isEvent offcoreCode rspMask rspWord packetWord usesOf wordAt setFrom settingsOf rows zeros unusable fixedAt fixedEnables firstGlobal lastGlobal offcoreWrites packetWrites filterWrites pebsEnable preciseWrites coreBit uboxValue boxWrites writesFor writes waits takenAfter passedAfter turnsIf singleTurns turnsBy turnsOf removed onQueue change step upTo queueLimit vacant queued padded sessionOf newSession plainOf refusedBy answered openOf addOf dropOf unassigned turnAnswer turnOf planOf turnedSession turnsAnswer answerTo nextSession entriesFrom callsOf gives firstWith turnOfMine tight outsideIds addRows dropRows turnRows turnsLimit turnsRows beforeOpen onceOpen table refusal requestsOf fits taken passed turned placesOf assign writesOf turnedTimes listsOf joined
 tight-turns = refl
 
 pub tight-bounds : map shorterBound tight ≡ map (λ (w : Waits). w .turn) tight
@@ -57,9 +59,9 @@ unfolding unasked bit has size counterCount rounds entriesFrom aheadOf shorterBo
 tight-bounds = refl
 
 pub outside-turns : map turnOfMine outside ≡ map (λ (w : Waits). w .turn) outside
-unfolding flatMap overflowOn coreCount unasked coreGiven asks asked overflowNotOn coreFits overflowFits bit inList anyBit onlyBits typeBits anyResponse answerBits outstanding rsp1Bits rsp0Bits rising field matchBits maskBits latencyWord sinkMasks ringMasks starvedMasks bypassMasks cboxEvents eventsOf codeIn pairIn maskNotListed kindNotOn notListed tooWide outOfRange incomplete conflicting requestRows both either every firstHolding has capacity counterCount allCounters fixedCount allFixed letterOf boxCount boxOf devices named deviceOf packetsOn offcoreOn pairsJudged usableSet opens rowsWhere openingRows onDevice openingTable setupOn openedOn openedBy openedSetup setupOf openingOf allows answerFor wordsOf packetsOf ofAll counters countedOf countersOf first second takeCounter takeWord takePacket placeOf admit width firstFrom putFirst thenRest tryNumber planIn firstPlan hasPlan tabulate cboxGlobals cboxGlobal layoutOf rsp0At rsp1At mmCfgAt matchAt maskAt uboxAt mmEnable frzAll enAll coreSel enabledOn pmiEnable enabled eventWord offcoreCode rspMask rspWord packetWord usesOf wordAt setFrom settingsOf rows zeros unusable fixedAt fixedEnables firstGlobal lastGlobal offcoreWrites packetWrites filterWrites coreBit uboxValue boxWrites writesFor writes waits takenAfter passedAfter turnsIf singleTurns turnsBy turnsOf removed onQueue change step upTo queueLimit vacant queued padded sessionOf newSession plainOf refusedBy answered openOf addOf dropOf unassigned turnAnswer turnOf planOf turnedSession turnsAnswer answerTo nextSession entriesFrom callsOf gives firstWith turnOfMine outside outsideIds addRows dropRows turnRows turnsLimit turnsRows beforeOpen onceOpen table refusal requestsOf fits taken passed turned placesOf assign writesOf turnedTimes listsOf joined
+unfolding flatMap overflowOn coreCount unasked coreGiven asks asked overflowNotOn coreFits overflowFits bit inList anyBit onlyBits typeBits anyResponse answerBits outstanding rsp1Bits rsp0Bits rising field matchBits maskBits latencyWord sinkMasks ringMasks starvedMasks bypassMasks cboxEvents architecturalEvents preciseEvents eventsOf codeIn pairIn maskNotListed kindNotOn notListed tooWide outOfRange incomplete conflicting requestRows both either every firstHolding has capacity counterCount allCounters fixedCount allFixed letterOf boxCount boxOf devices named deviceOf packetsOn offcoreOn pairsJudged usableSet opens rowsWhere openingRows onDevice openingTable setupOn openedOn openedBy openedSetup setupOf openingOf ruleOnB hasRules ruleOf ruleFor wantsQuiet allows answerFor wordsOf packetsOf ofAll counters onlyCounter allowedBy narrowed anyLone quietKept countedOf countersOf first second takeCounter takeWord takePacket placeOf admit width firstFrom putFirst thenRest tryNumber planIn firstPlan hasPlan tabulate cboxGlobals cboxGlobal layoutOf rsp0At rsp1At mmCfgAt matchAt maskAt uboxAt pebsAt pebsOn mmEnable frzAll enAll coreSel preciseStore enabledOn pmiEnable enabled eventWord codeOf maskOf isEvent offcoreCode rspMask rspWord packetWord usesOf wordAt setFrom settingsOf rows zeros unusable fixedAt fixedEnables firstGlobal lastGlobal offcoreWrites packetWrites filterWrites pebsEnable preciseWrites coreBit uboxValue boxWrites writesFor writes waits takenAfter passedAfter turnsIf singleTurns turnsBy turnsOf removed onQueue change step upTo queueLimit vacant queued padded sessionOf newSession plainOf refusedBy answered openOf addOf dropOf unassigned turnAnswer turnOf planOf turnedSession turnsAnswer answerTo nextSession entriesFrom callsOf gives firstWith turnOfMine outside outsideIds addRows dropRows turnRows turnsLimit turnsRows beforeOpen onceOpen table refusal requestsOf fits taken passed turned placesOf assign writesOf turnedTimes listsOf joined
 outside-turns = refl
 
-pub outside-bounds : map shorterBound outside ≡ 1 ∷ 2 ∷ []
+pub outside-bounds : map shorterBound outside ≡ 1 ∷ 2 ∷ 1 ∷ 1 ∷ []
 unfolding unasked bit has size counterCount rounds entriesFrom aheadOf shorterBound outside
 outside-bounds = refl

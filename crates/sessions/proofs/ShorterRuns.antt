@@ -1,8 +1,8 @@
 -- Of which queues of the tables the shorter promise speaks; in which turn mine comes, by computation. Assumes nothing.
 --     free-event, waiting-free    an allowed set that has every usable counter makes an event free, and a queue of such events
-use mathlib.Core.Path.{_≡_, refl}
+use mathlib.Core.Path.{_≡_, refl, sym, _∙_}
 use mathlib.Core.List.{List, _∷_}
-use mathlib.Core.Bool.{Bool, true, not, false≢true}
+use mathlib.Core.Bool.{Bool, true, false, not, true≢false, false≢true}
 use Prim.Native.Nat.{ℕ, zero, suc, _<_}
 use native.Mathlib.Omega.{arith}
 use lib.ListN.{replicate}
@@ -57,7 +57,10 @@ claimed =
 pub shorter-tight : Tight
 shorter-tight = record { claimed = claimed; turns = tight-turns; bounds = tight-bounds }
 
--- nothing is claimed where mine needs two counters, or where one ahead is not free
+-- nothing is claimed on B, where mine needs two counters, or where one ahead is not free
+elsewhere : (s : Setup) (ahead : List Entry) (e : Entry) → shorterOn (s .device) ≡ false → ¬ FreeAhead s ahead e
+elsewhere s ahead e off c = true≢false (sym (c .device) ∙ off)
+
 two-counters : (s : Setup) (ahead : List Entry) (e : Entry) → countersNeeded (e .request) ≡ 2 → ¬ FreeAhead s ahead e
 two-counters s ahead e two c = omega (arith, c .one)
 
@@ -73,11 +76,13 @@ unfolding has bit
 pinned s c m u (event f) = false≢true (f 1 u)
 
 unclaimed : All (λ (w : Waits). ¬ Claimed w) outside
-unfolding outside aheadOf entriesFrom countersNeeded has bit counterCount
+unfolding outside aheadOf entriesFrom shorterOn countersNeeded has bit counterCount
 unclaimed =
     let below : 1 < 4 = omega arith in
     cons (two-counters _ _ _ refl)
-    (cons (one-ahead _ _ _ _ (pinned _ _ _ (below, refl))) nil)
+    (cons (one-ahead _ _ _ _ (pinned _ _ _ (below, refl)))
+    (cons (elsewhere _ _ _ refl)
+    (cons (elsewhere _ _ _ refl) nil)))
 
 pub shorter-outside : Outside
 shorter-outside = record { unclaimed = unclaimed; turns = outside-turns; bounds = outside-bounds }

@@ -12,9 +12,11 @@ use lib.ListN.{length, length-map}
 use Rattle.requests.specs.declared.Setup.{Setup}
 use Rattle.requests.specs.declared.Request.{Request}
 use Rattle.requests.specs.declared.Entry.{Entry}
+use Rattle.requests.specs.Choice.{either}
 use Rattle.requests.specs.Devices.{capacity}
 use Rattle.plans.specs.declared.Place.{Place}
 use Rattle.plans.specs.Order.{First}
+use Rattle.plans.specs.Narrowed.{anyLone, quietKept}
 use Rattle.plans.specs.Search.{planIn, firstPlan, hasPlan}
 use Rattle.plans.proofs.FirstFound.{first-plan}
 use Rattle.plans.proofs.PartsHold.{parts}
@@ -36,7 +38,7 @@ kept-fits test done (e ∷ q) h = go (test (done ++ e ∷ [])) refl (λ d. kept-
     go false k below = ap (λ (l : List Entry). test (done ++ l)) (taken-no test done e q k) ∙ below done h
 
 none-fits : (s : Setup) → fits s [] ≡ true
-unfolding fits hasPlan firstPlan planIn requestsOf
+unfolding fits hasPlan firstPlan quietKept anyLone either planIn requestsOf
 none-fits s = refl
 
 -- the places of the plan that is found

@@ -5,7 +5,7 @@ use mathlib.Core.Bool.{Bool, true, false}
 use Prim.Native.Nat.{ℕ, _/_}
 use lib.ListN.{length}
 use Rattle.requests.specs.declared.Device.{Device}
-use Rattle.requests.specs.declared.Device.the-variants.{G, S, C}
+use Rattle.requests.specs.declared.Device.the-variants.{G, S, C, B}
 use Rattle.requests.specs.declared.Setup.{Setup}
 use Rattle.requests.specs.declared.Request.{Request}
 use Rattle.requests.specs.declared.Request.the-variants.{Event, Packet, Offcore, Latency}
@@ -23,11 +23,12 @@ use Rattle.sessions.specs.Completed.{Machine, smallSession, stateAfter}
 use Rattle.sessions.specs.Demand3.{Promise}
 use Rattle.sessions.specs.declared.Session.{Session}
 
--- "It is to hold on G, S and C"
+-- "It is to hold on G, S and C .. B keeps the old promise."
 unfoldable pub shorterOn : Device → Bool
 shorterOn G = true
 shorterOn S = true
 shorterOn (C b) = true
+shorterOn B = false
 
 -- how many counters a request needs
 unfoldable pub countersNeeded : Request → ℕ

@@ -6,7 +6,7 @@ use Prim.Native.Nat.{ℕ, suc}
 use lib.Dec.{eqb}
 use lib.ListN.{length, drop, replicate}
 use Rattle.requests.specs.declared.Device.{Device}
-use Rattle.requests.specs.declared.Device.the-variants.{G, S, C}
+use Rattle.requests.specs.declared.Device.the-variants.{G, S, C, B}
 use Rattle.requests.specs.declared.CounterSet.{CounterSet}
 use Rattle.requests.specs.declared.Setup.{Setup}
 use Rattle.requests.specs.declared.Request.{Request}
@@ -86,7 +86,7 @@ with d usable = record { device = d; usable = set usable; fixed = 0; overflow = 
 abbrev on : Device → ℕ → List Request → Request → ℕ → Waits
 on d usable ahead mine turn = record { setup = with d usable; ahead = ahead; mine = mine; dropped = 0; after = replicate turn (Turn 44); turn = turn }
 
--- an instruction count with an allowed set, on G
+-- an instruction count with an allowed set, on G and B
 abbrev instructions : ℕ → Request
 instructions allowed = Event 0xC0 0x00 (set allowed)
 
@@ -115,14 +115,17 @@ pub record Tight : Type 0 where
   pub turns : map turnOfMine tight ≡ map (λ (w : Waits). w .turn) tight
   pub bounds : map shorterBound tight ≡ map (λ (w : Waits). w .turn) tight
 
--- nothing is claimed where mine needs two counters, or where one ahead does not allow all usable ones: mine comes later than p÷u + 1
+-- nothing is claimed where mine needs two counters, where one ahead does not allow all usable ones, or on B, where mine or one ahead may want every
+-- other counter quiet: mine comes later than p÷u + 1
 unfoldable pub outside : List Waits
 outside =
     on G 3 (instructions 15 ∷ []) (Latency 0x0001 (set 3) (set 3)) 2
     ∷ on G 15 (replicate 4 (instructions 1)) (instructions 1) 5
+    ∷ on B 15 (replicate 3 (instructions 15)) (Event 0xC0 0x01 (set 15)) 2
+    ∷ on B 15 (Event 0xC0 0x01 (set 15) ∷ []) (instructions 15) 2
     ∷ []
 
 pub record Outside : Type 0 where
   pub unclaimed : All (λ (w : Waits). ¬ Claimed w) outside
   pub turns : map turnOfMine outside ≡ map (λ (w : Waits). w .turn) outside
-  pub bounds : map shorterBound outside ≡ 1 ∷ 2 ∷ []
+  pub bounds : map shorterBound outside ≡ 1 ∷ 2 ∷ 1 ∷ 1 ∷ []
