@@ -1,25 +1,23 @@
 -- Order 14: the shorter promise. Assumes nothing.
---     unruled                 where it is promised no event has a rule
 --     counters-needed         a place has as many counters as its request needs
 --     room-behind             an entry that needs one counter fits behind fewer free events than counters are usable
 --     by-rounds               so p÷u ranks it: a turn takes it, or u of the events ahead of it
 --     shorter-promises        so any faithful machine keeps the promise, whatever the queue's limit
 --     shorter-promise-from    the session does, from any sound open state
 --     shorter-promise         and from a session not yet opened
-use mathlib.Core.Path.{_≡_, refl, ap, sym, _∙_}
-use mathlib.Core.Logic.{_⊎_, inl, inr}
+use mathlib.Core.Path.{_≡_, refl}
+use mathlib.Core.Logic.{_≢_, _⊎_, inl, inr}
 use mathlib.Core.List.{List, [], _∷_, _++_, flatMap, map-append, append-nil, List·Memᴰ}
-use mathlib.Core.Bool.{true, true≢false}
+use mathlib.Core.Bool.{true}
 use Prim.Native.Nat.{ℕ, zero, suc, _+_, _/_, _≤_, _<_}
 use native.Mathlib.Omega.{arith}
 use native.Mathlib.Decide.{decLt}
 use native.Mathlib.Nat.{div-zero, div-mul-le-self, le-div-iff-mul-le, suc-mul}
 use lib.ListN.{length}
-use Rattle.requests.specs.declared.Device.{Device}
+use Rattle.requests.specs.declared.Device.the-variants.{B}
 use Rattle.requests.specs.declared.Setup.{Setup}
 use Rattle.requests.specs.declared.Request.{Request}
 use Rattle.requests.specs.declared.Entry.{Entry}
-use Rattle.requests.specs.RuledEvents.{Unruled}
 use Rattle.requests.proofs.RuledEvents.{ruled-events}
 use Rattle.plans.specs.declared.Place.{Place}
 use Rattle.plans.specs.Lists.{All, cons, Each, none, and}
@@ -36,7 +34,7 @@ use Rattle.sessions.specs.Plain.{removed}
 use Rattle.sessions.specs.Sessions.{queueLimit}
 use Rattle.sessions.specs.Sound.{Sound}
 use Rattle.sessions.specs.Completed.{Machine, smallSession}
-use Rattle.sessions.specs.ShorterPromise.{shorterOn, countersNeeded, CountersNeeded, rounds, FreeAhead, ShorterPromises, ShorterPromise, ShorterPromiseFrom}
+use Rattle.sessions.specs.ShorterPromise.{countersNeeded, CountersNeeded, rounds, FreeAhead, ShorterPromises, ShorterPromise, ShorterPromiseFrom}
 use Rattle.sessions.proofs.Lists.{all-right, all-map}
 use Rattle.sessions.proofs.Rearranged.{all-turned}
 use Rattle.sessions.proofs.Removed.{all-removed, length-removed}
@@ -60,12 +58,6 @@ quotient-monotone m n (suc u) le = le-div-iff-mul-le {k = suc u} {x = m / suc u}
 quotient-less : (m n u : ℕ) → 0 < u → m + u ≤ n → suc (m / u) ≤ n / u
 quotient-less m n u pos le = le-div-iff-mul-le {x = suc (m / u)} pos .1 (omega (arith, div-mul-le-self m u, suc-mul (m / u) u))
 
--- ---- the device
-
-unruled : (d : Device) → shorterOn d ≡ true → Unruled d
-unfolding shorterOn
-unruled d on = ruled-events .elsewhere d (λ is. true≢false (sym on ∙ ap shorterOn is))
-
 -- ---- one counter
 
 pub counters-needed : CountersNeeded
@@ -86,12 +78,12 @@ module _ (s : Setup) (e : Entry) where
     some-usable =
         omega (arith, one, alone-counters (e .request) (alone .0) (alone .1 .allowed), plan-length .counters-at-most s (e .request ∷ []) (alone .0) (alone .1))
 
-    room-behind : shorterOn (s .device) ≡ true → (es : List Entry) → All (λ (x : Entry). Free s (x .request)) es → length es < usableCount s → fits s (es ++ e ∷ []) ≡ true
+    room-behind : s .device ≢ B → (es : List Entry) → All (λ (x : Entry). Free s (x .request)) es → length es < usableCount s → fits s (es ++ e ∷ []) ≡ true
     unfolding fits requestsOf
     room-behind device es free few =
         plan-test .planned s (requestsOf (es ++ e ∷ []))
         (rw (map-append (λ (x : Entry). x .request) es (e ∷ []))
-        (parts .room s (requestsOf es) (e .request ∷ []) (alone .0) (unruled (s .device) device) (all-map (λ (x : Entry). x .request) free) (alone .1)
+        (parts .room s (requestsOf es) (e .request ∷ []) (alone .0) (ruled-events .elsewhere (s .device) device) (all-map (λ (x : Entry). x .request) free) (alone .1)
         (omega (arith, one, few, requests-length es, alone-counters (e .request) (alone .0) (alone .1 .allowed)))))
 
   -- ---- the rank

@@ -1,11 +1,11 @@
 -- Order 14: "demand 3's claim, over its lists and histories and read off the same plain queue, with p÷u + 1 for its p+1".
 use mathlib.Core.Path.{_≡_}
+use mathlib.Core.Logic.{_≢_}
 use mathlib.Core.List.{List, _∷_, _++_}
-use mathlib.Core.Bool.{Bool, true, false}
+use mathlib.Core.Bool.{false}
 use Prim.Native.Nat.{ℕ, _/_}
 use lib.ListN.{length}
-use Rattle.requests.specs.declared.Device.{Device}
-use Rattle.requests.specs.declared.Device.the-variants.{G, S, C, B}
+use Rattle.requests.specs.declared.Device.the-variants.{B}
 use Rattle.requests.specs.declared.Setup.{Setup}
 use Rattle.requests.specs.declared.Request.{Request}
 use Rattle.requests.specs.declared.Request.the-variants.{Event, Packet, Offcore, Latency}
@@ -22,13 +22,6 @@ use Rattle.sessions.specs.Sound.{Sound}
 use Rattle.sessions.specs.Completed.{Machine, smallSession, stateAfter}
 use Rattle.sessions.specs.Demand3.{Promise}
 use Rattle.sessions.specs.declared.Session.{Session}
-
--- "It is to hold on G, S and C .. B keeps the old promise."
-unfoldable pub shorterOn : Device → Bool
-shorterOn G = true
-shorterOn S = true
-shorterOn (C b) = true
-shorterOn B = false
 
 -- how many counters a request needs
 unfoldable pub countersNeeded : Request → ℕ
@@ -47,7 +40,8 @@ rounds s ahead = length ahead / usableCount s
 
 -- "every request ahead of mine is a plain event that allows all u usable counters", and may allow more, "and mine needs one counter"
 pub record FreeAhead (s : Setup) (ahead : List Entry) (e : Entry) : Type 0 where
-  pub device : shorterOn (s .device) ≡ true
+  -- "It is to hold on G, S and C .. B keeps the old promise."
+  pub device : s .device ≢ B
   pub free : All (λ (x : Entry). Free s (x .request)) ahead
   pub one : countersNeeded (e .request) ≡ 1
 
