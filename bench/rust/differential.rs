@@ -11,12 +11,14 @@ mod expected;
 mod fault_tally;
 mod grammar;
 mod kinds;
+mod line_promises;
 mod named_kinds;
 mod named_tally;
 mod names;
 mod numbers;
 mod pieces;
 mod planner;
+mod promises;
 mod tally;
 mod transcript;
 

@@ -12,6 +12,7 @@ mod grammar;
 mod names;
 mod numbers;
 mod planner;
+mod promises;
 mod random_script;
 mod script;
 mod script_tally;

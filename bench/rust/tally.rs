@@ -1,10 +1,11 @@
 //! How often each answer was given to each verb, with its field, and how many ill-formed lines and turns there were of each
-//! kind.
+//! kind; and the promises of waiting, held to every transcript.
 
 use crate::answer_tally::{AnswerTally, Answers};
 use crate::call::{call_of, Call};
 use crate::fault_tally::FaultTally;
 use crate::kinds::{Turned, KINDS};
+use crate::line_promises::LinePromises;
 use crate::named_tally::NamedTally;
 use crate::planner::devices::DEVICES;
 use crate::planner::model::Session;
@@ -35,6 +36,7 @@ pub struct Tally {
     turns: [u64; DEVICES.len()],
     kinds: [[u64; DEVICES.len()]; KINDS.len()],
     named: NamedTally,
+    promises: LinePromises,
 }
 
 impl Tally {
@@ -46,6 +48,7 @@ impl Tally {
             turns: [0; DEVICES.len()],
             kinds: [[0; DEVICES.len()]; KINDS.len()],
             named: NamedTally::new(),
+            promises: LinePromises::default(),
         }
     }
 
@@ -56,6 +59,7 @@ impl Tally {
         let line = part.strip_suffix(b"\n");
         self.answers.count(verb_of(line.unwrap_or(part)), &answer);
         self.faults.count(part, &lists.texts);
+        self.promises.count(line.unwrap_or(part), &lists.texts, answered);
         if let Some(Ok(Call::Named { name, .. })) = line.map(call_of) {
             self.named.count(session, lists, name, number_in(&answer));
         }
@@ -83,6 +87,7 @@ impl Tally {
             print_row(kind, counts.map(|n| n.to_string()));
         }
         self.named.print();
+        self.promises.tally.print();
     }
 
     /// No line got an answer that is not its verb's.
@@ -99,6 +104,7 @@ impl Tally {
             assert!(counts.iter().sum::<u64>() * SELDOM > turns, "seldom in a turn: {kind}");
         }
         self.named.nothing_missed();
+        self.promises.tally.nothing_missed();
     }
 }
 

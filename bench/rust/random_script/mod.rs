@@ -6,6 +6,7 @@ mod edits;
 mod feeds;
 mod lent;
 mod openings;
+mod promised;
 mod readings;
 
 use crate::call::{call_of, Call};
@@ -197,6 +198,7 @@ pub fn random(number: u64, seed: u64) -> String {
         5 => readings::every_bit(&mut script),
         9 | 25 => script.feed_run(),
         13 => script.overfill(),
+        1 | 17 => script.waiting_run(),
         21 => script.lent_run(),
         29 => script.lent_overfill(),
         _ => {}

@@ -1,8 +1,9 @@
 //! How often each call of a script got each answer, with its field, and how many shifts of turns, calls of the feed and calls on
-//! lent rows there were of each kind.
+//! lent rows there were of each kind; and the promises of waiting, held to every script.
 
 mod feeds;
 mod lent;
+mod promises;
 mod shifts;
 
 use crate::answer_tally::{AnswerTally, Answers};
@@ -11,6 +12,7 @@ use crate::planner::model::Session;
 use crate::script::Host;
 use feeds::{FedCall, FEEDS};
 use lent::{LentCall, KINDS};
+use promises::ScriptPromises;
 use shifts::{Shift, SHIFTS};
 use std::collections::BTreeMap;
 
@@ -48,6 +50,7 @@ pub struct Tally {
     pub calls: u64,
     answers: AnswerTally,
     kinds: BTreeMap<&'static str, u64>,
+    promises: ScriptPromises,
     /// Whether the host has edited the rows since the last call on them, and how many there were then.
     edited: bool,
     last_number: usize,
@@ -77,6 +80,7 @@ impl Tally {
     pub fn count(&mut self, before: &Host<Session>, words: &[&str], printed: &str) {
         let answer = answer_in(printed);
         self.calls += 1;
+        self.promises.count(before, words, printed);
         if let Some(kind) = kind_of(words, answer) {
             self.answers.count(&kind, answer);
         }
@@ -113,6 +117,7 @@ impl Tally {
     pub fn print(&self) {
         self.answers.print(&ANSWERS);
         self.kinds().for_each(|(kind, count)| println!("{kind:58}{count:>8}"));
+        self.promises.tally.print();
     }
 
     /// No call got an answer that is not its own.
@@ -124,5 +129,6 @@ impl Tally {
     pub fn nothing_missed(&self) {
         self.answers.nothing_missed(&ANSWERS);
         self.kinds().for_each(|(kind, count)| assert!(count > 0, "never: {kind}"));
+        self.promises.tally.nothing_missed();
     }
 }
