@@ -48,6 +48,12 @@ ends = refl
 pub turns-hold : TurnsRuns
 turns-hold = record { lists = lists; ends = ends }
 
+-- ---- order 12
+
+pub lone-runs-hold : LoneRuns
+unfolding flatMap overflowOn coreCount unasked coreGiven asks asked overflowNotOn coreFits overflowFits bit inList anyBit onlyBits typeBits anyResponse answerBits outstanding rsp1Bits rsp0Bits rising field matchBits maskBits latencyWord sinkMasks ringMasks starvedMasks bypassMasks cboxEvents architecturalEvents preciseEvents eventsOf codeIn pairIn maskNotListed kindNotOn notListed tooWide outOfRange incomplete conflicting requestRows both either every firstHolding has capacity counterCount allCounters fixedCount allFixed letterOf boxCount devices named deviceOf packetsOn offcoreOn pairsJudged usableSet opens rowsWhere openingRows onDevice openingTable setupOn openedOn openedBy openedSetup setupOf ruleOnB hasRules ruleOf ruleFor wantsQuiet allows numberOf answerFor answerNumber wordsOf packetsOf ofAll counters onlyCounter allowedBy narrowed anyLone quietKept countedOf countersOf first second takeCounter takeWord takePacket placeOf admit width firstFrom putFirst thenRest tryNumber planIn firstPlan hasPlan tabulate cboxGlobals cboxGlobal layoutOf rsp0At rsp1At mmCfgAt matchAt maskAt uboxAt pebsAt pebsOn mmEnable frzAll enAll coreSel preciseStore enabledOn pmiEnable enabled eventWord codeOf maskOf isEvent offcoreCode rspMask rspWord packetWord usesOf wordAt setFrom settingsOf rows zeros unusable fixedAt fixedEnables firstGlobal lastGlobal offcoreWrites packetWrites filterWrites pebsEnable preciseWrites coreBit uboxValue boxWrites writesFor writes waits takenAfter passedAfter turnsIf singleTurns turnsBy turnsOf loneRuns removed onQueue change step numbersOf outcomeOf upTo queueLimit vacant queued padded sessionOf newSession plainOf refusedBy answered openOf addOf dropOf unassigned turnAnswer turnOf planOf turnedSession turnsAnswer answerTo nextSession sessionAfter outsideIds addRows dropRows turnRows turnsLimit turnsRows beforeOpen onceOpen table refusal requestsOf fits taken passed turned placesOf assign writesOf turnedTimes listsOf joined
+lone-runs-hold = refl
+
 -- ---- order 14
 
 pub tight-turns : map turnOfMine tight ≡ map (λ (w : Waits). w .turn) tight

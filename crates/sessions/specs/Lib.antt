@@ -27,4 +27,5 @@ pub mod Demand3From
 pub mod ShorterPromise
 pub mod Runs
 pub mod TurnsRuns
+pub mod LoneRuns
 pub mod ShorterRuns

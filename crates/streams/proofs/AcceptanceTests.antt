@@ -64,5 +64,5 @@ unfolding flatMap overflowOn coreCount unasked coreGiven asks asked overflowNotO
 name-tries-hold = refl
 
 pub feed-tries-hold : FeedTries
-unfolding flatMap overflowOn coreCount unasked coreGiven asks asked overflowNotOn coreFits overflowFits bit inList anyBit onlyBits typeBits anyResponse answerBits outstanding rsp1Bits rsp0Bits rising field matchBits maskBits latencyWord sinkMasks ringMasks starvedMasks bypassMasks cboxEvents eventsOf codeIn pairIn maskNotListed kindNotOn notListed tooWide outOfRange incomplete conflicting requestRows both either every firstHolding has capacity counterCount allCounters fixedCount allFixed letterOf boxCount boxOf devices named deviceOf packetsOn offcoreOn pairsJudged usableSet opens rowsWhere openingRows onDevice openingTable setupOn openedOn openedBy openedSetup setupOf openingOf freezeField rangeField lackField requestFields openingField askingField fieldsOn openingFields noFields fieldOf answerField allows numberOf answerFor answerNumber wordsOf packetsOf ofAll counters countedOf countersOf first second takeCounter takeWord takePacket placeOf admit width firstFrom putFirst thenRest tryNumber planIn firstPlan hasPlan tabulate cboxGlobals cboxGlobal layoutOf rsp0At rsp1At mmCfgAt matchAt maskAt uboxAt mmEnable frzAll enAll coreSel enabledOn pmiEnable enabled eventWord offcoreCode rspMask rspWord packetWord usesOf wordAt setFrom settingsOf rows zeros unusable fixedAt fixedEnables firstGlobal lastGlobal offcoreWrites packetWrites filterWrites coreBit uboxValue boxWrites writesFor writes flat filled waits takenAfter passedAfter removed queueLimit vacant queued padded sessionOf newSession plainOf refusedBy answered openOf addOf dropOf unassigned turnAnswer turnOf turnSlice planOf outsideIds addRows dropRows turnRows turnsLimit turnsRows beforeOpen onceOpen table refusal requestsOf fits taken passed turned placesOf assign writesOf listsOf joined tabbed typed fields sameBytes lettered digitOf numberFrom decimalOf hexOf coreNumberOf coreOf longest tooLong parsedRefusal bytes tab newline hexDigit hexText decimalDigits decimalText lineOf lineFrom openFormats openAs openWith openOn openLine eventLine packetLine offcoreLine latencyLine dropLine turnLine hasVerb verbs recordOf nameByte nameBytes longestName isName rowTexts isEnded allFormed wellFormed listsFormed topRow rowNamed unlisted foreign requestFor requestNamed namedField numbersOn rowOf hasName addNamed namedLine recordWith parseTextWith answerText registerText takeLines setLines turnRoom replyAt replyOf turnReply recordReply namedReply parsedReply lent saidBy ok no letters newFeed feedTable feedRefusal refusedFeed feedAnswer feedOut pieceState pieceOf pieceOut endState endOf endOut lineStart feedStart lineReply keepByte byteState byteText feedState feedText unfinished unclosed faultAt endText
+unfolding flatMap overflowOn coreCount unasked coreGiven asks asked overflowNotOn coreFits overflowFits bit inList anyBit onlyBits typeBits anyResponse answerBits outstanding rsp1Bits rsp0Bits rising field matchBits maskBits latencyWord sinkMasks ringMasks starvedMasks bypassMasks cboxEvents architecturalEvents preciseEvents eventsOf codeIn pairIn maskNotListed kindNotOn notListed tooWide outOfRange incomplete conflicting requestRows both either every firstHolding has capacity counterCount allCounters fixedCount allFixed letterOf boxCount boxOf devices named deviceOf packetsOn offcoreOn pairsJudged usableSet opens rowsWhere openingRows onDevice openingTable setupOn openedOn openedBy openedSetup setupOf openingOf ruleOnB hasRules ruleOf ruleFor wantsQuiet freezeField rangeField lackField requestFields openingField askingField fieldsOn openingFields noFields fieldOf answerField allows numberOf answerFor answerNumber wordsOf packetsOf ofAll counters onlyCounter allowedBy narrowed anyLone quietKept countedOf countersOf first second takeCounter takeWord takePacket placeOf admit width firstFrom putFirst thenRest tryNumber planIn firstPlan hasPlan tabulate cboxGlobals cboxGlobal layoutOf rsp0At rsp1At mmCfgAt matchAt maskAt uboxAt pebsAt pebsOn mmEnable frzAll enAll coreSel preciseStore enabledOn pmiEnable enabled eventWord codeOf maskOf isEvent offcoreCode rspMask rspWord packetWord usesOf wordAt setFrom settingsOf rows zeros unusable fixedAt fixedEnables firstGlobal lastGlobal offcoreWrites packetWrites filterWrites pebsEnable preciseWrites coreBit uboxValue boxWrites writesFor writes flat filled waits takenAfter passedAfter removed queueLimit vacant queued padded sessionOf newSession plainOf refusedBy answered openOf addOf dropOf unassigned turnAnswer turnOf turnSlice planOf outsideIds addRows dropRows turnRows turnsLimit turnsRows beforeOpen onceOpen table refusal requestsOf fits taken passed turned placesOf assign writesOf listsOf joined tabbed typed fields sameBytes lettered digitOf numberFrom decimalOf hexOf coreNumberOf coreOf longest tooLong parsedRefusal bytes tab newline hexDigit hexText decimalDigits decimalText lineOf lineFrom openFormats openAs openWith openOn openLine eventLine packetLine offcoreLine latencyLine dropLine turnLine hasVerb verbs recordOf nameByte nameBytes longestName isName rowTexts isEnded allFormed wellFormed listsFormed topRow rowNamed unlisted foreign requestFor requestNamed namedField numbersOn rowOf hasName addNamed namedLine recordWith parseTextWith answerText registerText takeLines setLines turnRoom replyAt replyOf turnReply recordReply namedReply parsedReply lent saidBy ok no letters newFeed feedTable feedRefusal refusedFeed feedAnswer feedOut pieceState pieceOf pieceOut endState endOf endOut lineStart feedStart lineReply keepByte byteState byteText feedState feedText unfinished unclosed faultAt endText
 feed-tries-hold = refl

@@ -1,5 +1,6 @@
-// Three long mixed transcripts, one for each device, the two examples, one with fixed counters on, one that freezes and interrupts, eight of
-// single turns, and thirteen of requests that wait behind events which allow every usable counter, each in a session of its own.
+// Four long mixed transcripts, one for each device, the two examples, one with fixed counters on, one that freezes and interrupts, one of a lone
+// request among fifteen others, eight of single turns, and fourteen of requests that wait behind events which allow every usable counter, each in
+// a session of its own.
 // The blocks are short and the output has room for little more than one reply, so lines are cut, and blocks are answered in parts.
 use libc::STDOUT_FILENO;
 
@@ -24,6 +25,8 @@ fn main() {
     answer_file(b"clock.txt");
     answer_file(b"c.txt");
     answer_file(b"freeze.txt");
+    answer_file(b"b.txt");
+    answer_file(b"lone.txt");
     single_turns();
     shorter_waits();
 }
@@ -53,4 +56,5 @@ fn shorter_waits() {
     answer_file(b"shorter_s_packet.txt");
     answer_file(b"shorter_latency_not_meant.txt");
     answer_file(b"shorter_pinned_not_meant.txt");
+    answer_file(b"shorter_b_keeps_the_old.txt");
 }
