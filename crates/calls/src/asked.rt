@@ -3,9 +3,9 @@ use crate::formats::Numbers;
 use crate::formats::numbers_in;
 use crate::words::Words;
 use crate::words::word;
-use grammar::words::same;
 use requests::CounterSet;
 use requests::Request;
+use scanner::words::same;
 
 // What an `add` line asks for.
 pub enum Asked {

@@ -6,7 +6,7 @@ use crate::numbers::hex;
 use crate::numbers::wide;
 use crate::words::Words;
 use crate::words::word;
-use grammar::words::same;
+use scanner::words::same;
 
 // The number of a core: 0 for `-`.
 fn core(word: &[u8]) -> Number {

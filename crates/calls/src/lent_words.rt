@@ -18,7 +18,7 @@ use crate::output::LONGEST_SLICE;
 use crate::words::Words;
 use crate::words::past_first;
 use crate::words::word;
-use grammar::words::same;
+use scanner::words::same;
 ghost use Prim.Native.Nat.{_≤_};
 ghost use lib.ListN.{length};
 

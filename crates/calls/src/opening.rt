@@ -1,11 +1,11 @@
 // What a line of `open` or of the reader gives in its second word and on.
 use crate::words::Words;
 use crate::words::word;
-use grammar::words::same;
 use requests::Core;
 use requests::CounterSet;
 use requests::Opening;
 use requests::Overflow;
+use scanner::words::same;
 
 // The core of a word and its number.
 fn core(word: &[u8], number: u64) -> Core {

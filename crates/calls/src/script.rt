@@ -23,7 +23,7 @@ use crate::session_calls::turned_at_once;
 use crate::words::Words;
 use crate::words::word;
 use crate::words::words_of;
-use grammar::words::same;
+use scanner::words::same;
 use sessions::Session;
 ghost use Prim.Native.Nat.{_≤_};
 ghost use lib.ListN.{length};

@@ -14,11 +14,7 @@ pub mod Reading
 pub mod ReadBack
 pub mod GrammarHolds
 pub mod LineBytes
-pub mod DigitLoops
-pub mod FieldParts
-pub mod FieldLoops
 pub mod WordLoops
-pub mod NumberLines
 pub mod LineEnds
 pub mod VerbRows
 pub mod CutFields

@@ -50,7 +50,7 @@ pub letter-plain : (d : Device) → Plain 1 (letterOf d ∷ [])
 unfolding oneField both lacks tab newline
 letter-plain d =
     let printed : 32 < letterOf d = numbers d .letter-printed .0 in
-    record { field = rw (ne-eqb (letterOf d) 9 (λ e. omega arith), ne-eqb (letterOf d) 10 (λ e. omega arith)); short = omega arith }
+    record { field = rw (ne-eqb (letterOf d) tab (λ e. omega arith), ne-eqb (letterOf d) newline (λ e. omega arith)); short = omega arith }
 
 -- a record's text, of at most 80 bytes before its newline
 pub record TextOf (r : Record) : Type 0 where

@@ -12,5 +12,3 @@ pub mod LineBytes
 pub mod LongLines
 pub mod FirstBroken
 pub mod Examples
--- The code's own: how it holds its values. No claim.
-pub mod Parts

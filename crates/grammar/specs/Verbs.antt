@@ -1,8 +1,7 @@
 -- Document 01, 'Lines': the record of each verb. Fields are read from the left; a missing field counts as an empty one.
-use mathlib.Core.Path.{_≡_}
 use mathlib.Core.Bool.{Bool}
 use mathlib.Core.List.{List, [], _∷_}
-use Prim.Native.Nat.{ℕ, _+_, _≤_}
+use Prim.Native.Nat.{ℕ, _+_}
 use Prim.Native.String.{String}
 use mathlib.Core.Option.{Option, none, some}
 use lib.ListN.{length, getD, set}
@@ -16,8 +15,6 @@ use Rattle.grammar.specs.Text.{bytes}
 use Rattle.grammar.specs.Fields.{fields, fieldAt, sameBytes}
 use Rattle.grammar.specs.Letters.{lettered}
 use Rattle.grammar.specs.Numbers.{decimalOf, hexOf, coreOf, decimalFormat, coreFormat, numberOf}
-use Rattle.grammar.specs.declared.LineNumbers.{LineNumbers}
-use Rattle.grammar.specs.declared.LineNumbers.the-variants as numbers
 use Rattle.grammar.specs.declared.Number.{Number}
 use Rattle.grammar.specs.declared.Number.the-variants.{Value, Bad}
 use Rattle.grammar.specs.declared.Record.{Record}
@@ -150,17 +147,3 @@ verbs t =
 -- the record of a text that is closed by a newline, or not
 unfoldable pub recordOf : List ℕ → Bool → Parsed
 recordOf t closed = elim (firstHolding (verbs t)) [ none ↦ Fault 0 | some read ↦ read t closed ]
-
--- formats that there are
-abbrev pub Narrow : List ℕ → Type 0
-Narrow [] = Unit {0}
-Narrow (w ∷ ws) = (w ≤ coreFormat) × Narrow ws
-
--- the record that is made of a line's numbers, or the field at fault
-abbrev pub madeOf : LineNumbers → Made → Parsed
-madeOf (numbers.Read a b c d e) made = Line (made a b c d e)
-madeOf (numbers.Fault k) made = Fault k
-
--- they are the numbers of the line, whatever is made of them
-pub record Numbered (first : ℕ) (formats text : List ℕ) (closed : Bool) (r : LineNumbers) : Type 0 where
-  pub tells : (made : Made) → numberLine first formats text closed made ≡ madeOf r made

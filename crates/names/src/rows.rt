@@ -4,15 +4,15 @@ use crate::RowRead;
 use crate::event_names::is_name;
 use grammar::Lettered;
 use grammar::Number;
-use grammar::Parts;
-use grammar::fields::field;
-use grammar::fields::is_word;
-use grammar::fields::number_at;
-use grammar::fields::parts_of;
-use grammar::letters::device_at;
 use requests::Device;
+use scanner::Parts;
+use scanner::fields::field;
+use scanner::fields::is_word;
+use scanner::fields::number_at;
+use scanner::fields::parts_of;
+use scanner::letters::device_at;
 ghost use mathlib.Core.Path.{_≡_};
-ghost use Rattle.grammar.specs.Parts.{Parted};
+ghost use Rattle.scanner.specs.Parts.{Parted};
 ghost use Rattle.names.specs.Rows.{numbersOn, rowOf, hasName, isFormed};
 
 // How many fields a row has.

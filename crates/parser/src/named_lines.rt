@@ -1,18 +1,18 @@
 // Requests by name.
-use grammar::DECIMAL;
 use grammar::Number;
 use grammar::Parsed;
-use grammar::Parts;
-use grammar::fields::field;
-use grammar::fields::number_at;
-use grammar::verbs::is_whole;
 use names::event_names::is_name;
 use names::lists::lists_formed;
 use names::named::request_named;
 use requests::CounterSet;
 use requests::Device;
+use scanner::DECIMAL;
+use scanner::Parts;
+use scanner::fields::field;
+use scanner::fields::number_at;
+use scanner::verbs::is_whole;
 ghost use mathlib.Core.Path.{_≡_};
-ghost use Rattle.grammar.specs.Parts.{Parted};
+ghost use Rattle.scanner.specs.Parts.{Parted};
 ghost use Rattle.names.specs.Lists.{NameLists};
 ghost use Rattle.parser.specs.ParseWith.{addNamed, namedLine};
 

@@ -2,8 +2,8 @@
 use crate::verbs::record_with;
 use grammar::LONGEST;
 use grammar::Parsed;
-use grammar::fields::parts_of;
 use requests::Device;
+use scanner::fields::parts_of;
 ghost use mathlib.Core.Path.{_≡_};
 ghost use Rattle.grammar.specs.Parse.{tooLong, isClosed, textLength};
 ghost use Rattle.names.specs.Lists.{NameLists};

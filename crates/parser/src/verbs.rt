@@ -1,18 +1,18 @@
 // What a text asks for, by its verb.
 use crate::named_lines::named_line;
 use grammar::Parsed;
-use grammar::Parts;
-use grammar::fields::is_word;
-use grammar::verbs::drop_line;
-use grammar::verbs::event_line;
-use grammar::verbs::latency_line;
-use grammar::verbs::offcore_line;
-use grammar::verbs::open_line;
-use grammar::verbs::packet_line;
-use grammar::verbs::turn_line;
 use requests::Device;
+use scanner::Parts;
+use scanner::fields::is_word;
+use scanner::verbs::drop_line;
+use scanner::verbs::event_line;
+use scanner::verbs::latency_line;
+use scanner::verbs::offcore_line;
+use scanner::verbs::open_line;
+use scanner::verbs::packet_line;
+use scanner::verbs::turn_line;
 ghost use mathlib.Core.Path.{_≡_};
-ghost use Rattle.grammar.specs.Parts.{Parted};
+ghost use Rattle.scanner.specs.Parts.{Parted};
 ghost use Rattle.names.specs.Lists.{NameLists};
 ghost use Rattle.parser.specs.ParseWith.{recordWith};
 

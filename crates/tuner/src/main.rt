@@ -1,13 +1,13 @@
 // The line program, `tuner [SITE HOUSE]`: lines from standard input, replies to standard output. The two arguments are files, which
 // have the site's list of names and the house's. Without them both lists are empty.
 // A program has no exit status of its own: where its first argument asks for it, it writes the number on descriptor 3 as it ends.
-use grammar::words::same;
 use libc::STDERR_FILENO;
 use libc::STDIN_FILENO;
 use libc::STDOUT_FILENO;
 use relay::answer_input;
 use relay::answer_with_files;
 use relay::status_of;
+use scanner::words::same;
 ghost use Prim.Native.Nat.{_≤_};
 
 const STATUS_FILENO: i32 = 3;

@@ -1,0 +1,4 @@
+pub mod DigitLoops
+pub mod FieldParts
+pub mod FieldLoops
+pub mod NumberLines
