@@ -18,8 +18,4 @@ pub mod NeverShort
 pub mod Lengths
 pub mod TurnLimits
 pub mod ReplyLength
-pub mod Putting
-pub mod Numerals
-pub mod AskedReplies
-pub mod LineTexts
-pub mod Delivering
+pub mod Zeros

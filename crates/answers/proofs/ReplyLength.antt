@@ -12,8 +12,7 @@ use Rattle.grammar.specs.declared.Record.the-variants.{Open, Add, Drop, Turn}
 use Rattle.grammar.specs.declared.Parsed.the-variants.{Line, Named, Fault}
 use Rattle.requests.specs.declared.Answer.{Answer}
 use Rattle.answers.specs.Replies.{turnRoom, answerText, takeLines, replyAt, replyOf, turnReply, recordReply, namedReply, parsedReply}
-use Rattle.answers.specs.Written.{replyRoom}
-use Rattle.answers.specs.ReplyLength.{ReplyLength}
+use Rattle.answers.specs.ReplyLength.{replyRoom, ReplyLength}
 use Rattle.answers.proofs.Lengths.{joined-length, take-lines-length, set-lines-length, answer-length}
 use Rattle.answers.proofs.TurnLimits.{turn-at-most}
 

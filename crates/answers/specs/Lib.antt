@@ -13,6 +13,3 @@ pub mod ShorterPromiseOfLines
 pub mod NeverShort
 pub mod ReplyLength
 pub mod Examples
--- The code's own: how it holds its values. No claim.
-pub mod Written
-pub mod Texts

@@ -12,9 +12,10 @@ use lib.ListN.{length, take, drop, replicate, take-append-drop, length-append}
 use lib.Seq.{take-at, sets-eq}
 use Rattle.requests.specs.declared.Answer.the-variants.{Accepted}
 use Rattle.names.specs.Lists.{NameLists}
-use Rattle.answers.specs.Texts.{Put}
-use Rattle.answers.specs.Written.{replyRoom, atStart, inArray}
-use Rattle.answers.specs.declared.LineReply.{LineReply}
+use Rattle.responder.specs.Texts.{Put}
+use Rattle.answers.specs.ReplyLength.{replyRoom}
+use Rattle.responder.specs.Written.{atStart, inArray}
+use Rattle.responder.specs.declared.LineReply.{LineReply}
 use Rattle.streams.specs.Stream.{NewlineFree, lineStart, feedState, feedText, endText, endReply}
 use Rattle.streams.specs.Feeds.{feedAnswer, feedOut, pieceState, pieceOf, pieceOut, endState, endOf, endOut}
 use Rattle.streams.specs.declared.Feed.{Feed}

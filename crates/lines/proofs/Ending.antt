@@ -15,9 +15,10 @@ use Rattle.grammar.specs.Text.{newline}
 use Rattle.names.specs.Lists.{NameLists, rowTexts, isEnded, allFormed, wellFormed, listsFormed}
 use Rattle.parser.proofs.LongLines.{long-lines, as-too-long}
 use Rattle.answers.specs.Replies.{Reply, answerText, parsedReply}
-use Rattle.answers.specs.Written.{replyRoom, inArray, atStart}
+use Rattle.answers.specs.ReplyLength.{replyRoom}
+use Rattle.responder.specs.Written.{inArray, atStart}
 use Rattle.answers.proofs.Lengths.{answer-length}
-use Rattle.answers.proofs.Delivering.{drop-zeros}
+use Rattle.answers.proofs.Zeros.{drop-zeros}
 use Rattle.lines.specs.Blocks.{takenOf, takenFrom, fedOf, fedOut}
 use Rattle.streams.specs.Stream.{lineStart, lineReply, unfinished, noNames, unclosed, faultAt, endText, endReply}
 use Rattle.streams.specs.declared.Feed.{Feed}

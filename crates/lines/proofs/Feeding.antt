@@ -11,7 +11,8 @@ use Rattle.grammar.specs.Text.{newline}
 use Rattle.sessions.specs.declared.Session.{Session}
 use Rattle.grammar.specs.declared.Parsed.{Parsed}
 use Rattle.answers.specs.Replies.{parsedReply}
-use Rattle.answers.specs.Written.{replyRoom, atStart, Left, repliedIn, repliedOut}
+use Rattle.answers.specs.ReplyLength.{replyRoom}
+use Rattle.responder.specs.Written.{atStart, Left, repliedIn, repliedOut}
 use Rattle.names.specs.Lists.{NameLists}
 use Rattle.lines.specs.Blocks.{takenOf, takenFrom, fedOf, fedOut}
 use Rattle.lines.specs.Pieces.{FirstNewline, keptLine}

@@ -9,8 +9,9 @@ use lib.Dec.{ltb}
 use lib.ListN.{length, getD, take, drop, take-append-drop, length-append, length-drop}
 use lib.Seq.{take-add, take-at, take-length, drop-cons}
 use Rattle.names.specs.Lists.{NameLists}
-use Rattle.answers.specs.Texts.{Put}
-use Rattle.answers.specs.Written.{replyRoom, atStart}
+use Rattle.responder.specs.Texts.{Put}
+use Rattle.answers.specs.ReplyLength.{replyRoom}
+use Rattle.responder.specs.Written.{atStart}
 use Rattle.streams.specs.Stream.{feedState, feedText}
 use Rattle.streams.specs.declared.Feed.{Feed}
 use Rattle.streams.proofs.Cut.{state-append, text-append}

@@ -8,7 +8,7 @@ use lib.Dec.{ltb, eqb}
 use lib.ListN.{length, take, length-append}
 use borrow.Author.Tests.{ltb-false, le-ltb}
 use Rattle.parser.specs.ParseWith.{parseTextWith}
-use Rattle.answers.specs.Written.{replyRoom}
+use Rattle.answers.specs.ReplyLength.{replyRoom}
 use Rattle.answers.proofs.ReplyLength.{reply-length}
 use Rattle.grammar.specs.Text.{newline}
 use Rattle.names.specs.Lists.{NameLists}

@@ -7,7 +7,7 @@ use native.Mathlib.Omega.{arith}
 use borrow.Author.Tests.{lt-ltb, le-ltb}
 use lib.ListN.{length}
 use Rattle.grammar.specs.Text.{newline}
-use Rattle.answers.specs.Written.{replyRoom}
+use Rattle.answers.specs.ReplyLength.{replyRoom}
 use Rattle.names.specs.Lists.{NameLists}
 use Rattle.lines.specs.Blocks.{takenOf}
 use Rattle.streams.specs.Stream.{NewlineFree, lineStart, lineReply, byteState, byteText, feedState}

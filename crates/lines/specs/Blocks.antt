@@ -5,7 +5,8 @@ use Prim.Native.Nat.{ℕ, suc, _-_}
 use lib.Dec.{ltb}
 use lib.ListN.{length, take}
 use Rattle.names.specs.Lists.{NameLists}
-use Rattle.answers.specs.Written.{replyRoom, atStart}
+use Rattle.answers.specs.ReplyLength.{replyRoom}
+use Rattle.responder.specs.Written.{atStart}
 use Rattle.streams.specs.Stream.{byteState, byteText, feedState, feedText}
 use Rattle.streams.specs.declared.Feed.{Feed}
 use Rattle.lines.specs.declared.Fed.{Fed}

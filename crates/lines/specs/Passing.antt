@@ -3,7 +3,7 @@ use mathlib.Core.List.{List}
 use mathlib.Core.Path.{_≡_}
 use Prim.Native.Nat.{ℕ}
 use Rattle.names.specs.Lists.{NameLists}
-use Rattle.answers.specs.Texts.{Put}
+use Rattle.responder.specs.Texts.{Put}
 use Rattle.streams.specs.Stream.{feedState, feedText}
 use Rattle.streams.specs.declared.Feed.{Feed}
 use Rattle.lines.specs.declared.Fed.{Fed}

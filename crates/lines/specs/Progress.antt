@@ -3,7 +3,7 @@ use mathlib.Core.List.{List, _∷_}
 use Prim.Native.Nat.{ℕ, _<_, _≤_}
 use lib.ListN.{length}
 use Rattle.names.specs.Lists.{NameLists}
-use Rattle.answers.specs.Written.{replyRoom}
+use Rattle.answers.specs.ReplyLength.{replyRoom}
 use Rattle.streams.specs.Stream.{feedText}
 use Rattle.lines.specs.Blocks.{takenOf, takenFrom}
 use Rattle.streams.specs.declared.Feed.{Feed}

@@ -1,7 +1,7 @@
 // What the look-up shows, and how single lines are answered, with two lists of names.
-use answers::line::answer_line;
 use names::look_up::look_up;
 use planner::open::new_session;
+use responder::line::answer_line;
 use sessions::Session;
 
 // A name, and the row that it finds.

@@ -7,8 +7,8 @@ use native.Mathlib.Nat.{mod-add-mod}
 use native.Mathlib.Omega.{arith}
 use lib.ListN.{length, take, length-append}
 use lib.Seq.{take-all}
-use Rattle.answers.specs.Written.{inArray}
-use Rattle.answers.specs.declared.LineReply.{LineReply}
+use Rattle.responder.specs.Written.{inArray}
+use Rattle.responder.specs.declared.LineReply.{LineReply}
 use Rattle.names.specs.Lists.{NameLists}
 use Rattle.streams.specs.Stream.{feedStart, feedState, feedText, endText, endReply, transcript}
 use Rattle.streams.specs.declared.Feed.{Feed}

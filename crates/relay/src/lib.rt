@@ -3,7 +3,6 @@
 // and `answer_all` that the blocks are one text.
 mod endings;
 
-use answers::replies::REPLY_ROOM;
 use descriptors::FileRead;
 use descriptors::Next;
 use descriptors::Reading;
@@ -19,6 +18,7 @@ pub use endings::status_of;
 use lines::stream::end;
 use lines::stream::feed;
 use lines::stream::start;
+use responder::replies::REPLY_ROOM;
 use std::num::wrapping_add_usize;
 use streams::Feed;
 ghost use mathlib.Core.Path.{_≡_};
@@ -29,7 +29,7 @@ ghost use Rattle.descriptors.specs.Writes.{Reached};
 ghost use Rattle.relay.specs.Passing.{Passing};
 ghost use Rattle.relay.specs.Relayed.{Relaying, Relayed, Transcribed};
 ghost use Rattle.relay.specs.Fitness.{Unfit};
-ghost use Rattle.answers.specs.Written.{replyRoom};
+ghost use Rattle.answers.specs.ReplyLength.{replyRoom};
 
 // What a block leaves: the state, the number of bytes answered, the number of bytes reported written, and what comes next.
 struct Passed {

@@ -18,7 +18,7 @@ use Rattle.grammar.specs.Parse.{longest}
 use Rattle.grammar.specs.Text.{newline}
 use Rattle.names.specs.Lists.{NameLists}
 use Rattle.answers.specs.Replies.{answerLine}
-use Rattle.answers.proofs.Delivering.{drop-zeros}
+use Rattle.answers.proofs.Zeros.{drop-zeros}
 use Rattle.streams.specs.Stream.{NewlineFree, lineStart, feedStart, lineReply, keepByte, byteState, feedState, feedText, endText}
 use Rattle.streams.specs.Transcript.{closed}
 use Rattle.streams.specs.Feeds.{newFeed, pieceState, pieceOf, endState, endOf}

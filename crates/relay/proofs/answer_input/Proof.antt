@@ -6,7 +6,7 @@ use Prim.Native.Nat.{ℕ}
 use native.Mathlib.Omega.{arith}
 use denote.Ref.{now}
 use borrow.Author.Needs.{needs}
-use Rattle.answers.specs.Written.{replyRoom}
+use Rattle.answers.specs.ReplyLength.{replyRoom}
 use Rattle.relay.specs.Endings.{endingOf, statusOf}
 use Rattle.relay.specs.Fitness.{Unfit}
 use Rattle.relay.specs.declared.Answered.{Answered}

@@ -9,7 +9,7 @@ use borrow.Author.Needs.{needs}
 use borrow.Author.Tests.{not-true, not-false}
 use lib.ListN.{length}
 use lib.Seq.{length-take-le, take-all}
-use Rattle.answers.specs.Written.{replyRoom}
+use Rattle.answers.specs.ReplyLength.{replyRoom}
 use Rattle.names.specs.Lists.{NameLists}
 use Rattle.streams.specs.Stream.{feedText}
 use Rattle.descriptors.specs.Writes.{isComplete}

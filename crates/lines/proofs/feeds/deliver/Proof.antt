@@ -4,7 +4,7 @@ use borrow.Author.Needs.{needs}
 use borrow.Author.Tests.{le-ltb}
 use denote.Ref.{now}
 use lib.ListN.{length, length-append}
-use Rattle.answers.proofs.Putting.{put-length, then}
+use Rattle.responder.proofs.Putting.{put-length, then}
 use Rattle.streams.specs.Stream.{feedText}
 use Rattle.streams.proofs.FeedAnswers.{without-room, with-room}
 use Rattle.lines.proofs.Delivered.{first-long, rest-long, both-fit, put-at-start}

@@ -6,9 +6,9 @@ use borrow.Author.Needs.{needs}
 use denote.Ref.{now}
 use lib.ListN.{length, take, replicate}
 use lib.Seq.{length-take-le}
-use Rattle.answers.specs.Texts.{Put}
-use Rattle.answers.specs.Written.{replyRoom}
-use Rattle.answers.proofs.Putting.{put-nothing, put-length, then}
+use Rattle.responder.specs.Texts.{Put}
+use Rattle.answers.specs.ReplyLength.{replyRoom}
+use Rattle.responder.proofs.Putting.{put-nothing, put-length, then}
 use Rattle.streams.specs.Stream.{feedText}
 use Rattle.lines.proofs.Passes.{PassedSoFar, passed-none, part-passed, part-output, part-count, part-length, whole-passed}
 use Rattle.lines.proofs.feeds.pass.Statement.{statement}

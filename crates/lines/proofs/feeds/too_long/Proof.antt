@@ -5,7 +5,7 @@ use native.Mathlib.Omega.{arith}
 use borrow.Author.Needs.{needs}
 use denote.Ref.{now}
 use lib.ListN.{length, take}
-use Rattle.answers.specs.Written.{replyRoom}
+use Rattle.answers.specs.ReplyLength.{replyRoom}
 use Rattle.streams.specs.Stream.{feedText}
 use Rattle.lines.proofs.Passes.{PassedSoFar, passed-none, part-passed, part-count, part-long, whole-fits}
 use Rattle.lines.proofs.feeds.too_long.Statement.{statement}

@@ -2,7 +2,7 @@
 use mathlib.Core.Path.{sym, _∙_}
 use borrow.Author.Needs.{needs}
 use Rattle.grammar.specs.Text.{newline}
-use Rattle.answers.specs.Written.{replyRoom}
+use Rattle.answers.specs.ReplyLength.{replyRoom}
 use Rattle.streams.specs.Stream.{unfinished}
 use Rattle.lines.proofs.Ending.{ended-begun, ended-none}
 use Rattle.lines.proofs.stream.end.Statement.{statement}

@@ -8,7 +8,8 @@ use lib.ListN.{length}
 use Rattle.grammar.specs.Parse.{longest}
 use Rattle.queue_rows.specs.Rows.{Sized}
 use Rattle.queue_rows.specs.Heads.{sessionIn}
-use Rattle.answers.specs.Written.{replyRoom, leftIn}
+use Rattle.answers.specs.ReplyLength.{replyRoom}
+use Rattle.responder.specs.Written.{leftIn}
 use Rattle.lines.specs.Pieces.{stateOf}
 use Rattle.streams.specs.Stream.{lineStart}
 use Rattle.lines.proofs.NextLine.{left-within, piece-free, rest-free}

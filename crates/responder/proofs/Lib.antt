@@ -1,0 +1,5 @@
+pub mod Putting
+pub mod Numerals
+pub mod AskedReplies
+pub mod LineTexts
+pub mod Delivering
