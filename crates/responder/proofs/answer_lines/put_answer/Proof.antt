@@ -1,4 +1,4 @@
--- `answers::answer_lines::put_answer` puts `answerText`: the parts of its line one after another (`then`).
+-- `responder::answer_lines::put_answer` puts `answerText`: the parts of its line one after another (`then`).
 use borrow.Author.Needs.{needs}
 use native.Mathlib.Omega.{arith}
 use Rattle.grammar.specs.Text.{bytes, tab, newline, lineOf}

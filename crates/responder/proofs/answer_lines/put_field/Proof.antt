@@ -1,4 +1,4 @@
--- `answers::answer_lines::put_field` puts a tab and the number, one after another (`then`).
+-- `responder::answer_lines::put_field` puts a tab and the number, one after another (`then`).
 use borrow.Author.Needs.{needs}
 use native.Mathlib.Omega.{arith}
 use Rattle.grammar.specs.Text.{tab}

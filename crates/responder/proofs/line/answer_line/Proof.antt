@@ -1,4 +1,4 @@
--- `answers::line::answer_line` is the reply to what the line is, in an array of its own (`array-reply`), with the queue packed and unpacked.
+-- `responder::line::answer_line` is the reply to what the line is, in an array of its own (`array-reply`), with the queue packed and unpacked.
 use denote.Ref.{now}
 use Rattle.answers.specs.ReplyLength.{replyRoom}
 use Rattle.responder.specs.Written.{leftIn}

@@ -1,4 +1,4 @@
--- `answers::replies::call_reply` delivers `replyAt`: its text is the answer's line.
+-- `responder::replies::call_reply` delivers `replyAt`: its text is the answer's line.
 use native.Mathlib.Omega.{arith}
 use Rattle.queue_rows.specs.Heads.{answeredIn}
 use Rattle.answers.specs.Replies.{replyAt}

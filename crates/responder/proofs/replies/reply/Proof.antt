@@ -1,4 +1,4 @@
--- `answers::replies::reply` is `repliedIn` and leaves `repliedOut`: nothing in a slice that is too short, the delivered reply in any other.
+-- `responder::replies::reply` is `repliedIn` and leaves `repliedOut`: nothing in a slice that is too short, the delivered reply in any other.
 -- What is asked for meets first, by name or not, and then the answers, each that of the call which the line asks for.
 use mathlib.Core.Path.{_≡_, ap, sym, _∙_}
 use mathlib.Core.Logic.{⊎-elim}

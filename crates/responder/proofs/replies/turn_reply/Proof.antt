@@ -1,4 +1,4 @@
--- `answers::replies::turn_reply` delivers `turnReply`: the texts one after another (`turn-delivered`), which have room by what a turn answers at most.
+-- `responder::replies::turn_reply` delivers `turnReply`: the texts one after another (`turn-delivered`), which have room by what a turn answers at most.
 use Prim.Native.Nat.{_+_, _*_, _≤_}
 use native.Mathlib.Omega.{arith}
 use denote.Ref.{now}

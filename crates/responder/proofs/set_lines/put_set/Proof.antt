@@ -1,4 +1,4 @@
--- `answers::set_lines::put_set` puts a `set` line: its parts one after another (`then`).
+-- `responder::set_lines::put_set` puts a `set` line: its parts one after another (`then`).
 use borrow.Author.Needs.{needs}
 use native.Mathlib.Omega.{arith}
 use mathlib.Core.List.{append-nil}

@@ -1,4 +1,4 @@
--- `answers::set_lines::put_sets` puts the `set` lines. The loop's invariant: those of the first i writes stand in the slice (`sets-next`).
+-- `responder::set_lines::put_sets` puts the `set` lines. The loop's invariant: those of the first i writes stand in the slice (`sets-next`).
 use mathlib.Core.Path.{_≡_}
 use Prim.Native.Nat.{_*_, _-_, _≤_}
 use native.Mathlib.Omega.{arith}

@@ -1,4 +1,4 @@
--- `answers::set_lines::put_value` puts `hexText 16`: of 0 at once, and of a number below 2^32 behind eight zeros (`hex-zeros`).
+-- `responder::set_lines::put_value` puts `hexText 16`: of 0 at once, and of a number below 2^32 behind eight zeros (`hex-zeros`).
 use borrow.Author.Needs.{needs}
 use native.Mathlib.Omega.{arith}
 use Rattle.grammar.specs.Text.{bytes, hexDigit, hexText}

@@ -1,4 +1,4 @@
--- `answers::take_lines::put_assigned` puts `takeLines`: a law for each kind of place, and the parts one after another (`then`).
+-- `responder::take_lines::put_assigned` puts `takeLines`: a law for each kind of place, and the parts one after another (`then`).
 use borrow.Author.Needs.{needs}
 use native.Mathlib.Omega.{arith}
 use Rattle.grammar.specs.Text.{bytes, newline}

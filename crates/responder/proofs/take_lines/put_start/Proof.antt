@@ -1,4 +1,4 @@
--- `answers::take_lines::put_start` puts a `take` line up to its register: its parts one after another (`then`).
+-- `responder::take_lines::put_start` puts a `take` line up to its register: its parts one after another (`then`).
 use borrow.Author.Needs.{needs}
 use native.Mathlib.Omega.{arith}
 use Rattle.grammar.specs.Text.{bytes, tab}

@@ -1,4 +1,4 @@
--- `answers::take_lines::put_takes` puts the `take` lines. The loop's invariant: those of the first i entries stand in the slice
+-- `responder::take_lines::put_takes` puts the `take` lines. The loop's invariant: those of the first i entries stand in the slice
 -- (`takes-next`).
 use mathlib.Core.Path.{_≡_, _∙_}
 use mathlib.Core.List.{flatMap}

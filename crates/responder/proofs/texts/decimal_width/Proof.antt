@@ -1,4 +1,4 @@
--- `answers::texts::decimal_width` is the length of `decimalText`. The loop's invariant: with the digits of what is left the width is one
+-- `responder::texts::decimal_width` is the length of `decimalText`. The loop's invariant: with the digits of what is left the width is one
 -- more than that length (`decimal-more`).
 use mathlib.Core.Path.{_≡_, ap}
 use Prim.Native.Nat.{_+_, _≤_}

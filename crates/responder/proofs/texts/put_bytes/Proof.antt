@@ -1,4 +1,4 @@
--- `answers::texts::put_bytes` puts its bytes. The loop's invariant: the first i of them stand in the slice (`copied-next`).
+-- `responder::texts::put_bytes` puts its bytes. The loop's invariant: the first i of them stand in the slice (`copied-next`).
 use mathlib.Core.Path.{_≡_}
 use Prim.Native.Nat.{_-_, _≤_}
 use native.Mathlib.Omega.{arith}

@@ -1,4 +1,4 @@
--- `answers::texts::put_decimal` puts `decimalText`. The loop's invariant: the text stands in the slice from its byte i on, and what is left
+-- `responder::texts::put_decimal` puts `decimalText`. The loop's invariant: the text stands in the slice from its byte i on, and what is left
 -- gives its first i bytes (`decimal-more`, `digit-before`).
 use mathlib.Core.Path.{_≡_, refl, ap, sym, _∙_}
 use mathlib.Core.List.{[]}

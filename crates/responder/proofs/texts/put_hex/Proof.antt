@@ -1,4 +1,4 @@
--- `answers::texts::put_hex` puts `hexText`. The loop's invariant: the text stands in the slice from its byte i on, and what is left gives
+-- `responder::texts::put_hex` puts `hexText`. The loop's invariant: the text stands in the slice from its byte i on, and what is left gives
 -- its first i bytes (`digit-before`).
 use mathlib.Core.Path.{_≡_, ap, sym, _∙_}
 use mathlib.Core.List.{[], _∷_, _++_}
