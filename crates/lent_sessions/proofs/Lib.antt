@@ -5,5 +5,4 @@ pub mod BrokenRows
 pub mod LentHistories
 pub mod LentTurnPlan
 pub mod SameAsSmall
-pub mod AcceptanceTests
 pub mod LentFaults

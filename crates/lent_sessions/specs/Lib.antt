@@ -12,4 +12,3 @@ pub mod SameAsSmall
 pub mod LentTurnPlan
 pub mod LentDemand3
 pub mod LentShorterPromise
-pub mod LentRuns

@@ -5,8 +5,7 @@ use mathlib.Core.Path.{_≡_, refl, sym, ap, _∙_}
 use Prim.Native.Nat.{ℕ, _+_, _-_, _%_, _^_, _≤_, _<_}
 use native.Mathlib.Nat.{mod-add-mod}
 use native.Mathlib.Omega.{arith}
-use lib.ListN.{length, getD, take, drop, length-append, length-drop}
-use lib.Seq.{take-add, drop-cons}
+use lib.ListN.{length, take, drop, length-append}
 use Rattle.answers.specs.ReplyLength.{replyRoom}
 use Rattle.responder.specs.Written.{inArray}
 use Rattle.answers.specs.Replies.{Reply}

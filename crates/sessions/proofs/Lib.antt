@@ -31,7 +31,5 @@ pub mod Promised
 pub mod Demand3
 pub mod ShorterPromise
 pub mod TurnPlan
-pub mod AcceptanceTests
-pub mod ShorterRuns
 pub mod FaultTable
 pub mod FaultRows

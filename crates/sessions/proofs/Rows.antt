@@ -9,6 +9,10 @@ use mathlib.Core.List.{List, _∷_}
 use mathlib.Core.Bool.{Bool, true}
 use Prim.Native.Nat.{ℕ}
 use lib.ListN.{length}
+use Rattle.requests.specs.declared.Entry.{Entry}
+use Rattle.requests.specs.declared.Opening.{Opening}
+use Rattle.requests.specs.declared.Setup.{Setup}
+use Rattle.requests.specs.declared.Request.{Request}
 use Rattle.requests.specs.declared.Refusal.{Refusal}
 use Rattle.requests.specs.declared.Refusal.the-variants.{BadOpening, BadId, IdWaiting, IdNotWaiting, KindNotOnDevice, NotListed, OutOfRange, Incomplete, Conflicting, NoPlanAlone, QueueFull, SliceTooShort}
 use Rattle.requests.specs.Bits.{inList}
@@ -49,20 +53,20 @@ row : (A : ℕ → Type 0) (x : Refusal) {condition : Bool} {P : Type 0} {rows :
     → (condition ≡ true) ↔ P → (P → A (numberOf x)) → (A (numberOf x) → P) → Exact A rows → Exact A ((condition, x) ∷ rows)
 row A x test applies fact rest = cons (λ h. applies (test .0 h), λ a. test .1 (fact a)) rest
 
-exact : (limit : ℕ) (p : Plain) (c : Call) → Exact (Applies limit p c) (table limit p c)
-unfolding table beforeOpen onceOpen rowsWhere openingTable addRows requestRows dropRows turnRows turnsRows numberOf
-exact limit notOpen (Open o) =
+-- the rows of an open
+open-exact : (limit : ℕ) (o : Opening) → Exact (Applies limit notOpen (Open o)) (table limit notOpen (Open o))
+unfolding table beforeOpen rowsWhere openingTable numberOf
+open-exact limit o =
     let A : ℕ → Type 0 = Applies limit notOpen (Open o) in
     row A BadOpening (device-row o) (λ h. no-device h) (λ a. elim a [ no-device h ↦ h ])
     (row A KindNotOnDevice (kind-row o) (λ h. asked-elsewhere (h .0) (h .1)) (λ a. elim a [ asked-elsewhere h n ↦ (h, n) ])
     (row A OutOfRange (range-row o) (λ h. asked-outside h) (λ a. elim a [ asked-outside h ↦ h ])
     nil))
-exact limit notOpen (Add id r) = cons (always add-before) nil
-exact limit notOpen (Drop id) = cons (always drop-before) nil
-exact limit notOpen (Turn room) = cons (always turn-before) nil
-exact limit notOpen (Turns n room places) = cons (always turns-before) nil
-exact limit (opened s q) (Open o) = cons (always second-open) nil
-exact limit (opened s q) (Add id r) =
+
+-- of an add
+add-exact : (limit : ℕ) (s : Setup) (q : List Entry) (id : ℕ) (r : Request) → Exact (Applies limit (opened s q) (Add id r)) (table limit (opened s q) (Add id r))
+unfolding table onceOpen addRows requestRows numberOf
+add-exact limit s q id r =
     let A : ℕ → Type 0 = Applies limit (opened s q) (Add id r) in
     row A BadId (id-test id) (λ h. add-id h) (λ a. elim a [ add-id h ↦ h ])
     (row A IdWaiting (waits-test id q) (λ h. id-waits h) (λ a. elim a [ id-waits h ↦ h ])
@@ -74,19 +78,44 @@ exact limit (opened s q) (Add id r) =
     (row A NoPlanAlone (alone-test s r) (λ h. alone h) (λ a. elim a [ alone h ↦ h ])
     (row A QueueFull (full-test limit (length q)) (λ h. full h) (λ a. elim a [ full h ↦ h ])
     nil))))))))
-exact limit (opened s q) (Drop id) =
+
+-- of a drop
+drop-exact : (limit : ℕ) (s : Setup) (q : List Entry) (id : ℕ) → Exact (Applies limit (opened s q) (Drop id)) (table limit (opened s q) (Drop id))
+unfolding table onceOpen dropRows numberOf
+drop-exact limit s q id =
     let A : ℕ → Type 0 = Applies limit (opened s q) (Drop id) in
     row A BadId (id-test id) (λ h. drop-id h) (λ a. elim a [ drop-id h ↦ h ])
     (row A IdNotWaiting (not-test (waits-test id q)) (λ h. id-not-waits h) (λ a. elim a [ id-not-waits h ↦ h ])
     nil)
-exact limit (opened s q) (Turn room) =
+
+-- of a turn
+turn-exact : (limit : ℕ) (s : Setup) (q : List Entry) (room : ℕ) → Exact (Applies limit (opened s q) (Turn room)) (table limit (opened s q) (Turn room))
+unfolding table onceOpen turnRows numberOf
+turn-exact limit s q room =
     row (Applies limit (opened s q) (Turn room)) SliceTooShort (short-test s q room) (λ h. short (h .1) (h .2)) (λ a. elim a [ short {ps = ps} f l ↦ (ps, f, l) ])
     nil
-exact limit (opened s q) (Turns n room places) =
+
+-- of turns at once
+turns-exact : (limit : ℕ) (s : Setup) (q : List Entry) (n room places : ℕ) → Exact (Applies limit (opened s q) (Turns n room places)) (table limit (opened s q) (Turns n room places))
+unfolding table onceOpen turnsRows numberOf
+turns-exact limit s q n room places =
     let A : ℕ → Type 0 = Applies limit (opened s q) (Turns n room places) in
     row A OutOfRange (many-test n) (λ h. many h) (λ a. elim a [ many h ↦ h ])
     (row A SliceTooShort (turns-short-test s q n room places) (λ h. elim h [ inl t ↦ lists-short (t .1) (t .2) | inr l ↦ ends-short l ]) (λ a. elim a [ lists-short {lists = ls} f l ↦ inl (ls, f, l) | ends-short l ↦ inr l ])
     nil)
+
+exact : (limit : ℕ) (p : Plain) (c : Call) → Exact (Applies limit p c) (table limit p c)
+unfolding table beforeOpen onceOpen numberOf
+exact limit notOpen (Open o) = open-exact limit o
+exact limit notOpen (Add id r) = cons (always add-before) nil
+exact limit notOpen (Drop id) = cons (always drop-before) nil
+exact limit notOpen (Turn room) = cons (always turn-before) nil
+exact limit notOpen (Turns n room places) = cons (always turns-before) nil
+exact limit (opened s q) (Open o) = cons (always second-open) nil
+exact limit (opened s q) (Add id r) = add-exact limit s q id r
+exact limit (opened s q) (Drop id) = drop-exact limit s q id
+exact limit (opened s q) (Turn room) = turn-exact limit s q room
+exact limit (opened s q) (Turns n room places) = turns-exact limit s q n room places
 
 numbered : {limit n : ℕ} {p : Plain} {c : Call} → Applies limit p c n → inList (numbers (table limit p c)) n ≡ true
 unfolding table beforeOpen onceOpen rowsWhere openingTable addRows requestRows dropRows turnRows turnsRows numberOf inList either

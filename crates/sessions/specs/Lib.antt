@@ -25,7 +25,3 @@ pub mod LoneRequests
 pub mod Demand3
 pub mod Demand3From
 pub mod ShorterPromise
-pub mod Runs
-pub mod TurnsRuns
-pub mod LoneRuns
-pub mod ShorterRuns

@@ -6,9 +6,9 @@ use lib.ListN.{replicate}
 use Rattle.requests.specs.Askings.{unasked}
 use Rattle.requests.specs.declared.CounterSet.{CounterSet}
 use Rattle.requests.specs.declared.Request.the-variants.{Event, Packet}
 use Rattle.sessions.specs.Calls.{Call, Open, Add}
 use Rattle.sessions.specs.Sessions.{newSession, sessionAfter, turnsSlice, turnsEnds}
-use Rattle.sessions.specs.Runs.{upTo}
+use Rattle.runs.specs.Runs.{upTo}
 
 -- n turns at once after these calls, with slices of so many sevens, and what these are to hold afterwards
 pub record Shift : Type 0 where

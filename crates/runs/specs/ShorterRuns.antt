@@ -16,12 +16,12 @@ use Rattle.requests.specs.Askings.{unasked}
 use Rattle.requests.specs.Choice.{either, pick}
 use Rattle.requests.specs.Devices.{openingOf}
 use Rattle.plans.specs.Lists.{All}
 use Rattle.sessions.specs.Calls.{Call, Open, Add, Drop, Turn, Turns, notOpen}
 use Rattle.sessions.specs.Sessions.{queueLimit, newSession}
 use Rattle.sessions.specs.Completed.{smallSession, CompletedTurn, turnsOf}
 use Rattle.sessions.specs.ShorterPromise.{rounds, FreeAhead}
-use Rattle.sessions.specs.Runs.{upTo}
+use Rattle.runs.specs.Runs.{upTo}
 use Rattle.sessions.specs.declared.Assigned.{Assigned}
 
 -- ---- a place in a list of calls
 

@@ -9,9 +9,9 @@ use Rattle.requests.specs.declared.CounterSet.{CounterSet}
 use Rattle.requests.specs.declared.Request.{Request}
 use Rattle.requests.specs.declared.Request.the-variants.{Event}
 use Rattle.plans.specs.declared.Place.the-variants.{Counter}
 use Rattle.sessions.specs.Calls.{Call, Open, Add, Turn}
-use Rattle.sessions.specs.Runs.{Run, outcomeOf, upTo}
+use Rattle.runs.specs.Runs.{Run, outcomeOf, upTo}
 use Rattle.sessions.specs.declared.Assigned.{Assigned}
 
 abbrev set : ℕ → CounterSet
 set n = record { 0 = n }

@@ -23,9 +23,9 @@ use Rattle.requests.proofs.Tests.{every-at}
 use Rattle.plans.specs.Lists.{All, nil, cons}
 use Rattle.plans.specs.Legal.{Usable}
 use Rattle.plans.specs.Parts.{Free, event}
 use Rattle.sessions.specs.ShorterPromise.{countersNeeded, FreeAhead}
-use Rattle.sessions.specs.ShorterRuns.{Waits, entriesFrom, aheadOf, Claimed, tight, Tight, outside, Outside}
-use Rattle.sessions.proofs.AcceptanceTests.{tight-turns, tight-bounds, outside-turns, outside-bounds}
+use Rattle.runs.specs.ShorterRuns.{Waits, entriesFrom, aheadOf, Claimed, tight, Tight, outside, Outside}
+use Rattle.runs.proofs.AcceptanceTests.{tight-turns, tight-bounds, outside-turns, outside-bounds}
 
 abbrev covers : Setup → CounterSet → ℕ → Bool
 covers s a k = either (not (has (s .usable) k)) (has a k)

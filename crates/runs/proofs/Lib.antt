@@ -1,0 +1,2 @@
+pub mod AcceptanceTests
+pub mod ShorterRuns
