@@ -28,6 +28,7 @@ pub mod PlacedEvents
 pub mod PlanFilters
 pub mod PlanTold
 pub mod LeftValues
+pub mod LatencyHeld
 pub mod WritesAtRest
 pub mod FiltersAtRest
 pub mod RestWhileWritten

@@ -24,7 +24,8 @@ use Rattle.requests.specs.WellFormedRequests.{CountersOf, Described, offcore}
 use Rattle.requests.proofs.Tests.{both-ways, every-at, either-false, either-cases, either-left, either-right}
 use Rattle.requests.proofs.BitLists.{in-append, reserved}
 use Rattle.requests.proofs.BitMembers.{member-in, none-of-has}
-use Rattle.layouts.proofs.WordBits.{bit-above, bit-more, below-bits, only-below, only-cases, bits-only, only-more, any-more}
+use Rattle.requests.proofs.Words.{bit-more}
+use Rattle.layouts.proofs.WordBits.{bit-above, below-bits, only-below, only-cases, bits-only, only-more, any-more}
 
 -- a longer list has more
 listed-left : (xs ys : List ℕ) (k : ℕ) → inList xs k ≡ true → inList (xs ++ ys) k ≡ true

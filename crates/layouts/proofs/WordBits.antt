@@ -1,4 +1,4 @@
--- Laws of the bits of a word: of words that agree in their high part, of a word with one bit more, of a word made of two parts, and of words with bits of a list only. Assumes nothing.
+-- Laws of the bits of a word: of words that agree in their high part, of a word made of two parts, and of words with bits of a list only. Assumes nothing.
 use mathlib.Core.Path.{_≡_, refl, ap, sym, _∙_}
 use mathlib.Core.Logic.{_⊎_, inl, inr, ⊎-elim}
 use mathlib.Core.Bool.{Bool, true, false, not}
@@ -7,12 +7,12 @@ use Prim.Native.Nat.{ℕ, zero, suc, _+_, _*_, _-_, _/_, _%_, _^_, _≤_, _<_}
 use native.Mathlib.Nat.{pow-succ', div-eq-of-lt, zero-div, div-lt-iff-lt-mul, div-one, zero-add, suc-add, add-zero, mul-comm, mul-assoc, mul-add-div-right, mod-lt, div-add-mod'}
 use native.Mathlib.Decide.{decLt}
 use native.Mathlib.Omega.{arith}
-use lib.Dec.{eqb, ltb, eqb·suc-suc}
+use lib.Dec.{ltb}
 use lib.Pow.{pow-pos, pow-mono, shr-shr}
-use borrow.Author.Tests.{eqb-false, ne-eqb, ltb-true, lt-ltb, le-ltb}
+use borrow.Author.Tests.{eqb-false, ltb-true, lt-ltb, le-ltb}
 use Rattle.requests.specs.Choice.{both, either}
 use Rattle.requests.specs.Bits.{bit, inList, anyBit, onlyBits}
-use Rattle.requests.proofs.Tests.{either-false, both-parts, either-cases, true-both, either-left, either-right, every-true}
+use Rattle.requests.proofs.Tests.{both-parts, either-cases, true-both, either-left, either-right, every-true}
 use Rattle.requests.proofs.BitLists.{reserved}
 use Rattle.requests.proofs.Words.{half-div}
 
@@ -31,21 +31,6 @@ unfolding bit
 bit-high n k v w l e =
     let p : n + (k - n) ≡ k = omega arith in
     rw (← p, ← shr-shr v n (k - n), ← shr-shr w n (k - n), e)
-
--- a word with one bit more, above its others
-pub bit-more : (j k w : ℕ) → w < 2 ^ j → bit k (w + 2 ^ j) ≡ either (bit k w) (eqb j k)
-unfolding bit either
-bit-more zero zero w l = let e : w ≡ 0 = omega arith in rw e
-bit-more (suc j) zero w l =
-    let e : (w + 2 ^ suc j) / 1 % 2 ≡ w / 1 % 2 = rw (div-one (w + 2 ^ suc j), div-one w) (omega (arith, pow-succ' 2 j)) in
-    rw (e, ne-eqb (suc j) 0 (λ q. omega arith)) (sym (either-false (eqb (w / 1 % 2) 1)))
-bit-more zero (suc k) w l =
-    let e : w ≡ 0 = omega arith in
-    let p : 1 < 2 ^ suc k = omega (arith, pow-succ' 2 k, pow-pos k) in
-    rw (e, div-eq-of-lt p, zero-div (2 ^ suc k), ne-eqb 0 (suc k) (λ q. omega arith))
-bit-more (suc j) (suc k) w l =
-    let e : (w + 2 ^ suc j) / 2 ≡ w / 2 + 2 ^ j = omega (arith, pow-succ' 2 j) in
-    rw (half-div k (w + 2 ^ suc j), half-div k w, e, eqb·suc-suc j k) (bit-more j k (w / 2) (omega (arith, pow-succ' 2 j)))
 
 -- a word made of two parts, the high one from bit n on: below n its bits are those of the low part, from there on those of the high one
 doubled : (n f : ℕ) → f * 2 ^ suc n ≡ f * 2 ^ n * 2

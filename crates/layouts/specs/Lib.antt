@@ -8,6 +8,7 @@ pub mod Told
 pub mod PermittedBits
 pub mod CBoxAddresses
 pub mod NoReservedBit
+pub mod LatencyHeld
 pub mod OthersUntouched
 pub mod FixedEnables
 pub mod UsedEnabled

@@ -19,6 +19,7 @@ pub mod CatalogueRows
 pub mod ExactRows
 pub mod Passes
 pub mod WellFormed
+pub mod LatencyWords
 pub mod PrintedEvents
 pub mod CBoxPages
 pub mod RuledEvents

@@ -1,12 +1,12 @@
--- Laws of a word's bits: the bits of `&`, and a word as its lowest bits. Assumes nothing.
+-- Laws of a word's bits: the bits of `&`, a word as its lowest bits, and a word with one bit more. Assumes nothing.
 use mathlib.Core.Path.{_≡_, refl, ap, sym, _∙_}
 use mathlib.Core.Bool.{Bool, true, false, not}
 use Prim.Native.Nat.{ℕ, zero, suc, _+_, _*_, _/_, _%_, _^_, _<_, _≤_, min}
-use native.Mathlib.Nat.{div-div-eq-div-mul, pow-succ', div-eq-of-lt, lt-of-lt-of-le, lt-of-le-of-lt, zero-min, min-le-left, mod-lt}
+use native.Mathlib.Nat.{div-div-eq-div-mul, pow-succ', div-eq-of-lt, div-one, zero-div, lt-of-lt-of-le, lt-of-le-of-lt, zero-min, min-le-left, mod-lt}
 use native.Mathlib.Omega.{arith}
 use lib.Arith.{digits-mod}
 use lib.Bits.{bitAnd, and-step, and-shr}
-use lib.Dec.{eqb}
+use lib.Dec.{eqb, eqb·suc-suc}
 use lib.Pow.{pow-mono, pow-pos, mod-pow-add}
 use borrow.Author.Tests.{eq-eqb, ne-eqb, eqb-true, eqb-false}
 use Rattle.requests.specs.Choice.{both, either}
@@ -103,3 +103,18 @@ same-more k a b = go (bit k a) (bit k b) refl refl
     go false false g h = rw (low-false k a g, low-false k b h) (sym (both-true _))
     go true false g h = rw (low-true k a g, low-false k b h, ne-eqb (2 ^ k + a % 2 ^ k) (b % 2 ^ k) (λ e. omega (arith, e, below b))) (sym (both-false _))
     go false true g h = rw (low-false k a g, low-true k b h, ne-eqb (a % 2 ^ k) (2 ^ k + b % 2 ^ k) (λ e. omega (arith, e, below a))) (sym (both-false _))
+
+-- a word with one bit more, above its others
+pub bit-more : (j k w : ℕ) → w < 2 ^ j → bit k (w + 2 ^ j) ≡ either (bit k w) (eqb j k)
+unfolding bit either
+bit-more zero zero w l = let e : w ≡ 0 = omega arith in rw e
+bit-more (suc j) zero w l =
+    let e : (w + 2 ^ suc j) / 1 % 2 ≡ w / 1 % 2 = rw (div-one (w + 2 ^ suc j), div-one w) (omega (arith, pow-succ' 2 j)) in
+    rw (e, ne-eqb (suc j) 0 (λ q. omega arith)) (sym (either-false (eqb (w / 1 % 2) 1)))
+bit-more zero (suc k) w l =
+    let e : w ≡ 0 = omega arith in
+    let p : 1 < 2 ^ suc k = omega (arith, pow-succ' 2 k, pow-pos k) in
+    rw (e, div-eq-of-lt p, zero-div (2 ^ suc k), ne-eqb 0 (suc k) (λ q. omega arith))
+bit-more (suc j) (suc k) w l =
+    let e : (w + 2 ^ suc j) / 2 ≡ w / 2 + 2 ^ j = omega (arith, pow-succ' 2 j) in
+    rw (half-div k (w + 2 ^ suc j), half-div k w, e, eqb·suc-suc j k) (bit-more j k (w / 2) (omega (arith, pow-succ' 2 j)))

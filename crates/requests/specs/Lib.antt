@@ -13,6 +13,7 @@ pub mod Faults
 pub mod Openings
 pub mod RefusedRequests
 pub mod WellFormedRequests
+pub mod LatencyWords
 pub mod FaultFields
 pub mod PrintedEvents
 pub mod CBoxPages
