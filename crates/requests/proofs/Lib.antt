@@ -14,6 +14,7 @@ pub mod HalvedLookups
 pub mod Roles
 pub mod FirstHolding
 pub mod AcceptanceTests
+pub mod CheckOrder
 pub mod BitMembers
 pub mod CatalogueRows
 pub mod ExactRows

@@ -10,6 +10,7 @@ pub mod EventRules
 pub mod Checks
 pub mod Faults
 -- Statements: what is claimed of it.
+pub mod CheckOrder
 pub mod Openings
 pub mod RefusedRequests
 pub mod WellFormedRequests
