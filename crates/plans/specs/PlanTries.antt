@@ -105,6 +105,15 @@ planTries =
     ∷ row G 15 (Latency 0x0001 (set 4) (set 4) ∷ []) none
     ∷ row G 15 (Latency 0x0001 (set 4) (set 8) ∷ []) (some (pair 2 3 ∷ []))
     ∷ row G 15 (Latency 0x0001 (set 8) (set 4) ∷ []) (some (pair 3 2 ∷ []))
+    -- an offcore request stands at a counter that it allows, and waits where that is taken, though its word is held
+    ∷ row G 15 (Offcore 0x10001 (set 4) ∷ []) (some (counterRsp 2 0 ∷ []))
+    ∷ row G 15 (Offcore 0x10001 (set 8) ∷ Offcore 0x10001 (set 8) ∷ []) none
+    ∷ row G 15 (offcore 0x10001 ∷ Offcore 0x10002 (set 1) ∷ []) (some (counterRsp 1 0 ∷ counterRsp 0 1 ∷ []))
+    -- usable sets with gaps
+    ∷ row G 10 (latency 0x0001 ∷ []) (some (pair 1 3 ∷ []))
+    ∷ row G 10 (latency 0x0001 ∷ offcore 0x10001 ∷ []) none
+    ∷ row G 13 (instructions 15 ∷ offcore 0x10002 ∷ cycles 15 ∷ []) (some (counter 0 ∷ counterRsp 2 0 ∷ counter 3 ∷ []))
+    ∷ row G 9 (Offcore 0x10001 (set 6) ∷ []) none
     -- two latency requests share both registers where their types are equal
     ∷ row G 15 (latency 0x0001 ∷ latency 0x0001 ∷ []) (some (pair 0 1 ∷ pair 2 3 ∷ []))
     ∷ row G 15 (latency 0x0001 ∷ latency 0x0002 ∷ []) none
