@@ -13,6 +13,7 @@ pub mod Rank
 pub mod Rearranged
 pub mod Removed
 pub mod Steps
+pub mod DropsCounted
 pub mod Accepted
 pub mod QueueRules
 pub mod SoundKept

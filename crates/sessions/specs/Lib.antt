@@ -22,6 +22,7 @@ pub mod DistinctIds
 pub mod WellFormed
 pub mod HeadTaken
 pub mod LoneRequests
+pub mod DropsCounted
 pub mod Demand3
 pub mod Demand3From
 pub mod ShorterPromise
