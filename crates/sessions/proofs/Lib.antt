@@ -27,6 +27,7 @@ pub mod Answers
 pub mod Faithful
 pub mod SmallSession
 pub mod TurnByTurn
+pub mod PlanOrder
 pub mod Given
 pub mod Promised
 pub mod Demand3

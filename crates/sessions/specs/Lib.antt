@@ -17,6 +17,7 @@ pub mod QueueRules
 pub mod TurnByTurn
 pub mod Taking
 pub mod TurnPlan
+pub mod PlanOrder
 pub mod Agreement
 pub mod DistinctIds
 pub mod WellFormed
