@@ -5,6 +5,8 @@ use mathlib.Core.List.{List, List·Memᴰ}
 use Prim.Native.Nat.{ℕ, _+_, _<_}
 use lib.Dec.{ltb}
 use Rattle.requests.specs.Choice.{both}
+use Rattle.requests.specs.declared.Device.{Device}
+use Rattle.requests.specs.declared.Device.the-variants.{G, S, C, B}
 use Rattle.requests.specs.declared.Setup.{Setup}
 use Rattle.requests.specs.declared.Request.{Request}
 use Rattle.requests.specs.Bits.{bit}
@@ -13,10 +15,10 @@ use Rattle.requests.proofs.Tests.{either-left}
 use Rattle.plans.specs.declared.Place.{Place}
 use Rattle.plans.specs.Legal.{Legal}
 use Rattle.plans.proofs.Sets.{all-imp}
-use Rattle.layouts.specs.Layout.{layoutOf, pebsAt, pebsOn}
+use Rattle.layouts.specs.Layout.{layoutOf, filtersAt, rsp0At, rsp1At, mmCfgAt, matchAt, maskAt, pebsAt, pebsOn}
 use Rattle.layouts.specs.Settings.{settingsOf}
 use Rattle.layouts.specs.Writes.{firstGlobal, lastGlobal, preciseWrites, writes, apply}
-use Rattle.layouts.specs.OthersUntouched.{Ours, global, filter, control, counter, ubox, pebs, OthersUntouched}
+use Rattle.layouts.specs.OthersUntouched.{Ours, global, filter, control, counter, ubox, pebs, filterAddresses, OthersUntouched}
 use Rattle.layouts.proofs.ListLaws.{all-member}
 use Rattle.layouts.proofs.DeviceFacts.{in-room, apart, pebs-of}
 use Rattle.layouts.proofs.RegistersAfter.{apply-after, after-other, filter-addresses, precise-addresses, row-all, box-all, writes-all}
@@ -69,5 +71,12 @@ fixed : (s : Setup) (rs : List Request) (ps : List Place) → Legal s rs ps
 fixed s rs ps legal v k m =
     global-all s rs ps (λ x. bit (32 + k) x ≡ both (ltb k (fixedCount (s .device))) (bit k (s .fixed))) (first-fixed s k) (last-fixed s rs ps legal k) v m
 
+filters : (d : Device) → filtersAt d ≡ filterAddresses d
+unfolding filtersAt rsp0At rsp1At mmCfgAt matchAt maskAt
+filters G = refl
+filters S = refl
+filters (C b) = refl
+filters B = refl
+
 pub others-untouched : OthersUntouched
-others-untouched = record { kept = kept; enabled = enabled; fixed = fixed }
+others-untouched = record { filters = filters; kept = kept; enabled = enabled; fixed = fixed }

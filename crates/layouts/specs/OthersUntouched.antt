@@ -1,12 +1,13 @@
 -- "Every other counter belongs to somebody else. The filter registers belong wholly to the session." And order 2: "every write to 038F
 -- carries" the enables of the fixed counters.
 use mathlib.Core.Path.{_≡_}
-use mathlib.Core.List.{List, List·Memᴰ}
+use mathlib.Core.List.{List, [], _∷_, List·Memᴰ}
 use mathlib.Core.Bool.{true, false}
 use Prim.Native.Nat.{ℕ, _+_, _<_}
 use lib.Dec.{ltb}
 use Rattle.requests.specs.Choice.{both}
-use Rattle.requests.specs.declared.Device.the-variants.{B}
+use Rattle.requests.specs.declared.Device.{Device}
+use Rattle.requests.specs.declared.Device.the-variants.{G, S, C, B}
 use Rattle.requests.specs.declared.Setup.{Setup}
 use Rattle.requests.specs.declared.Request.{Request}
 use Rattle.requests.specs.Bits.{bit}
@@ -28,7 +29,16 @@ pub data Ours (s : Setup) : ℕ → Type 0 where
   -- order 12: "That register belongs wholly to the session"
   pebs : s .device ≡ B → Ours s pebsAt
 
+-- the addresses of the filter registers: MSR_OFFCORE_RSP0 and RSP1; S_MSR_MM_CFG, MATCH and MASK; none
+abbrev pub filterAddresses : Device → List ℕ
+filterAddresses G = 0x01A6 ∷ 0x01A7 ∷ []
+filterAddresses S = 0x0E48 ∷ 0x0E49 ∷ 0x0E4A ∷ []
+filterAddresses (C b) = []
+filterAddresses B = []
+
 pub record OthersUntouched : Type 0 where
+  -- these are the filter registers that are ours, and no others
+  pub filters : (d : Device) → filtersAt d ≡ filterAddresses d
   -- every other register keeps its value
   pub kept : (s : Setup) (rs : List Request) (ps : List Place) → Legal s rs ps
       → (registers : ℕ → ℕ) (a : ℕ) → ¬ Ours s a → apply (writes s rs ps) registers a ≡ registers a
