@@ -22,10 +22,10 @@ use Rattle.plans.specs.declared.Place.{Place}
 use Rattle.plans.specs.Lists.{All}
 use Rattle.plans.specs.Legal.{Legal, Usable, counters}
 use Rattle.layouts.specs.Layout.{layoutOf, controlAt}
-use Rattle.layouts.specs.Writes.{writes, apply}
+use Rattle.layouts.specs.Writes.{Write, writes, apply}
 use Rattle.layouts.specs.Read.{accepts}
 use Rattle.layouts.specs.ExactReader.{LeavesValues}
-use Rattle.layouts.specs.PreciseEvents.{TakesPdir, Enables, WrittenLast, without, onG, AcceptedOnB, PreciseEvents}
+use Rattle.layouts.specs.PreciseEvents.{TakesPdir, Enables, WrittenLast, Without, onG, AcceptedOnB, PreciseEvents}
 use Rattle.layouts.specs.declared.RegisterValues.{RegisterValues}
 use Rattle.layouts.proofs.UsableSets.{on}
 use Rattle.layouts.proofs.FormedRequests.{describe-all}
@@ -73,7 +73,7 @@ precise-events =
     record {
       written = λ s rs ps e. by-device (λ s. All (Formed s) rs → Legal s rs ps → WrittenLast rs (writes s rs ps)) (λ u f l. written-last u rs ps (describe-all (on B u) f) l) s e;
       elsewhere = not-written;
-      otherwise-as-on-G = λ s rs ps e. by-device (λ s. without (0x03F1 ∷ []) (writes s rs ps) ≡ without (0x01A6 ∷ 0x01A7 ∷ []) (writes (onG s) rs ps)) (λ u. otherwise-same u rs ps) s e;
+      otherwise-as-on-G = λ s rs ps e. by-device (λ s. (rest : List Write) × Without (0x03F1 ∷ []) (writes s rs ps) rest × Without (0x01A6 ∷ 0x01A7 ∷ []) (writes (onG s) rs ps) rest) (λ u. otherwise-same u rs ps) s e;
       quiet = λ s rs ps e. by-device (λ s. Legal s rs ps → TakesPdir rs → (registers : ℕ → ℕ) (k : ℕ) → k < 4 → k ≢ 1
           → (apply (writes s rs ps) registers (0x0186 + k) ≡ 0) × (bit k (apply (writes s rs ps) registers 0x038F) ≡ false)) (λ u. quiet u rs ps) s e;
       read = λ s v e. by-device (λ s. (plan : LeavesValues s v) → Enables (plan .requests) (v .pebs)) (λ u. plan-read u v) s e;

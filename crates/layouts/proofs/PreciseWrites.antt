@@ -1,10 +1,10 @@
 -- IA32_PEBS_ENABLE in the write list: where it stands, and that the list is otherwise G's. Assumes nothing.
 --     written-last   it is the write before the last, on B
 --     not-written    and none on another device
---     otherwise-same the list without it is G's without the filter registers
+--     otherwise-same the list without it is G's without the filter registers, by the function `without`
 use mathlib.Core.Path.{_≡_, refl, sym, ap, subst, _∙_, fun-ext}
 use mathlib.Core.Logic.{_≢_}
-use mathlib.Core.Bool.{Bool, true, false}
+use mathlib.Core.Bool.{Bool, true, false, true≢false}
 use mathlib.Core.List.{List, [], _∷_, _++_, append-assoc}
 use Prim.Native.Nat.{ℕ, _<_}
 use native.Mathlib.Omega.{arith}
@@ -21,6 +21,7 @@ use Rattle.requests.specs.Bits.{inList}
 use Rattle.requests.specs.Askings.{overflowOn, asked}
 use Rattle.requests.specs.Devices.{capacity, counterCount, allCounters, fixedCount}
 use Rattle.requests.specs.WellFormedRequests.{Described}
+use Rattle.requests.proofs.BitMembers.{in-member, member-in}
 use Rattle.plans.specs.declared.Place.{Place}
 use Rattle.plans.specs.Lists.{All, nil, cons}
 use Rattle.plans.specs.Legal.{Legal, ofAll}
@@ -28,7 +29,7 @@ use Rattle.plans.proofs.Sets.{all-append, all-imp}
 use Rattle.layouts.specs.Layout.{tabulate, layoutOf, controlAt, counterAt, filtersAt, rsp0At, rsp1At, pebsAt, pebsOn, enabled, enabledOn, eventWord, rspWord, packetWord}
 use Rattle.layouts.specs.Settings.{usesOf, wordAt, settingsOf}
 use Rattle.layouts.specs.Writes.{Write, rows, zeros, fixedEnables, unusable, firstGlobal, lastGlobal, offcoreWrites, filterWrites, pebsEnable, preciseWrites, boxWrites, writes}
-use Rattle.layouts.specs.PreciseEvents.{Enables, WrittenLast, without}
+use Rattle.layouts.specs.PreciseEvents.{Enables, WrittenLast, Without, nothing, left-out, kept}
 use Rattle.layouts.specs.declared.Settings.{Settings}
 use Rattle.layouts.proofs.UsableSets.{on}
 use Rattle.layouts.proofs.ListLaws.{all-member}
@@ -117,7 +118,21 @@ not-written s rs ps other =
 
 -- ---- the rest of the list
 
+unfoldable without : List ℕ → List Write → List Write
+without addresses [] = []
+without addresses (w ∷ ws) = pick (inList addresses (w .0)) (without addresses ws) (w ∷ without addresses ws)
+
 module _ (addresses : List ℕ) where
+  without-rest : (ws : List Write) → Without addresses ws (without addresses ws)
+  unfolding without
+  without-rest [] = nothing
+  without-rest (w ∷ ws) = go (inList addresses (w .0)) refl (without-rest ws)
+    where
+      go : (b : Bool) → inList addresses (w .0) ≡ b → Without addresses ws (without addresses ws)
+          → Without addresses (w ∷ ws) (pick b (without addresses ws) (w ∷ without addresses ws))
+      go true e rest = left-out (in-member addresses (w .0) e) rest
+      go false e rest = kept (λ m. true≢false (sym (member-in addresses (w .0) m) ∙ e)) rest
+
   without-append : (xs ys : List Write) → without addresses (xs ++ ys) ≡ without addresses xs ++ without addresses ys
   unfolding without
   without-append [] ys = refl
@@ -209,10 +224,10 @@ unfolding settingsOf
 words-same u rs ps =
     ap (λ (f : Request → Place → List (ℕ × ℕ)). tabulate capacity (wordAt (ofAll f rs ps))) (fun-ext (λ r. fun-ext (λ p. uses-same u r p)))
 
-pub otherwise-same : (u : Setup) (rs : List Request) (ps : List Place)
+same-rest : (u : Setup) (rs : List Request) (ps : List Place)
     → without (0x03F1 ∷ []) (writes (on B u) rs ps) ≡ without (0x01A6 ∷ 0x01A7 ∷ []) (writes (on G u) rs ps)
 unfolding writes pebsAt rsp0At rsp1At layoutOf counterCount allCounters fixedCount firstGlobal lastGlobal fixedEnables unusable settingsOf
-otherwise-same u rs ps =
+same-rest u rs ps =
     let b = settingsOf (on B u) rs ps in
     let g = settingsOf (on G u) rs ps in
     let l = layoutOf G in
@@ -228,3 +243,13 @@ otherwise-same u rs ps =
     ∙ box-without (on B u) b (pebsAt ∷ []) b-foreign (b-filters b) (b-precise b)
     ∙ ap others (words-same u rs ps)
     ∙ sym (ap (without (rsp0At ∷ rsp1At ∷ [])) (unasked-writes (on G u) g (g-unasked u)) ∙ box-without (on G u) g (rsp0At ∷ rsp1At ∷ []) g-foreign (g-filters g) (g-precise g))
+
+pub otherwise-same : (u : Setup) (rs : List Request) (ps : List Place)
+    → (rest : List Write) × Without (0x03F1 ∷ []) (writes (on B u) rs ps) rest × Without (0x01A6 ∷ 0x01A7 ∷ []) (writes (on G u) rs ps) rest
+otherwise-same u rs ps =
+    let mine = writes (on B u) rs ps in
+    let theirs = writes (on G u) rs ps in (
+      without (0x03F1 ∷ []) mine,
+      without-rest (0x03F1 ∷ []) mine,
+      subst (Without (0x01A6 ∷ 0x01A7 ∷ []) theirs) (sym (same-rest u rs ps)) (without-rest (0x01A6 ∷ 0x01A7 ∷ []) theirs),
+    )

@@ -14,9 +14,8 @@ use Rattle.requests.specs.declared.Opening.{Opening}
 use Rattle.requests.specs.declared.Setup.{Setup}
 use Rattle.requests.specs.declared.Request.{Request}
 use Rattle.requests.specs.declared.Request.the-variants.{Event}
-use Rattle.requests.specs.Choice.{pick}
 use Rattle.requests.specs.Refusals.{answerNumber}
-use Rattle.requests.specs.Bits.{bit, inList}
+use Rattle.requests.specs.Bits.{bit}
 use Rattle.requests.specs.Devices.{setupOf}
 use Rattle.requests.specs.Checks.{Formed}
 use Rattle.plans.specs.declared.Place.{Place}
@@ -50,10 +49,11 @@ pub record WrittenLast (rs : List Request) (ws : List Write) : Type 0 where
   pub once : All (λ (w : Write). w .0 ≢ 0x03F1) earlier
   pub enables : Enables rs value
 
--- the list without the writes to the addresses
-unfoldable pub without : List ℕ → List Write → List Write
-without addresses [] = []
-without addresses (w ∷ ws) = pick (inList addresses (w .0)) (without addresses ws) (w ∷ without addresses ws)
+-- the rest of a list, in its order, without the writes to the addresses
+pub data Without (addresses : List ℕ) : List Write → List Write → Type 0 where
+  nothing : Without addresses [] []
+  left-out : {w : Write} {ws rest : List Write} → List·Memᴰ (w .0) addresses → Without addresses ws rest → Without addresses (w ∷ ws) rest
+  kept : {w : Write} {ws rest : List Write} → ¬ List·Memᴰ (w .0) addresses → Without addresses ws rest → Without addresses (w ∷ ws) (w ∷ rest)
 
 -- the same session on G
 abbrev pub onG : Setup → Setup
@@ -69,7 +69,7 @@ pub record PreciseEvents : Type 0 where
   -- and on no other device
   pub elsewhere : (s : Setup) (rs : List Request) (ps : List Place) → s .device ≢ B → All (λ (w : Write). w .0 ≢ 0x03F1) (writes s rs ps)
   pub otherwise-as-on-G : (s : Setup) (rs : List Request) (ps : List Place) → s .device ≡ B
-      → without (0x03F1 ∷ []) (writes s rs ps) ≡ without (0x01A6 ∷ 0x01A7 ∷ []) (writes (onG s) rs ps)
+      → (rest : List Write) × Without (0x03F1 ∷ []) (writes s rs ps) rest × Without (0x01A6 ∷ 0x01A7 ∷ []) (writes (onG s) rs ps) rest
   -- beside C0/01 no other counter has an event, nor is enabled
   pub quiet : (s : Setup) (rs : List Request) (ps : List Place) → s .device ≡ B → Legal s rs ps → TakesPdir rs
       → (registers : ℕ → ℕ) (k : ℕ) → k < 4 → k ≢ 1
