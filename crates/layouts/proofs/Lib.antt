@@ -43,6 +43,7 @@ pub mod FoundValues
 pub mod ExactReader
 pub mod FixedEnables
 pub mod UsedEnabled
+pub mod UsedCounts
 pub mod PreciseReadings
 pub mod PreciseEvents
 pub mod UBox

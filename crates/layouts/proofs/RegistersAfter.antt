@@ -1,6 +1,6 @@
 -- What a register holds after the write list of settings, from any registers: by `after`, the value at one address.
 --     apply-after, after-append, after-other   the value at an address, write by write
---     control-after, global-after, filter-after, precise-after   the registers of a device after `writesFor`
+--     control-after, counter-after, global-after, filter-after, precise-after   the registers of a device after `writesFor`
 --     box-all, writes-all                       what holds of every write of `boxWrites` and of `writesFor`
 --     inside-after, ubox-after                  the frame of the U-Box: other registers, and its own
 use mathlib.Core.Path.{_≡_, refl, sym, ap, ap₂, _∙_}
@@ -205,6 +205,23 @@ module _ (s : Setup) (t : Settings) where
 
   pub control-after : (k x : ℕ) → k < n → after (writesFor s t) (controlAt d k) x ≡ pick (has (t .used) k) (getD (t .words) k 0) (pick (has (s .usable) k) 0 x)
   control-after k x l = inside-after (controlAt d k) x (apart d .ubox-control k (in-room d k l)) ∙ control-inside k x l
+
+  counter-inside : (k x : ℕ) → k < n → after (boxWrites s t) (counterAt d k) x ≡ pick (has (t .used) k) 0 x
+  unfolding boxWrites controlAt counterAt zeros
+  counter-inside k x l =
+      let a = counterAt d k in
+      let lay = layoutOf d in
+      let apart-d = apart d in
+      let globals : (v : ℕ) (y : ℕ) → after ((lay .global, v) ∷ []) a y ≡ y = λ v y. after-other a y (cons (apart-d .global-counter k (in-room d k l)) nil) in
+      let controls : (u : CounterSet) (vs : List ℕ) (y : ℕ) → after (rows n u (lay .control) (lay .step) vs) a y ≡ y =
+      λ u vs y. after-other a y (rows-all (λ w. w .0 ≡ a → ⊥) u (lay .control) (lay .step) vs n (λ j b h e. apart-d .counter-control k j (in-room d k l) (in-room d j b) (sym e))) in
+      let filters : (y : ℕ) → after (filterWrites d t) a y ≡ y = λ y. after-other a y (filters-apart a (apart-d .filter-counter k (in-room d k l))) in
+      let counts = rows-at (t .used) (lay .counter) (lay .step) zeros (apart-d .counter-counter) n k x l in
+      let precise : (y : ℕ) → after (preciseWrites d t) a y ≡ y = λ y. precise-apart a y (apart-d .pebs-counter k (in-room d k l)) in
+      simp (after-append, globals, controls, filters, counts, zero-at capacity k, precise)
+
+  pub counter-after : (k x : ℕ) → k < n → after (writesFor s t) (counterAt d k) x ≡ pick (has (t .used) k) 0 x
+  counter-after k x l = inside-after (counterAt d k) x (apart d .ubox-counter k (in-room d k l)) ∙ counter-inside k x l
 
   global-inside : (x : ℕ) → after (boxWrites s t) (layoutOf d .global) x ≡ lastGlobal s (t .used .0)
   unfolding boxWrites

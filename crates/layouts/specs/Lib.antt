@@ -12,6 +12,7 @@ pub mod LatencyHeld
 pub mod OthersUntouched
 pub mod FixedEnables
 pub mod UsedEnabled
+pub mod UsedCounts
 pub mod UBox
 pub mod RestWhileWritten
 pub mod PreciseEvents
