@@ -1,5 +1,5 @@
 -- What a turn answers, and leaves in the arrays: refused before open, otherwise by what is parted. Assumes nothing.
-use mathlib.Core.Path.{_≡_, ap, sym, _∙_}
+use mathlib.Core.Path.{_≡_, refl, ap, sym, _∙_}
 use mathlib.Core.Bool.{true, false}
 use mathlib.Core.List.{List, _++_}
 use Prim.Native.Nat.{ℕ, _+_, _≤_, min}
@@ -7,9 +7,8 @@ use native.Mathlib.Omega.{arith}
 use lib.ListN.{length, take, drop, length-append, length-take}
 use lib.Seq.{take-add, drop-at, take-append-seam, length-take-le}
 use Rattle.requests.specs.declared.Answer.{Answer}
-use Rattle.requests.specs.declared.Answer.the-variants.{Accepted, Refused}
+use Rattle.requests.specs.declared.Answer.the-variants.{Accepted}
 use Rattle.requests.specs.declared.Entry.{Entry}
-use Rattle.requests.specs.declared.Refusal.the-variants.{CallOrder}
 use Rattle.requests.specs.Devices.{capacity}
 use Rattle.layouts.specs.declared.WriteAnswer.the-variants.{Written}
 use Rattle.layouts.specs.declared.Settings.{Settings}
@@ -28,7 +27,7 @@ use Rattle.planner.specs.declared.Chosen.{Chosen}
 use Rattle.planner.specs.Selections.{planned}
 use Rattle.planner.proofs.Turning.{turn-order, turn-written}
 use Rattle.queue_rows.specs.Rows.{Sized, ClosesUp, queueIn, entriesIn}
-use Rattle.queue_rows.specs.Heads.{sessionIn, TurnsIn}
+use Rattle.queue_rows.specs.Heads.{sessionIn, closedTurn, takenTurn, TurnsIn}
 use Rattle.queue_rows.specs.Parting.{Parted}
 use Rattle.queue_rows.specs.declared.Head.{Head}
 use Rattle.queue_rows.proofs.Places.{queue-length}
@@ -51,7 +50,7 @@ module _ (h : Head) (ids rows out : List ℕ) where
   s = sessionIn h ids rows
 
   pub turn-closed : h .opened ≡ false → Sized ids rows
-      → TurnsIn s (length out) ids rows (record { answer = Refused CallOrder; head = h; code = 0; front = 0; taken = 0; writes = 0 }) × (out ≡ turnSlice s out)
+      → TurnsIn s (length out) ids rows (closedTurn h) × (out ≡ turnSlice s out)
   unfolding sessionIn turnAnswer planned planOf assign requestsOf placesFrom
   turn-closed closed size =
       let t = turn-order s out closed in (
@@ -97,9 +96,7 @@ module _ (h : Head) (ids rows out : List ℕ) where
         omega (arith, e, counted)
 
     pub turn-opened : h .opened ≡ true → (k : ℕ) {list : List ℕ} → Wrote (writesOf (h .setup) es) out list (Written k)
-        → TurnsIn s (length out) after more
-        (record { answer = Accepted; head = record { opened = h .opened; setup = h .setup; len = n; trimmed = true }; code = c .code; front = c .rest; taken = c .count; writes = k })
-        × (list ≡ turnSlice s out)
+        → TurnsIn s (length out) after more (takenTurn (h .setup) n c k) × (list ≡ turnSlice s out)
     unfolding sessionIn turned turnAnswer capacity
     turn-opened opened k {list} wrote =
         let t = turn-written s out opened list k wrote in
@@ -109,7 +106,7 @@ module _ (h : Head) (ids rows out : List ℕ) where
             size = closed .size;
             answer = ap (λ (x : TurnAnswered). x .answer) (t .0);
             session =
-                in-after (h .opened) (h .setup) n after more (ps ++ es) opened (sym room) (rw (← all) after-is)
+                in-after true (h .setup) n after more (ps ++ es) refl (sym room) (rw (← all) after-is)
                 ∙ ap (λ (x : TurnAnswered). x .session) (t .0);
             plan =
                 rw (stands-behind (queueIn after more) ps es (c .rest) (c .count) (omega (arith, queue-length after more, all, bound)) front-size after-is)

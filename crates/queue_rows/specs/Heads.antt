@@ -1,9 +1,14 @@
 -- The session of a head and the arrays that hold its queue, and what the calls make of them.
 use mathlib.Core.Path.{_≡_}
+use mathlib.Core.Bool.{true}
 use mathlib.Core.List.{List}
 use Prim.Native.Nat.{ℕ, _+_, _≤_}
 use lib.ListN.{take, drop}
 use Rattle.requests.specs.Choice.{pick}
+use Rattle.requests.specs.declared.Answer.the-variants.{Accepted, Refused}
+use Rattle.requests.specs.declared.Refusal.the-variants.{CallOrder}
+use Rattle.requests.specs.declared.Setup.{Setup}
+use Rattle.planner.specs.declared.Chosen.{Chosen}
 use Rattle.planner.specs.Selections.{planned}
 use Rattle.sessions.specs.declared.Session.{Session}
 use Rattle.sessions.specs.declared.Answered.{Answered}
@@ -29,6 +34,22 @@ answeredIn a ids rows = record { answer = a .answer; session = sessionIn (a .hea
 pub record AnswersIn (a : Answered) (ids rows : List ℕ) (r : HeadAnswered) : Type 0 where
   pub size : Sized ids rows
   pub answered : answeredIn r ids rows ≡ a
+
+-- the answer to a turn before open
+abbrev pub closedTurn : Head → TurnTaken
+closedTurn h = record { answer = Refused CallOrder; head = h; code = 0; front = 0; taken = 0; writes = 0 }
+
+-- the answer to a turn that takes these of a queue of n, with so many writes: all stay in the queue
+abbrev pub takenTurn : Setup → ℕ → Chosen → ℕ → TurnTaken
+takenTurn s n c writes =
+    record {
+      answer = Accepted;
+      head = record { opened = true; setup = s; len = n; trimmed = true };
+      code = c .code;
+      front = c .rest;
+      taken = c .count;
+      writes = writes;
+    }
 
 -- what a turn answers, given the length of its slice, and leaves in the arrays: those taken stand from `front` on
 pub record TurnsIn (s : Session) (room : ℕ) (ids rows : List ℕ) (t : TurnTaken) : Type 0 where

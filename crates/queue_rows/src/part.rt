@@ -44,17 +44,8 @@ pub fn part(
     let mut count: usize = 0;
     let mut rest: usize = 0;
     for at in 0..n {
-        let request = request_in(rows, at);
-        let found = plan_with(
-            setup,
-            usable,
-            counters,
-            left,
-            code,
-            taken_rows,
-            count,
-            request,
-        );
+        let next = request_in(rows, at);
+        let found = plan_with(setup, usable, counters, left, code, taken_rows, count, next);
         if found.code == 0 {
             copy_entry(ids, rows, at, rest);
             rest += 1;

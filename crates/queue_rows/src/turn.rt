@@ -4,12 +4,14 @@ use crate::QUEUE_NUMBERS;
 use crate::TurnTaken;
 use crate::part::part;
 use crate::part::put_behind;
+use planner::Chosen;
 use planner::queue::bounded;
 use registers::plan_settings::settings_in;
 use registers::writer::put_list;
 use requests::Answer;
 use requests::CAPACITY;
 use requests::Refusal;
+use requests::Setup;
 use search::rows::ROW_NUMBERS;
 use sessions::QUEUE_LIMIT;
 ghost use mathlib.Core.Path.{_≡_};
@@ -18,7 +20,41 @@ ghost use lib.ListN.{length, take};
 ghost use Rattle.sessions.specs.Turns.{taken, writesOf};
 ghost use Rattle.sessions.specs.Sessions.{turnSlice};
 ghost use Rattle.queue_rows.specs.Rows.{Sized, queueIn};
-ghost use Rattle.queue_rows.specs.Heads.{sessionIn, TurnsIn};
+ghost use Rattle.queue_rows.specs.Heads.{sessionIn, closedTurn, takenTurn, TurnsIn};
+
+// The answer before open.
+fn closed_turn(head: Head) -> TurnTaken
+    ensures { λ r. ⌜ r ≡ closedTurn head ⌝ }
+{
+    TurnTaken {
+        answer: Answer::Refused(Refusal::CallOrder),
+        head,
+        code: 0,
+        front: 0,
+        taken: 0,
+        writes: 0,
+    }
+}
+
+// The answer where these are taken of a queue of n, with so many writes.
+fn taken_turn(setup: Setup, n: usize, chosen: Chosen, writes: usize) -> TurnTaken
+    ensures { λ r. ⌜ r ≡ takenTurn setup n chosen writes ⌝ }
+{
+    let next = Head {
+        opened: true,
+        setup,
+        len: n,
+        trimmed: true,
+    };
+    TurnTaken {
+        answer: Answer::Accepted,
+        head: next,
+        code: chosen.code,
+        front: chosen.rest,
+        taken: chosen.count,
+        writes,
+    }
+}
 
 // Takes the requests that have a plan together, from the front of the queue, and writes their write list into the slice, which has room
 // for it: the queue is changed before the list is written.
@@ -35,14 +71,7 @@ pub fn turn(
 {
     let opened = head.opened;
     if !opened {
-        return TurnTaken {
-            answer: Answer::Refused(Refusal::CallOrder),
-            head,
-            code: 0,
-            front: 0,
-            taken: 0,
-            writes: 0,
-        };
+        return closed_turn(head);
     }
     let setup = head.setup;
     let n = bounded(head.len);
@@ -59,18 +88,5 @@ pub fn turn(
     );
     let settings = settings_in(setup, chosen.code, &taken_rows, chosen.count);
     let numbers = put_list(out, setup, settings);
-    let next = Head {
-        opened,
-        setup,
-        len: n,
-        trimmed: true,
-    };
-    TurnTaken {
-        answer: Answer::Accepted,
-        head: next,
-        code: chosen.code,
-        front: chosen.rest,
-        taken: chosen.count,
-        writes: numbers / 2,
-    }
+    taken_turn(setup, n, chosen, numbers / 2)
 }

@@ -17,8 +17,8 @@ use Rattle.queue_rows.proofs.turn.turn.Tie as tie
 
 returns : tie.Need-returns
 returns c =
-    let a = c .before .before .args in
-    turn-closed (a .head) (now (a .ids)) (now (a .rows)) (now (a .out)) (not-true _ (c .if1 .taken)) (c .before .before .pre .0)
+    let a = c .before .before .before .args in
+    rw (c .closed-turn .ensures) (turn-closed (a .head) (now (a .ids)) (now (a .rows)) (now (a .out)) (not-true _ (c .before .if1 .taken)) (c .before .before .before .pre .0))
 
 put-behind-requires : tie.Need-put-behind-requires
 put-behind-requires c κs =
@@ -42,23 +42,25 @@ put-list-requires c κs =
 
 returns-2 : tie.Need-returns-2
 returns-2 c =
-    let a = c .before .before .before .before .before .before .before .before .before .before .before .before .before .before .before .before .before .before .before .before .args in
-    let b = c .before .before .before .before in
-    let put = c .before .before .put-list .ensures in
+    let a = c .before .before .before .before .before .before .before .before .before .before .before .before .before .before .before .before .before .before .before .before .before .args in
+    let b = c .before .before .before .before .before in
+    let put = c .before .before .before .put-list .ensures in
     let end = put .end in
-    let room = rw (← in-queued (a .head) (now (a .ids)) (now (a .rows)), ← writes-are b) at (c .before .before .before .before .before .before .before .before .before .before .before .before .before .before .before .before .before .before .before .before .pre .1) in
-    turn-opened (a .head) (now (a .ids)) (now (a .rows)) (now (a .out)) _ (c .before .before .before .before .before .before .before .before .before .before .before .before .before .before .before .before .bounded .ensures) (c .before .before .before .before .before .before .before .before .before .before .before .part .ensures .0) (c .before .before .before .before .before .before .put-behind .ensures)
-    (not-false _ (c .before .before .before .before .before .before .before .before .before .before .before .before .before .before .before .before .before .before .if1 .left)) _ (rw (← writes-are b) (wrote-list (omega arith) (omega arith) put))
+    let room = rw (← in-queued (a .head) (now (a .ids)) (now (a .rows)), ← writes-are b) at (c .before .before .before .before .before .before .before .before .before .before .before .before .before .before .before .before .before .before .before .before .before .pre .1) in
+    rw (c .taken-turn .ensures) (turn-opened (a .head) (now (a .ids)) (now (a .rows)) (now (a .out)) _ (c .before .before .before .before .before .before .before .before .before .before .before .before .before .before .before .before .before .bounded .ensures) (c .before .before .before .before .before .before .before .before .before .before .before .before .part .ensures .0) (c .before .before .before .before .before .before .before .put-behind .ensures)
+    (not-false _ (c .before .before .before .before .before .before .before .before .before .before .before .before .before .before .before .before .before .before .before .if1 .left)) _ (rw (← writes-are b) (wrote-list (omega arith) (omega arith) put)))
 
 pub turn-spec : {M : Type 1} → statement M
 turn-spec =
     tie.close
     (tie.spec
+    (λ c κs. search needs)
     returns
     (λ c κs. search needs)
     (λ c κs. search needs)
     put-behind-requires
     (λ c κs. search needs)
     put-list-requires
+    (λ c κs. search needs)
     (λ c. search needs)
     returns-2)
