@@ -10,6 +10,7 @@ use requests::Answer;
 use requests::CounterSet;
 use requests::Opening;
 use requests::Request;
+use sessions::Answered;
 use sessions::Session;
 ghost use mathlib.Core.Path.{_≡_};
 ghost use Prim.Native.Nat.{_≤_};
@@ -87,6 +88,24 @@ fn answered_turn(session: Session, room: u64, out: &mut [u64]) -> Session
     next
 }
 
+// An open, an add or a drop.
+fn plain_call(session: Session, verb: u64, id: u64, kind: u64, a: u64, b: u64, c: u64) -> Answered {
+    if verb == OPEN {
+        let opening = Opening {
+            device: id,
+            usable: CounterSet(kind),
+            fixed: a,
+            cbox: b,
+            overflow: unasked(),
+        };
+        return open(session, opening);
+    }
+    if verb == ADD {
+        return add(session, id, request_of(kind, a, b, c));
+    }
+    drop_request(session, id)
+}
+
 // One call, and its answer.
 fn called(
     session: Session,
@@ -100,35 +119,14 @@ fn called(
 ) -> Session
     requires { ⌜ length (now out) ≡ 43 ⌝ }
 {
-    if verb == OPEN {
-        let opening = Opening {
-            device: id,
-            usable: CounterSet(kind),
-            fixed: a,
-            cbox: b,
-            overflow: unasked(),
-        };
-        let answered = open(session, opening);
-        let answer = answered.answer;
-        out[0] = number(answer);
-        let next = answered.session;
-        return next;
+    if DROP < verb {
+        return answered_turn(session, id, out);
     }
-    if verb == ADD {
-        let answered = add(session, id, request_of(kind, a, b, c));
-        let answer = answered.answer;
-        out[0] = number(answer);
-        let next = answered.session;
-        return next;
-    }
-    if verb == DROP {
-        let answered = drop_request(session, id);
-        let answer = answered.answer;
-        out[0] = number(answer);
-        let next = answered.session;
-        return next;
-    }
-    answered_turn(session, id, out)
+    let answered = plain_call(session, verb, id, kind, a, b, c);
+    let answer = answered.answer;
+    out[0] = number(answer);
+    let next = answered.session;
+    next
 }
 
 // Answers a list of calls, six numbers each, with 43 numbers each: the refusal number or 0, and of a turn the number taken, the number of
