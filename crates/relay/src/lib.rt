@@ -123,6 +123,19 @@ fn send_first(output: i32, text: &[u8], n: usize) -> Writing
     send(output, &text[..n])
 }
 
+// A run that leaves these.
+fn run_of(feed: Feed, received: usize, sent: usize, last: Reading, next: Next) -> Run
+    ensures { λ r. ⌜ r ≡ record { feed = feed; received = received; sent = sent; last = last; next = next } ⌝ }
+{
+    Run {
+        feed,
+        received,
+        sent,
+        last,
+        next,
+    }
+}
+
 // Answers what is read, block by block, until a read has nothing more or a write is not complete.
 fn answer_blocks<'a>(
     input: i32,
@@ -152,23 +165,11 @@ fn answer_blocks<'a>(
         sent = wrapping_add_usize(sent, passed.sent);
         let ended = passed.next;
         if !is_complete(ended) {
-            return Run {
-                feed: state,
-                received,
-                sent,
-                last,
-                next: ended,
-            };
+            return run_of(state, received, sent, last, ended);
         }
         turns -= 1;
     }
-    Run {
-        feed: state,
-        received,
-        sent,
-        last,
-        next: Next::Complete,
-    }
+    run_of(state, received, sent, last, Next::Complete)
 }
 
 // Answers what is read, and then the end of the input.

@@ -1,6 +1,7 @@
 -- After each turn what was answered is one text, with its replies counted, and both slices keep their lengths. What was read lies in the block.
 -- The measure is the number of turns that are left.
 use mathlib.Core.Bool.{true, false, false≢true}
+use mathlib.Core.Logic.{⊎-elim}
 use mathlib.Core.Path.{_≡_, refl, sym, ap, _∙_}
 use Prim.Native.Nat.{ℕ, _+_, _%_, _^_, _≤_}
 use native.Mathlib.Omega.{arith}
@@ -57,18 +58,28 @@ wrapping-add-usize-requires-2 c κs = search needs
 is-complete-requires : tie.Need-is-complete-requires Inv-loop μ-loop
 is-complete-requires c κs = search needs
 
+run-of-requires : tie.Need-run-of-requires Inv-loop μ-loop
+run-of-requires c κs = search needs
+
+-- a turn keeps the lengths of both slices
+block-kept : (c : tie.Then2 Inv-loop μ-loop) → length (c .before .before .before .before .before .before .before .before .before .before .before .before .before .before .read-some .last .1 .0) ≡ length (now (c .before .before .before .before .before .before .before .before .before .before .before .before .before .before .before .before .before .before .before .before .before .before .before .args .block))
+block-kept c = search needs
+
+out-kept : (c : tie.Then2 Inv-loop μ-loop) → length (c .before .before .before .before .before .before .before .pass-block .last .1 .1 .1 .1 .1 .0) ≡ length (now (c .before .before .before .before .before .before .before .before .before .before .before .before .before .before .before .before .before .before .before .before .before .before .before .args .out))
+out-kept c = search needs
+
 same-length : tie.Need-same-length Inv-loop μ-loop
-same-length c = search needs
+same-length c = block-kept (c .before)
 
 same-length-2 : tie.Need-same-length-2 Inv-loop μ-loop
-same-length-2 c = search needs
+same-length-2 c = out-kept (c .before)
 
 returns : tie.Need-returns Inv-loop μ-loop
 returns c =
-    let p = c .before .before .before .before .before .before .before .pass-block in
-    let l = c .before .before .before .before .before .before .before .before .before .before .before .before .before .before .before .before .before .loop in
-    let other : isComplete (p .result .next) ≡ false = sym (c .before .is-complete .ensures) ∙ not-true (c .before .is-complete .result) (c .if2 .taken) in
-    broken-off (l .inv .0) (p .ensures) (λ e. false≢true (sym other ∙ ap isComplete e)) _ _ _
+    let p = c .before .before .before .before .before .before .before .before .pass-block in
+    let l = c .before .before .before .before .before .before .before .before .before .before .before .before .before .before .before .before .before .before .loop in
+    let other : isComplete (p .result .next) ≡ false = sym (c .before .before .is-complete .ensures) ∙ not-true (c .before .before .is-complete .result) (c .before .if2 .taken) in
+    rw (c .run-of .ensures) (broken-off (l .inv .0) (p .ensures) (λ e. false≢true (sym other ∙ ap isComplete e)) _ _ _)
 
 sub-turns : tie.Need-sub-turns Inv-loop μ-loop
 sub-turns c = omega arith
@@ -87,23 +98,23 @@ loop-again c =
     let total = c .before .before .before .wrapping-add-usize .ensures ∙ ap (λ (k : ℕ). (l .received + k) % 2 ^ 64) (sym held) in
     (one-more (l .inv .0) (p .ensures) full _ _ total (c .before .before .wrapping-add-usize2 .ensures), search needs, search needs)
 
+run-of-requires-2 : tie.Need-run-of-requires-2 Inv-loop μ-loop
+run-of-requires-2 c κs = search needs
+
+-- the block where the loop is left, after its last turn or before
 same-length-3 : tie.Need-same-length-3 Inv-loop μ-loop
-same-length-3 c = c .before .loop .inv .1
+same-length-3 c =
+    let kept = c .before .before .loop .inv .1 in
+    ⊎-elim
+    (λ w. rw (w .1) kept)
+    (λ w. rw (w .7) (w .3 .given ∙ kept))
+    (c .before .loop-test .came)
 
 same-length-4 : tie.Need-same-length-4 Inv-loop μ-loop
-same-length-4 c = c .before .loop .inv .2
+same-length-4 c = c .before .before .loop .inv .2
 
 returns-2 : tie.Need-returns-2 Inv-loop μ-loop
-returns-2 c = relaying (c .before .loop .inv .0) _
-
-same-length-5 : tie.Need-same-length-5 Inv-loop μ-loop
-same-length-5 c = search needs
-
-same-length-6 : tie.Need-same-length-6 Inv-loop μ-loop
-same-length-6 c = c .before .before .before .before .before .before .before .loop .inv .2
-
-returns-3 : tie.Need-returns-3 Inv-loop μ-loop
-returns-3 c = relaying (c .before .before .before .before .before .before .before .loop .inv .0) _
+returns-2 c = rw (c .run-of2 .ensures) (relaying (c .before .before .loop .inv .0) _)
 
 pub answer-blocks-spec : {M : Type 1} → statement M
 answer-blocks-spec =
@@ -121,15 +132,14 @@ answer-blocks-spec =
     wrapping-add-usize-requires
     wrapping-add-usize-requires-2
     is-complete-requires
+    run-of-requires
     same-length
     same-length-2
     returns
     sub-turns
     loop-less
     loop-again
+    run-of-requires-2
     same-length-3
     same-length-4
-    returns-2
-    same-length-5
-    same-length-6
-    returns-3)
+    returns-2)
