@@ -39,14 +39,14 @@ asked-plain s (Drop id) = refl
 asked-plain s Turn = refl
 
 module _ (s : Session) (x : Answered) (k : ℕ) where
-  pub open-asked : (given : Setup) (o : Opening) (named : Bool) → o ≡ openingOf given → x ≡ openOf s o → k ≡ answerField (x .answer) (openingFields o)
-      → replyAt x k ≡ askedReply s (Open given) named
-  unfolding askedReply recordReply replyOf
-  open-asked given o named a b e = rw (e, b, a)
+  pub open-replied : (given : Setup) (o : Opening) → o ≡ openingOf given → x ≡ openOf s o → k ≡ answerField (x .answer) (openingFields o)
+      → replyAt x k ≡ recordReply s (Open given)
+  unfolding recordReply replyOf
+  open-replied given o a b e = rw (e, b, a)
 
-  pub drop-asked : (id : ℕ) (named : Bool) → x ≡ dropOf s id → k ≡ answerField (x .answer) noFields → replyAt x k ≡ askedReply s (Drop id) named
-  unfolding askedReply recordReply replyOf
-  drop-asked id named b e = rw (e, b)
+  pub drop-replied : (id : ℕ) → x ≡ dropOf s id → k ≡ answerField (x .answer) noFields → replyAt x k ≡ recordReply s (Drop id)
+  unfolding recordReply replyOf
+  drop-replied id b e = rw (e, b)
 
 -- an add leaves the device as it is
 add-setup : (s : Session) (id : ℕ) (r : Request) → addOf s id r .session .setup ≡ s .setup

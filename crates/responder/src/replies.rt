@@ -18,6 +18,7 @@ use queue_rows::open::open;
 use queue_rows::turn::turn;
 use requests::Answer;
 use requests::Refusal;
+use requests::Setup;
 use sessions::QUEUE_LIMIT;
 ghost use mathlib.Core.Path.{_≡_};
 ghost use mathlib.Core.List.{List};
@@ -26,7 +27,7 @@ ghost use lib.ListN.{length, replicate};
 ghost use Rattle.sessions.specs.Sessions.{turnOf, turnSlice};
 ghost use Rattle.queue_rows.specs.Rows.{Sized};
 ghost use Rattle.queue_rows.specs.Heads.{sessionIn, answeredIn};
-ghost use Rattle.answers.specs.Replies.{replyAt, turnReply, turnRoom};
+ghost use Rattle.answers.specs.Replies.{replyAt, turnReply, recordReply, parsedReply, turnRoom};
 ghost use Rattle.answers.specs.ReplyLength.{replyRoom};
 ghost use Rattle.responder.specs.Written.{leftIn, repliedIn, repliedOut};
 ghost use Rattle.responder.specs.Texts.{Delivered};
@@ -73,9 +74,51 @@ fn turn_reply(
     }
 }
 
+// The reply to a line that is neither a record nor a request by name, at the field that breaks the grammar.
+fn fault_reply(head: Head, k: usize, out: &mut [u8]) -> Replied
+    requires { ⌜ replyRoom ≤ length (now out) ⌝ }
+    ensures { λ r. ⌜ ((ids rows : List ℕ) → Delivered (parsedReply (sessionIn head ids rows) (Parsed.Fault k)) (now (out .entry)) (now (out .exit)) (leftIn r ids rows)) ⌝ }
+{
+    let answered = HeadAnswered {
+        answer: Answer::Refused(Refusal::NotInGrammar),
+        head,
+    };
+    call_reply(answered, k, out)
+}
+
+// The reply to an open.
+fn open_reply(head: Head, given: Setup, out: &mut [u8]) -> Replied
+    requires { ⌜ replyRoom ≤ length (now out) ⌝ }
+    ensures { λ r. ⌜ ((ids rows : List ℕ) → Delivered (recordReply (sessionIn head ids rows) (Record.Open given)) (now (out .entry)) (now (out .exit)) (leftIn r ids rows)) ⌝ }
+{
+    let opening = opening_of(given);
+    let opened = open(head, opening);
+    let answer = opened.answer;
+    let field = open_field(answer, opening);
+    call_reply(opened, field, out)
+}
+
+// The reply to a drop.
+fn drop_reply(
+    head: Head,
+    ids: &mut [u64; QUEUE_LIMIT],
+    rows: &mut [u64; QUEUE_NUMBERS],
+    id: u64,
+    out: &mut [u8],
+) -> Replied
+    requires { ⌜ Sized (now ids) (now rows) ⌝ }
+    requires { ⌜ replyRoom ≤ length (now out) ⌝ }
+    ensures { λ r. ⌜ Delivered (recordReply (sessionIn head (now (ids .entry)) (now (rows .entry))) (Record.Drop id)) (now (out .entry)) (now (out .exit)) (leftIn r (now (ids .exit)) (now (rows .exit))) ⌝ }
+    ensures { λ _. ⌜ Sized (now (ids .exit)) (now (rows .exit)) ⌝ }
+{
+    let dropped = drop_request(head, ids, rows, id);
+    let answer = dropped.answer;
+    let field = drop_field(answer);
+    call_reply(dropped, field, out)
+}
+
 // The reply to what a line is, at the start of a slice that has room for any reply; in a shorter one nothing is done.
-// A request by name is made the add that it stands for, and what the calls answer meets before it is written, so that each call and the text of
-// its answer stand in one place.
+// A request by name is made the add that it stands for. Adds are made here, since a function of their own would copy the head once more.
 pub fn reply(
     head: Head,
     ids: &mut [u64; QUEUE_LIMIT],
@@ -93,13 +136,7 @@ pub fn reply(
     }
     let mut named = false;
     let asked = match parsed {
-        Parsed::Fault(k) => {
-            let answered = HeadAnswered {
-                answer: Answer::Refused(Refusal::NotInGrammar),
-                head,
-            };
-            return call_reply(answered, k, out);
-        }
+        Parsed::Fault(k) => return fault_reply(head, k, out),
         Parsed::Named { id, request } => {
             named = true;
             Record::Add { id, request }
@@ -109,26 +146,11 @@ pub fn reply(
     let mut field = 0;
     let answered = match asked {
         Record::Turn => return turn_reply(head, ids, rows, out),
-        Record::Open(setup) => {
-            let opening = opening_of(setup);
-            let opened = open(head, opening);
-            let answer = opened.answer;
-            field = open_field(answer, opening);
-            opened
-        }
-        Record::Drop { id } => {
-            let dropped = drop_request(head, ids, rows, id);
-            let answer = dropped.answer;
-            field = drop_field(answer);
-            dropped
-        }
+        Record::Open(given) => return open_reply(head, given, out),
+        Record::Drop { id } => return drop_reply(head, ids, rows, id, out),
         Record::Add { id, request } => {
             let added = add(head, ids, rows, id, request);
-            let answer = added.answer;
-            let left = added.head;
-            let setup = left.setup;
-            let device = setup.device;
-            field = add_field(answer, device, request, named);
+            field = add_field(added, request, named);
             added
         }
     };

@@ -4,8 +4,8 @@ use checks::fields::no_fields;
 use checks::fields::opening_fields;
 use checks::fields::request_fields;
 use names::named::named_field;
+use queue_rows::HeadAnswered;
 use requests::Answer;
-use requests::Device;
 use requests::Opening;
 use requests::Request;
 ghost use mathlib.Core.Path.{_≡_};
@@ -22,13 +22,17 @@ pub fn open_field(answer: Answer, opening: Opening) -> usize
     }
 }
 
-// Of an add on a device, whose line has its numbers or a name.
-pub fn add_field(answer: Answer, device: Device, request: Request, named: bool) -> usize
-    ensures { λ r. ⌜ r ≡ lineField named (answerField answer (requestFields device request)) ⌝ }
+// Of an add, whose line has its numbers or a name.
+pub fn add_field(added: HeadAnswered, request: Request, named: bool) -> usize
+    ensures { λ r. ⌜ r ≡ lineField named (answerField (added .answer) (requestFields (added .head .setup .device) request)) ⌝ }
 {
+    let answer = added.answer;
     match answer {
         Answer::Accepted => 0,
         Answer::Refused(refusal) => {
+            let head = added.head;
+            let setup = head.setup;
+            let device = setup.device;
             let field = field_of(refusal, request_fields(device, request));
             if named {
                 return named_field(field);
