@@ -92,19 +92,13 @@ pub fn choose(t: Choice, i: usize, e: Entry) -> Choice
     }
     let setup = t.setup;
     let usable = t.usable;
+    let counters = t.counters;
     let count = t.count;
-    let request = e.request;
+    let left = t.left;
+    let plan = t.plan;
+    let asked = e.request;
     let mut rows = t.rows;
-    let found = plan_with(
-        setup,
-        usable,
-        t.counters,
-        t.left,
-        t.plan,
-        &mut rows,
-        count,
-        request,
-    );
+    let found = plan_with(setup, usable, counters, left, plan, &mut rows, count, asked);
     if found.code == 0 {
         return t;
     }
@@ -117,7 +111,7 @@ pub fn choose(t: Choice, i: usize, e: Entry) -> Choice
     Choice {
         setup: setup,
         usable: usable,
-        counters: t.counters,
+        counters: counters,
         end: end,
         plan: found.code,
         left: found.left,

@@ -3,6 +3,7 @@ use crate::ids::bad_id_refusal;
 use crate::ids::outside_ids;
 use crate::queue::bounded;
 use crate::queue::vacant;
+use crate::queue::with_queue;
 use requests::Answer;
 use requests::Refusal;
 use sessions::Answered;
@@ -63,12 +64,6 @@ pub fn drop_request(session: Session, id: u64) -> Answered
             k += 1;
         }
     }
-    let setup = session.setup;
-    let session = Session {
-        opened,
-        setup,
-        queue,
-        len,
-    };
+    let session = with_queue(session, queue, len);
     Answered { answer, session }
 }

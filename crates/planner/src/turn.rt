@@ -2,6 +2,7 @@
 use crate::Chosen;
 use crate::Outcome;
 use crate::queue::vacant;
+use crate::queue::with_queue;
 use crate::select::select;
 use layouts::WriteAnswer;
 use plans::Place;
@@ -91,6 +92,21 @@ pub fn assigned_to(code: u64, i: usize, entry: Entry) -> Assigned
     }
 }
 
+// What a turn answers that does this, leaves this session and makes this plan.
+fn turn_answered(outcome: Outcome, session: Session, plan: [Assigned; CAPACITY]) -> TurnAnswered
+    ensures { λ r. ⌜ r ≡ record { answer = outcome .answer; session = session; plan = plan; taken = outcome .chosen .count; writes = outcome .writes } ⌝ }
+{
+    let answer = outcome.answer;
+    let chosen = outcome.chosen;
+    TurnAnswered {
+        answer,
+        session,
+        plan,
+        taken: chosen.count,
+        writes: outcome.writes,
+    }
+}
+
 // Takes the requests that have a plan together, from the front of the queue, and writes their write list into the slice.
 // The queue is made anew here, beside the session: a call that is handed the session makes a copy of it.
 pub fn turn(session: Session, out: &mut [u64]) -> TurnAnswered
@@ -122,19 +138,5 @@ pub fn turn(session: Session, out: &mut [u64]) -> TurnAnswered
             len = front + chosen.count;
         }
     }
-    let opened = session.opened;
-    let setup = session.setup;
-    let next = Session {
-        opened,
-        setup,
-        queue,
-        len,
-    };
-    TurnAnswered {
-        answer,
-        session: next,
-        plan,
-        taken: chosen.count,
-        writes: outcome.writes,
-    }
+    turn_answered(outcome, with_queue(session, queue, len), plan)
 }

@@ -174,10 +174,6 @@ module _ (rows : List ℕ) (at : ℕ) (left : Left) where
       rw (← f, ← g, offcore-used rows at 0 w a r, offcore-used rows at 1 w a r)
       (either-then (eqb j 0) held0 held1 _ _ (takeCounter a k))
 
-  pub offcore-differs : (w : ℕ) (a : CounterSet) (k j : ℕ) → holds (room .rsp0) w ≡ false → holds (room .rsp1) w ≡ false → admit (Offcore w a) k j room ≡ NoRoom
-  unfolding admit takeWord
-  offcore-differs w a k j f g = rw (f, g, neither (eqb j 0))
-
   module _ (t : ℕ) (a b : CounterSet) (j k : ℕ) where
     pub latency-held : (half used : Left) → half ≡ withRsp0 left (at + 1) → used ≡ withRsp1 half (at + 1) → Latency t a b ≡ requestAt rows at
         → holds (room .rsp0) (latencyWord 0 t) ≡ true → holds (room .rsp1) (latencyWord 1 t) ≡ true

@@ -36,11 +36,6 @@ pub fn place_offcore(
 {
     let held0 = holds_word(rows, 0, left.rsp0, word);
     let held1 = holds_word(rows, 1, left.rsp1, word);
-    if !held0 {
-        if !held1 {
-            return 0;
-        }
-    }
     let next = at + 1;
     let free = left.free;
     let mut choice = available(allowed, free);
@@ -49,26 +44,16 @@ pub fn place_offcore(
         choice = without(choice, k);
         let mut rest0: u64 = 0;
         if held0 {
-            rest0 = place_from(
-                n,
-                rows,
-                count,
-                next,
-                without_counter(with_rsp0(left, next), k),
-            );
+            let used = without_counter(with_rsp0(left, next), k);
+            rest0 = place_from(n, rows, count, next, used);
         }
         if rest0 != 0 {
             return rest0 * 64 + k * 8;
         }
         let mut rest1: u64 = 0;
         if held1 {
-            rest1 = place_from(
-                n,
-                rows,
-                count,
-                next,
-                without_counter(with_rsp1(left, next), k),
-            );
+            let used = without_counter(with_rsp1(left, next), k);
+            rest1 = place_from(n, rows, count, next, used);
         }
         if rest1 != 0 {
             return rest1 * 64 + k * 8 + 1;

@@ -199,9 +199,9 @@ returns-2 c =
     let filled = session-filled (record { opened = s .opened; setup = s .setup; queue = f .queue; len = k .len }) (s .setup) (removed (a .id) (queued s))
     (accepted-opened s (Drop (a .id)) (drop-closed _ (a .id)) (sym (answer-is (m .before)) ∙ w .1 .given .1)) refl
     (rw (← done) (v .3 .count)) (f .inv .0) (rw (← done, ← v .3 .count, ← v .3 .front, ← all) (f .inv .3)) in
-    rw (w .7, w .8) (ap (λ (x : Session). record { answer = r .result; session = x }) filled
+    rw (c .with-queue .ensures, w .7, w .8) (ap (λ (x : Session). record { answer = r .result; session = x }) filled
     ∙ answered-accepted (r .result) (refusedBy s (Drop (a .id))) (answer-is (m .before)) s (sessionOf (s .setup) (removed (a .id) (queued s))) (w .1 .given .1)))
-    (λ w. rw (w .2, w .3) (answered-refused (r .result) (refusedBy s (Drop (a .id))) (answer-is (m .before)) s _ _ (w .1 .given .1)))
+    (λ w. rw (c .with-queue .ensures, w .2, w .3) (answered-refused (r .result) (refusedBy s (Drop (a .id))) (answer-is (m .before)) s _ _ (w .1 .given .1)))
     (m .match .came)
 
 pub drop-request-spec : {M : Type 1} → statement M
@@ -243,4 +243,5 @@ drop-request-spec =
     loop3-less
     loop3-again
     enum-told-2
+    (λ c κs. search needs)
     returns-2)

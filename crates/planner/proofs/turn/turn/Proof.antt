@@ -21,20 +21,20 @@ use Rattle.planner.proofs.turn.turn.Statement.{statement}
 use Rattle.planner.proofs.turn.turn.Tie as tie
 
 abbrev Inv-loop : tie.InvT-loop
-Inv-loop out session taken passed outcome answer chosen front queue₀ len plan i₀ queue i =
+Inv-loop out session taken passed outcome chosen front queue₀ len plan i₀ queue i =
     (length (session .queue) ≡ 16) × (i ≤ front) × (front + chosen .count ≤ 16) × (length passed ≡ 16) × (queue ≡ padded (entriesAt (session .queue) i passed))
 
 abbrev μ-loop : tie.MeasureT-loop
-μ-loop out session taken passed outcome answer chosen front queue₀ len plan i₀ queue i = front - i
+μ-loop out session taken passed outcome chosen front queue₀ len plan i₀ queue i = front - i
 
 abbrev Inv-loop2 : tie.InvT-loop2
-Inv-loop2 out session taken outcome answer chosen front queue₀ len plan₀ j₀ count queue plan j =
+Inv-loop2 out session taken outcome chosen front queue₀ len plan₀ j₀ count queue plan j =
     (length (session .queue) ≡ 16) × (length taken ≡ 8) × (chosen .count ≤ 8) × (front + chosen .count ≤ 16) × (length (take front queue₀) ≡ front) × (j ≤ chosen .count)
     × (queue ≡ padded (take front queue₀ ++ entriesAt (session .queue) j taken))
     × (plan ≡ inArray capacity unassigned (planned (chosen .code) (entriesAt (session .queue) j taken)))
 
 abbrev μ-loop2 : tie.MeasureT-loop2
-μ-loop2 out session taken outcome answer chosen front queue₀ len plan₀ j₀ count queue plan j = chosen .count - j
+μ-loop2 out session taken outcome chosen front queue₀ len plan₀ j₀ count queue plan j = chosen .count - j
 
 length-16 : (c : tie.Start Inv-loop μ-loop Inv-loop2 μ-loop2) → length (c .args .t1 .queue) ≡ 16
 length-16 c = search (length-mapped, needs)
@@ -187,21 +187,24 @@ add-len c = omega arith
 returns : tie.Need-returns Inv-loop μ-loop Inv-loop2 μ-loop2
 unfolding turnAnswer refusedWith capacity
 returns c =
-    let o = c .before .before .before .before .before .before .before .outcome-of in
-    let a = c .before .before .before .before .before .before .before .before .before .before .before .before .args in
+    let q = c .before in
+    let m = q .before .before in
+    let o = m .before .before .before .before .before .outcome-of in
+    let a = m .before .before .before .before .before .before .before .before .before .before .args in
     let s = a .t1 in
-    let m = c .before .before in (
+    let made = c .turn-answered .ensures in
+    let next = q .with-queue .ensures in (
       ⊎-elim
-          (λ w. let r = o .ensures .0 .refused _ (w .1 .given .1) in rw (w .3, w .4, w .5, r .0, m .unassigned .ensures) (r .1))
+          (λ w. let r = o .ensures .0 .refused _ (w .1 .given .1) in rw (made, next, w .3, w .4, w .5, r .0, m .unassigned .ensures) (r .1))
           (λ w.
           let e = w .1 .given .1 in
           let l : tie.After-loop Inv-loop μ-loop Inv-loop2 μ-loop2 =
           record { before = record { before = record { before = record { before = m; match = w .0 }; enum-told2 = w .1 }; loop = w .2 }; loop-test = w .3 } in
           let all : w .4 .j ≡ o .result .chosen .count = omega (arith, w .4 .inv .5, w .5 .left) in
-          rw (w .7, w .8, w .9, e)
+          rw (made, next, w .7, w .8, w .9, e)
           (turn-made s (o .last .1 .0) (o .last .1 .1 .0) (o .result .chosen) (o .result .writes) (within (l .before .before)) (o .ensures .0 .opened e)
           (w .4 .queue) (w .4 .inv .6 ∙ rw (all, passed-front l)) (w .4 .plan) (w .4 .inv .7 ∙ rw all) ∙ o .ensures .0 .accepted e))
-          (c .before .match .came),
+          (q .before .match .came),
       o .ensures .1,
     )
 
@@ -245,5 +248,7 @@ turn-spec =
     loop2-less
     loop2-again
     add-len
+    (λ c κs. search needs)
+    (λ c κs. search needs)
     (λ c. search needs)
     returns)

@@ -25,8 +25,8 @@ use Rattle.plans.specs.Packed.{packed}
 use Rattle.search.proofs.CounterBits.{has-below, chosen-free, chosen-available}
 use Rattle.search.proofs.CountersLeft.{From, least-there, least-in, next-least}
 use Rattle.search.proofs.Unpacking.{rest-code}
-use Rattle.search.proofs.Admitting.{offcoreTaken, offcore-asked, offcore-chosen, offcore-missing, offcore-differs}
-use Rattle.search.proofs.Trying.{held-taken, held-not, triesTaking, triesFrom, tries-begin, tries-hit, tries-next, tries-carry, places-skipped, nowhere-admitted}
+use Rattle.search.proofs.Admitting.{offcoreTaken, offcore-asked, offcore-chosen, offcore-missing}
+use Rattle.search.proofs.Trying.{held-taken, held-not, triesTaking, triesFrom, tries-begin, tries-hit, tries-next, tries-carry, places-skipped}
 use Rattle.search.proofs.+latency-place_latency+offcore-place_offcore+remaining-place_counter+remaining-place_from.Proof.Measures.{place-offcore-at, place-from-below}
 use Rattle.search.proofs.offcore.place_offcore.Reads as place-offcore
 use Rattle.search.proofs.remaining.place_from.Reads as place-from
@@ -87,31 +87,25 @@ module _ (t : ℕ) where
 
   -- it is tried with RSP0
   abbrev Rsp0Tried : Type 0
-  Rsp0Tried = place-offcore-lts.Joined4 (place-offcore-claims t) (place-offcore-at t) place-offcore.Post place-offcore-Inv-loop place-offcore-μ-loop
+  Rsp0Tried = place-offcore-lts.Joined2 (place-offcore-claims t) (place-offcore-at t) place-offcore.Post place-offcore-Inv-loop place-offcore-μ-loop
 
   -- it is tried with RSP1 too
   abbrev Rsp1Tried : Type 0
-  Rsp1Tried = place-offcore-lts.Joined6 (place-offcore-claims t) (place-offcore-at t) place-offcore.Post place-offcore-Inv-loop place-offcore-μ-loop
+  Rsp1Tried = place-offcore-lts.Joined4 (place-offcore-claims t) (place-offcore-at t) place-offcore.Post place-offcore-Inv-loop place-offcore-μ-loop
 
   module _ (c : Start) where
     abbrev request : Request
     request = Offcore (c .args .word) (c .args .allowed)
 
-    abbrev pub room : Room
+    abbrev room : Room
     room = roomOf (c .args .rows .now) (c .args .left)
 
     abbrev planned : Option (List Place)
     planned = planFrom (c .args .n) (c .args .rows .now) (c .args .at) (c .args .count) room
 
-    pub both-refuse : holds (room .rsp0) (c .args .word) ≡ false → holds (room .rsp1) (c .args .word) ≡ false → 0 ≡ packed planned
-    both-refuse differs0 differs1 =
-        let a = c .args in
-        nowhere-admitted (a .n) (a .rows .now) (a .at) (a .count) room request (omega arith) (c .pre .1 .1)
-        (λ k j. offcore-differs (a .rows .now) (a .at) (a .left) (a .word) (a .allowed) k j differs0 differs1)
-
   module _ (c : Ready) where
     abbrev looked : Looked
-    looked = c .before .before .before
+    looked = c .before .before
 
     abbrev pub start : Start
     start = looked .before .before
@@ -209,7 +203,7 @@ module _ (t : ℕ) where
     k = c .next-in .result
 
     pub is-left : has left k ≡ true
-    is-left = least-there left k (omega arith) (c .before .if3 .taken) (c .next-in .ensures)
+    is-left = least-there left k (omega arith) (c .before .if1 .taken) (c .next-in .ensures)
 
     there : has (choice ready) k ≡ true
     there = least-in from k is-left (c .next-in .ensures)
@@ -233,25 +227,25 @@ module _ (t : ℕ) where
     abbrev pub trying0 : Trying
     trying0 = c .before .before
 
-    pub rest0-planned : c .if4 .rest0 ≡ packed (after (ready trying0) (k trying0) 0)
+    pub rest0-planned : c .if2 .rest0 ≡ packed (after (ready trying0) (k trying0) 0)
     rest0-planned =
         let r = ready trying0 in
         let a = start r .args in
-        elim (c .if4 .came) [
+        elim (c .if2 .came) [
           | inl p ↦
               held-taken (a .n) (a .rows .now) (a .at + 1) (a .count) (choice r) (k trying0) (left0 r) _ _ _ _ (p .0 .taken) (can-take trying0)
               (p .2 .ensures ∙ ap (λ (l : Left). withoutCounter l (k trying0)) (p .1 .ensures)) (p .3 .ensures) (p .4)
           | inr p ↦ held-not (a .n) (a .rows .now) (a .at + 1) (a .count) (choice r) (k trying0) (left0 r) _ _ (p .0 .left) (p .1)
         ]
 
-    pub rest0-small : c .if4 .rest0 < 8796093022208
-    rest0-small = rest-small (ready trying0) (k trying0) 0 (c .if4 .rest0) rest0-planned
+    pub rest0-small : c .if2 .rest0 < 8796093022208
+    rest0-small = rest-small (ready trying0) (k trying0) 0 (c .if2 .rest0) rest0-planned
 
     -- RSP0 leads to no plan, so that the places go on from RSP1
-    pub with-rsp1 : c .if4 .rest0 ≡ 0 → places (ready trying0) 0 0 ≡ places (ready trying0) (k trying0) 1
+    pub with-rsp1 : c .if2 .rest0 ≡ 0 → places (ready trying0) 0 0 ≡ places (ready trying0) (k trying0) 1
     with-rsp1 none =
         reached trying0
-        ∙ place-next (ready trying0) (k trying0) 0 (c .if4 .rest0) rest0-planned (lit< tt) (below trying0) none
+        ∙ place-next (ready trying0) (k trying0) 0 (c .if2 .rest0) rest0-planned (lit< tt) (below trying0) none
 
   module _ (c : Rsp1Tried) where
     abbrev pub tried0 : Rsp0Tried
@@ -260,16 +254,16 @@ module _ (t : ℕ) where
     abbrev pub trying1 : Trying
     trying1 = tried0 .before .before
 
-    pub rest1-planned : c .if6 .rest1 ≡ packed (after (ready trying1) (k trying1) 1)
+    pub rest1-planned : c .if4 .rest1 ≡ packed (after (ready trying1) (k trying1) 1)
     rest1-planned =
         let r = ready trying1 in
         let a = start r .args in
-        elim (c .if6 .came) [
+        elim (c .if4 .came) [
           | inl p ↦
               held-taken (a .n) (a .rows .now) (a .at + 1) (a .count) (choice r) (k trying1) (left1 r) _ _ _ _ (p .0 .taken) (can-take trying1)
               (p .2 .ensures ∙ ap (λ (l : Left). withoutCounter l (k trying1)) (p .1 .ensures)) (p .3 .ensures) (p .4)
           | inr p ↦ held-not (a .n) (a .rows .now) (a .at + 1) (a .count) (choice r) (k trying1) (left1 r) _ _ (p .0 .left) (p .1)
         ]
 
-    pub rest1-small : c .if6 .rest1 < 8796093022208
-    rest1-small = rest-small (ready trying1) (k trying1) 1 (c .if6 .rest1) rest1-planned
+    pub rest1-small : c .if4 .rest1 < 8796093022208
+    rest1-small = rest-small (ready trying1) (k trying1) 1 (c .if4 .rest1) rest1-planned

@@ -4,27 +4,16 @@ use Prim.Native.Nat.{ℕ, _+_}
 use native.Mathlib.Nat.{add-zero}
 use native.Mathlib.Omega.{arith}
 use lib.Dec.{lit<}
-use borrow.Author.Tests.{not-true}
 use Rattle.requests.specs.Devices.{has}
 use Rattle.search.specs.declared.left.Left.{Left}
 use Rattle.plans.specs.Packed.{packed}
 use Rattle.search.proofs.CountersLeft.{taken-less, from-first, next-none, from-next}
 use Rattle.search.proofs.Leaving.{counter-leaves, rsp0-leaves, rsp1-leaves}
-use Rattle.search.proofs.Admitting.{word-told}
 use Rattle.search.proofs.Trying.{tries-done}
 use Rattle.search.proofs.+latency-place_latency+offcore-place_offcore+remaining-place_counter+remaining-place_from.Proof.Measures.{place-offcore-at}
-use Rattle.search.proofs.+latency-place_latency+offcore-place_offcore+remaining-place_counter+remaining-place_from.Proof.Offcore.{place-offcore-Inv-loop, place-offcore-μ-loop, place-offcore-claims, room, both-refuse, start, n, choice, begun, skipped, place-taken, place-carry, ready, left, from, k, is-left, reached, free, below, k-small, trying0, rest0-planned, rest0-small, with-rsp1, tried0, trying1, rest1-planned, rest1-small}
+use Rattle.search.proofs.+latency-place_latency+offcore-place_offcore+remaining-place_counter+remaining-place_from.Proof.Offcore.{place-offcore-Inv-loop, place-offcore-μ-loop, place-offcore-claims, start, n, choice, begun, skipped, place-taken, place-carry, ready, left, from, k, is-left, reached, free, below, k-small, trying0, rest0-planned, rest0-small, with-rsp1, tried0, trying1, rest1-planned, rest1-small}
 use Rattle.search.proofs.offcore.place_offcore.Reads as place-offcore
 use Rattle.search.proofs.+latency-place_latency+offcore-place_offcore+remaining-place_counter+remaining-place_from.Lts-offcore-place_offcore as place-offcore-lts
-
-pub place-offcore-returns : (t : ℕ)
-    → place-offcore-lts.Need-returns (place-offcore-claims t) (place-offcore-at t) place-offcore.Post place-offcore-Inv-loop place-offcore-μ-loop
-place-offcore-returns t c =
-    let looked = c .before .before in
-    let start = looked .before .before in
-    both-refuse t start
-    (word-told (room t start .rsp0) _ _ _ _ refl (looked .before .holds-word .ensures) (not-true _ (c .before .if1 .taken)))
-    (word-told (room t start .rsp1) _ _ _ _ refl (looked .holds-word2 .ensures) (not-true _ (c .if2 .taken)))
 
 pub place-offcore-loop-holds : (t : ℕ)
     → place-offcore-lts.Need-loop-holds (place-offcore-claims t) (place-offcore-at t) place-offcore.Post place-offcore-Inv-loop place-offcore-μ-loop
@@ -61,14 +50,14 @@ pub place-offcore-add-result : (t : ℕ)
     → place-offcore-lts.Need-add-result (place-offcore-claims t) (place-offcore-at t) place-offcore.Post place-offcore-Inv-loop place-offcore-μ-loop
 place-offcore-add-result t c = omega (arith, rest0-small t (c .before .before), k-small t (trying0 t (c .before .before)))
 
-pub place-offcore-returns-2 : (t : ℕ)
-    → place-offcore-lts.Need-returns-2 (place-offcore-claims t) (place-offcore-at t) place-offcore.Post place-offcore-Inv-loop place-offcore-μ-loop
-place-offcore-returns-2 t c =
+pub place-offcore-returns : (t : ℕ)
+    → place-offcore-lts.Need-returns (place-offcore-claims t) (place-offcore-at t) place-offcore.Post place-offcore-Inv-loop place-offcore-μ-loop
+place-offcore-returns t c =
     let tried = c .before .before in
     let trying = trying0 t tried in
     rw (begun t (ready t trying), reached t trying)
     (sym (add-zero _)
-    ∙ place-taken t (ready t trying) (k t trying) 0 (tried .if4 .rest0) (rest0-planned t tried) (lit< tt) (below t trying) (c .before .if5 .taken))
+    ∙ place-taken t (ready t trying) (k t trying) 0 (tried .if2 .rest0) (rest0-planned t tried) (lit< tt) (below t trying) (c .before .if3 .taken))
 
 pub place-offcore-without-counter-requires-2 : (t : ℕ)
     → place-offcore-lts.Need-without-counter-requires-2 (place-offcore-claims t) (place-offcore-at t) place-offcore.Post place-offcore-Inv-loop place-offcore-μ-loop
@@ -101,13 +90,13 @@ pub place-offcore-add-result-3 : (t : ℕ)
     → place-offcore-lts.Need-add-result-3 (place-offcore-claims t) (place-offcore-at t) place-offcore.Post place-offcore-Inv-loop place-offcore-μ-loop
 place-offcore-add-result-3 t c = omega (arith, rest1-small t (c .before .before), k-small t (trying1 t (c .before .before)))
 
-pub place-offcore-returns-3 : (t : ℕ)
-    → place-offcore-lts.Need-returns-3 (place-offcore-claims t) (place-offcore-at t) place-offcore.Post place-offcore-Inv-loop place-offcore-μ-loop
-place-offcore-returns-3 t c =
+pub place-offcore-returns-2 : (t : ℕ)
+    → place-offcore-lts.Need-returns-2 (place-offcore-claims t) (place-offcore-at t) place-offcore.Post place-offcore-Inv-loop place-offcore-μ-loop
+place-offcore-returns-2 t c =
     let tried = c .before .before in
     let trying = trying1 t tried in
-    rw (begun t (ready t trying), with-rsp1 t (tried0 t tried) (tried .before .if5 .left))
-    (place-taken t (ready t trying) (k t trying) 1 (tried .if6 .rest1) (rest1-planned t tried) (lit< tt) (below t trying) (c .before .if7 .taken))
+    rw (begun t (ready t trying), with-rsp1 t (tried0 t tried) (tried .before .if3 .left))
+    (place-taken t (ready t trying) (k t trying) 1 (tried .if4 .rest1) (rest1-planned t tried) (lit< tt) (below t trying) (c .before .if5 .taken))
 
 pub place-offcore-loop-less : (t : ℕ)
     → place-offcore-lts.Need-loop-less (place-offcore-claims t) (place-offcore-at t) place-offcore.Post place-offcore-Inv-loop place-offcore-μ-loop
@@ -122,20 +111,20 @@ place-offcore-loop-again t c =
     let trying = trying1 t tried in (
       k t trying + 1,
       from-next (from t trying) (k t trying) (is-left t trying) (trying .next-in .ensures) _ (tried0 t tried .before .without .ensures),
-      with-rsp1 t (tried0 t tried) (tried .before .if5 .left)
-          ∙ place-carry t (ready t trying) (k t trying) 1 (tried .if6 .rest1) (rest1-planned t tried) (lit< tt) (below t trying) (c .if7 .left) refl,
+      with-rsp1 t (tried0 t tried) (tried .before .if3 .left)
+          ∙ place-carry t (ready t trying) (k t trying) 1 (tried .if4 .rest1) (rest1-planned t tried) (lit< tt) (below t trying) (c .if5 .left) refl,
     )
 
-pub place-offcore-returns-4 : (t : ℕ)
-    → place-offcore-lts.Need-returns-4 (place-offcore-claims t) (place-offcore-at t) place-offcore.Post place-offcore-Inv-loop place-offcore-μ-loop
+pub place-offcore-returns-3 : (t : ℕ)
+    → place-offcore-lts.Need-returns-3 (place-offcore-claims t) (place-offcore-at t) place-offcore.Post place-offcore-Inv-loop place-offcore-μ-loop
 unfolding packed
-place-offcore-returns-4 t c =
+place-offcore-returns-3 t c =
     let at = c .before .before in
     let ready = at .before in
     let v = at .loop .inv in
     rw (
       begun t ready,
       v .2,
-      skipped t ready (v .0) (v .0 + 64) (next-none (v .1) (c .if3 .left)),
+      skipped t ready (v .0) (v .0 + 64) (next-none (v .1) (c .if1 .left)),
       tries-done (n t ready) 2 (v .0 + 64) 0 _ (omega (arith, start t ready .pre .1 .0 .3 .few)),
     )
