@@ -3,7 +3,6 @@ use crate::Survey;
 use checks::catalogue::look_up;
 use checks::check::request_refusal;
 use checks::devices::all_counters;
-use checks::rules::has_rules;
 use checks::set::has;
 use planner::add::plans_alone;
 use planner::ids::outside_ids;
@@ -12,7 +11,7 @@ use requests::CounterSet;
 use requests::Entry;
 use requests::Request;
 use requests::Setup;
-use search::extend::any_usable;
+use search::extend::counter_alone;
 ghost use mathlib.Core.Path.{_≡_};
 ghost use mathlib.Core.Bool.{true, false};
 ghost use mathlib.Core.List.{_∷_, []};
@@ -50,8 +49,8 @@ pub fn all_zero(request: Request) -> bool
     }
 }
 
-// Whether the request is a listed event that asks for no counter but the device's, one of them usable, where no event has a rule. Most requests are,
-// and nothing else has to be asked of them.
+// Whether the request is a listed event that asks for no counter but the device's, any of them, one of which is usable. Most requests are, and
+// nothing else has to be asked of them.
 fn fits_at_once(setup: Setup, request: Request) -> bool
     ensures { λ r. ⌜ (r ≡ true → (formed setup request ≡ true) × (hasPlan setup (request ∷ []) ≡ true)) ⌝ }
 {
@@ -62,14 +61,11 @@ fn fits_at_once(setup: Setup, request: Request) -> bool
             allowed,
         } => {
             let device = setup.device;
-            if has_rules(device) {
-                return false;
-            }
             let all = all_counters(device);
             if all.0 < allowed.0 {
                 return false;
             }
-            if !any_usable(setup, allowed) {
+            if !counter_alone(setup, request) {
                 return false;
             }
             let listing = look_up(device, code, mask);
@@ -88,10 +84,11 @@ pub fn may_wait(setup: Setup, e: Entry) -> bool
     if outside_ids(e.id) {
         return false;
     }
-    let request = e.request;
-    if fits_at_once(setup, request) {
+    let asked = e.request;
+    if fits_at_once(setup, asked) {
         return true;
     }
+    let request = e.request;
     match request_refusal(setup, request) {
         Answer::Refused(_) => false,
         Answer::Accepted => plans_alone(setup, request),

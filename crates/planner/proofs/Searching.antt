@@ -18,14 +18,14 @@ use Rattle.plans.specs.Legal.{HasPlan}
 use Rattle.plans.specs.declared.Place.{Place}
 use Rattle.plans.specs.Search.{firstPlan, hasPlan}
 use Rattle.plans.specs.Parts.{usableCount}
+use Rattle.plans.specs.Extends.{LeastUnused}
 use Rattle.search.specs.Rows.{requestAt, rowsFrom, setRequest}
-use Rattle.plans.specs.Packed.{packed, placesFrom}
+use Rattle.plans.specs.Packed.{packed}
 use Rattle.search.specs.Beside.{Beside, event}
 use Rattle.plans.proofs.FirstFound.{first-plan}
 use Rattle.search.proofs.RequestRows.{put-length, rows-length, rows-last, rows-put}
 use Rattle.search.proofs.Unpacking.{some-packed, none-packed, plan-packed, plan-unpacked, first-code}
 use Rattle.search.proofs.Giving.{places-length}
-use Rattle.search.proofs.FreeBeside.{unruled-follows}
 use Rattle.plans.proofs.ExtendsHold.{extends}
 use Rattle.plans.specs.Reach.{leftOf}
 use Rattle.plans.specs.FilterWords.{crowded}
@@ -98,7 +98,7 @@ searched-crowded s rows count r next put back size more =
 -- ---- an event beside the plan
 
 -- its counter is one of the few that a device has
-pub beside-few : {s : Setup} {ps : List Place} {r : Request} {k : ℕ} → Beside s ps r k → k < 8
+pub beside-few : {s : Setup} {rs : List Request} {code : ℕ} {r : Request} {k : ℕ} → Beside s rs code r k → k < 8
 beside-few {s} (event u n) = omega (arith, n .unused .0 .0, reach .few (s .device))
 
 -- and the number of the plan has room for it
@@ -106,22 +106,21 @@ pub code-few : (s : Setup) (rows : List ℕ) (count code : ℕ) → code ≡ pac
 code-few s rows count code e h = rw e (first-code s (rowsFrom rows 0 count) (rw rows-length h))
 
 -- the number of the plan with the event's counter behind it
-extended : (s : Setup) (rs : List Request) (r : Request) (k : ℕ) → (packed (firstPlan s rs) ≡ 0 → ⊥) → Beside s (placesFrom (packed (firstPlan s rs)) 0 rs) r k
+extended : (s : Setup) (rs : List Request) (r : Request) (k : ℕ) → (packed (firstPlan s rs) ≡ 0 → ⊥) → Beside s rs (packed (firstPlan s rs)) r k
     → packed (firstPlan s rs) + (63 + k * 8) * 2 ^ (6 * length rs) ≡ packed (firstPlan s (rs ++ (r ∷ [])))
 unfolding packed
-extended s rs r k exists b =
+extended s rs r k exists (event {c = c} {m = m} {a = a} may n) =
     let f = some-packed (firstPlan s rs) exists in
     let back = plan-unpacked s rs (f .0) (f .1) in
     let long : length rs ≡ length (f .0) = sym (places-length (packed (firstPlan s rs)) 0 rs) ∙ ap length back in
-    go (f .0) (f .1) long (rw back at b)
+    go (f .0) (f .1) long (rw back at n)
   where
-    go : {q : Request} (ps : List Place) → firstPlan s rs ≡ some ps → length rs ≡ length ps → Beside s ps q k
-        → packed (firstPlan s rs) + (63 + k * 8) * 2 ^ (6 * length rs) ≡ packed (firstPlan s (rs ++ (q ∷ [])))
-    go ps e long (event {c = c} {m = m} {a = a} u n) =
-        rw (extends .event s rs c m a ps k (unruled-follows s rs (Event c m a) u) n e, e, long) (sym (extends .number ps k))
+    go : (ps : List Place) → firstPlan s rs ≡ some ps → length rs ≡ length ps → LeastUnused s a ps k
+        → packed (firstPlan s rs) + (63 + k * 8) * 2 ^ (6 * length rs) ≡ packed (firstPlan s (rs ++ (Event c m a ∷ [])))
+    go ps e long least = rw (extends .event s rs c m a ps k may least e, e, long) (sym (extends .number ps k))
 
 pub searched-extended : (s : Setup) (rows : List ℕ) (count : ℕ) (r : Request) (next : List ℕ) → next ≡ setRequest rows count r → requestAt next count ≡ r → length rows ≡ 32
-    → (code : ℕ) → code ≡ packed (firstPlan s (rowsFrom rows 0 count)) → (code ≡ 0 → ⊥) → (k : ℕ) → Beside s (placesFrom code 0 (rowsFrom rows 0 count)) r k
+    → (code : ℕ) → code ≡ packed (firstPlan s (rowsFrom rows 0 count)) → (code ≡ 0 → ⊥) → (k : ℕ) → Beside s (rowsFrom rows 0 count) code r k
     → (found : ℕ) → found ≡ code + (63 + k * 8) * 2 ^ (6 * count) → Searched s rows count r next found
 searched-extended s rows count r next put back size code e exists k b found f =
     let rs = rowsFrom rows 0 count in

@@ -3,7 +3,6 @@ use crate::Chosen;
 use crate::Extended;
 use crate::queue::bounded;
 use checks::devices::counter_count;
-use checks::rules::has_rules;
 use checks::set::size_of;
 use requests::CAPACITY;
 use requests::CounterSet;
@@ -12,8 +11,7 @@ use requests::Setup;
 use search::extend::counter_beside;
 use search::extend::with_counter;
 use search::filter_words::crowded_by_last;
-use search::plan_rows::plan_ruled;
-use search::plan_rows::plan_unruled;
+use search::plan_rows::plan_rows;
 use search::reach::left_at_first;
 use search::reach::left_by;
 use search::rows::ROW_NUMBERS;
@@ -55,9 +53,32 @@ fn none_left(usable: CounterSet, left: u64) -> bool
     false
 }
 
-// The plan of the requests taken with one more behind them. No plan has more requests than counters are usable, so that nothing is looked
-// for once as many are taken, nor where the requests leave no set of counters or ask for more filter words than the registers hold. An event
-// that has a counter beside the plan of those taken extends it; only for the others is a plan searched, and for all where events have rules.
+// The plan of the requests taken with one more behind them. An event that has a counter beside their plan extends it; for the others a plan is
+// searched, unless they ask for more filter words than the registers hold.
+fn plan_behind(
+    setup: Setup,
+    code: u64,
+    rows: &mut [u64; ROW_NUMBERS],
+    count: usize,
+    request: Request,
+) -> u64
+    requires { ⌜ (count < 8) × (length (now rows) ≡ 32) ⌝ }
+    requires { ⌜ (code ≡ packed (firstPlan setup (rowsFrom (now rows) 0 count))) × (code ≡ 0 → ⊥) ⌝ }
+    ensures { λ r. ⌜ Searched setup (now (rows .entry)) count request (now (rows .exit)) r ⌝ }
+{
+    let counter = counter_beside(setup, code, rows, count, request);
+    put_request(rows, count, request);
+    if counter < 64 {
+        return with_counter(code, count, counter);
+    }
+    if crowded_by_last(rows, count + 1) {
+        return 0;
+    }
+    plan_rows(setup, rows, count + 1)
+}
+
+// The same, and the sets of counters left then. No plan has more requests than counters are usable, so that nothing is looked for once as
+// many are taken, nor where the requests leave no set of counters.
 pub fn plan_with(
     setup: Setup,
     usable: usize,
@@ -82,27 +103,8 @@ pub fn plan_with(
     if none_left(own, left_then) {
         return Extended { code: 0, left };
     }
-    let device = setup.device;
-    if has_rules(device) {
-        put_request(rows, count, request);
-        return Extended {
-            code: plan_ruled(device, own, rows, count + 1),
-            left: left_then,
-        };
-    }
-    let counter = counter_beside(setup, code, rows, count, request);
-    put_request(rows, count, request);
-    if counter < 64 {
-        return Extended {
-            code: with_counter(code, count, counter),
-            left: left_then,
-        };
-    }
-    if crowded_by_last(rows, count + 1) {
-        return Extended { code: 0, left };
-    }
     Extended {
-        code: plan_unruled(setup, rows, count + 1),
+        code: plan_behind(setup, code, rows, count, request),
         left: left_then,
     }
 }

@@ -1,30 +1,38 @@
 -- The counters that a plan leaves free, one place after another, and the least of them that an event allows. Assumes nothing.
-use mathlib.Core.Path.{_≡_, refl, sym, ap, _∙_}
+use mathlib.Core.Path.{_≡_, refl, sym, ap, _∙_, subst}
 use mathlib.Core.Logic.{_≢_}
-use mathlib.Core.List.{List, [], _∷_, _++_, flatMap}
-use mathlib.Core.Bool.{Bool, true, false}
+use mathlib.Core.List.{List, [], _∷_, _++_, flatMap, List·Memᴰ, List·Memᴰ·head}
+use mathlib.Core.Bool.{Bool, true, false, not, false≢true}
 use Prim.Native.Nat.{ℕ, _<_, _≤_}
 use native.Mathlib.Omega.{arith}
 use native.Mathlib.Decide.{decLt}
 use lib.Dec.{eqb}
+use borrow.Author.Tests.{not-true}
 use Rattle.requests.specs.declared.CounterSet.{CounterSet}
+use Rattle.requests.specs.declared.Device.{Device}
+use Rattle.requests.specs.declared.EventRule.{EventRule}
+use Rattle.requests.specs.declared.EventRule.the-variants.{Anywhere, OnlyOn, AloneOn}
 use Rattle.requests.specs.declared.Setup.{Setup}
 use Rattle.requests.specs.declared.Request.{Request}
 use Rattle.requests.specs.declared.Request.the-variants.{Event, Packet, Offcore}
-use Rattle.requests.specs.Choice.{both, pick}
+use Rattle.requests.specs.Choice.{both, either, pick}
 use Rattle.requests.specs.Devices.{has, counterCount}
-use Rattle.requests.specs.RuledEvents.{Lone, Unruled}
+use Rattle.requests.specs.EventRules.{hasRules, ruleOf, ruleFor, wantsQuiet}
+use Rattle.requests.specs.RuledEvents.{RunsOn, Lone, Unruled}
+use Rattle.requests.proofs.RuledEvents.{ruled-events}
+use Rattle.requests.proofs.Tests.{both-parts}
 use Rattle.plans.specs.declared.Place.{Place}
 use Rattle.plans.specs.Lists.{All, nil, cons, empty, add, OneValue, none, and}
 use Rattle.plans.specs.declared.Place.the-variants.{Counter, WithRsp}
 use Rattle.plans.specs.Places.{countedOf, countersOf}
-use Rattle.plans.specs.Legal.{event, packet, offcore, Usable, wordsOf, packetsOf, ofAll, counters, HasPlan}
+use Rattle.plans.specs.Legal.{event, packet, offcore, Usable, wordsOf, packetsOf, ofAll, counters, Legal, HasPlan}
+use Rattle.plans.specs.Narrowed.{anyLone}
 use Rattle.search.specs.Rows.{setOf}
 use Rattle.search.specs.Counters.{available, NextIn, without}
 use Rattle.plans.specs.Extends.{Unused, LeastUnused, MayFollow}
-use Rattle.search.specs.Beside.{Without, LeftFree, AnyUsable}
+use Rattle.search.specs.Beside.{Without, LeftFree, isAnywhere, mayFollow, AnyUsable}
 use Rattle.plans.proofs.Sets.{has-other, has-self}
-use Rattle.plans.proofs.Narrowing.{never-lone, fits-legal}
+use Rattle.plans.proofs.Fits.{Fits}
 use Rattle.search.proofs.CounterBits.{has-below, chosen-free}
 use Rattle.search.proofs.OwnCounters.{ownSet, has-own, own-below}
 use Rattle.plans.proofs.ExtendsHold.{all-front, all-back, all-join, counters-behind}
@@ -107,27 +115,82 @@ module _ (s : Setup) (ps : List Place) (a free choice : CounterSet) (chosen : (k
       go j h u (yes f) = let e : has choice j ≡ true = rw (chosen j, h) (l .all j u) in never e (n .none-between j (omega arith) f)
       go j h u (no f) = omega arith
 
--- ---- where no event has a rule, any request follows any others
+-- ---- which events may follow others
 
-pub unruled-follows : (s : Setup) (rs : List Request) (r : Request) → Unruled (s .device) → MayFollow s rs r
-unruled-follows s rs r free = record { anywhere = free r; beside = go rs }
-  where
-    go : (qs : List Request) → All (λ (q : Request). ¬ Lone (s .device) q) qs
-    go [] = nil
-    go (q ∷ qs) = cons (never-lone s free q) (go qs)
+-- the rule of an event is the one that lets it run anywhere
+anywhere-is : (x : EventRule) → isAnywhere x ≡ true → x ≡ Anywhere
+unfolding isAnywhere
+anywhere-is Anywhere h = refl
+anywhere-is (OnlyOn k) h = absurd (false≢true h)
+anywhere-is (AloneOn k) h = absurd (false≢true h)
 
--- ---- a request alone there
+pub runs-anywhere : (d : Device) (c m : ℕ) (a : CounterSet) → isAnywhere (ruleOf d c m) ≡ true → (k : ℕ) → ¬ RunsOn d (Event c m a) k
+unfolding ruleFor
+runs-anywhere d c m a h = ruled-events .anywhere d (Event c m a) .0 (anywhere-is (ruleOf d c m) h)
+
+-- only events have a rule
+packet-anywhere : (d : Device) (x y : ℕ) (a : CounterSet) (k : ℕ) → ¬ RunsOn d (Packet x y a) k
+packet-anywhere d x y a k h = elim h [ ]
+
+offcore-anywhere : (d : Device) (w : ℕ) (a : CounterSet) (k : ℕ) → ¬ RunsOn d (Offcore w a) k
+offcore-anywhere d w a k h = elim h [ ]
+
+-- neither part of a choice holds where it does not
+neither : (a b : Bool) → either a b ≡ false → (a ≡ false) × (b ≡ false)
+unfolding either
+neither true b h = absurd (false≢true (sym h))
+neither false b h = (refl, h)
+
+none-lone : (d : Device) (rs : List Request) → anyLone d rs ≡ false → All (λ (q : Request). ¬ Lone d q) rs
+unfolding anyLone
+none-lone d [] h = nil
+none-lone d (r ∷ rs) h =
+    let o = neither (wantsQuiet (ruleFor d r)) (anyLone d rs) h in
+    cons (λ l. never (ruled-events .quiet d r .1 l) (o .0)) (none-lone d rs (o .1))
+
+pub follows : (s : Setup) (rs : List Request) (c m : ℕ) (a : CounterSet) → mayFollow (s .device) rs c m ≡ true → MayFollow s rs (Event c m a)
+unfolding mayFollow
+follows s rs c m a h =
+    let o = both-parts (isAnywhere (ruleOf (s .device) c m)) (not (anyLone (s .device) rs)) h in
+    record { anywhere = runs-anywhere (s .device) c m a (o .0); beside = none-lone (s .device) rs (not-true (anyLone (s .device) rs) (o .1)) }
+
+unruled-none : (d : Device) → Unruled d → (rs : List Request) → anyLone d rs ≡ false
+unfolding anyLone either wantsQuiet
+unruled-none d free [] = refl
+unruled-none d free (r ∷ rs) = rw (ruled-events .anywhere d r .1 (free r)) (unruled-none d free rs)
+
+-- where no event has a rule, every event may follow any others
+pub unruled-follows : (d : Device) (rs : List Request) (c m : ℕ) → hasRules d ≡ false → mayFollow d rs c m ≡ true
+unfolding mayFollow both isAnywhere ruleOf
+unruled-follows d rs c m h = rw (h, unruled-none d (ruled-events .unruled d .0 h) rs)
+
+-- ---- a request alone
 
 module _ (s : Setup) where
   pub any-usable : (a free choice : CounterSet) → ((k : ℕ) → has choice k ≡ available a free k) → LeftFree s [] free → (r : ℕ) → NextIn choice 0 r → r < 64 → AnyUsable s a
   any-usable a free choice chosen l r n b = let u = least-unused s [] a free choice chosen l r n b in (r, u .allowed, u .unused .0)
 
-module _ (s : Setup) (free : Unruled (s .device)) where
-  pub event-alone : (c m : ℕ) (a : CounterSet) → AnyUsable s a → HasPlan s (Event c m a ∷ [])
+  -- what fits is legal where the request may run on every counter
+  alone-legal : (r : Request) (p : Place) → ((k : ℕ) → ¬ RunsOn (s .device) r k) → Fits s (r ∷ []) (p ∷ []) → Legal s (r ∷ []) (p ∷ [])
+  alone-legal r p free f = record {
+    differ = f .differ;
+    usable-only = f .usable-only;
+    allowed = f .allowed;
+    one-word = f .one-word;
+    one-packet = f .one-packet;
+    ruled = and (λ k runs. absurd (free k runs)) none;
+    alone = λ q m l. absurd (lone q m l);
+    quiet = λ q m l. absurd (lone q m l);
+  }
+    where
+      lone : (q : Request) → List·Memᴰ q (r ∷ []) → ¬ Lone (s .device) q
+      lone q (List·Memᴰ·head e) l = let c = ruled-events .counted (s .device) r (subst (Lone (s .device)) e l) in free (c .0) (c .1)
+
+  pub event-alone : (c m : ℕ) (a : CounterSet) → isAnywhere (ruleOf (s .device) c m) ≡ true → AnyUsable s a → HasPlan s (Event c m a ∷ [])
   unfolding counters countersOf countedOf ofAll wordsOf packetsOf flatMap
-  event-alone c m a u = (
+  event-alone c m a h u = (
     Counter (u .0) ∷ [],
-    fits-legal s free (Event c m a ∷ []) (Counter (u .0) ∷ []) (record {
+    alone-legal (Event c m a) (Counter (u .0)) (runs-anywhere (s .device) c m a h) (record {
       differ = add nil empty;
       usable-only = cons (u .2) nil;
       allowed = and (event (u .1)) none;
@@ -140,7 +203,7 @@ module _ (s : Setup) (free : Unruled (s .device)) where
   unfolding counters countersOf countedOf ofAll wordsOf packetsOf flatMap
   packet-alone x y a u = (
     Counter (u .0) ∷ [],
-    fits-legal s free (Packet x y a ∷ []) (Counter (u .0) ∷ []) (record {
+    alone-legal (Packet x y a) (Counter (u .0)) (packet-anywhere (s .device) x y a) (record {
       differ = add nil empty;
       usable-only = cons (u .2) nil;
       allowed = and (packet (u .1)) none;
@@ -153,7 +216,7 @@ module _ (s : Setup) (free : Unruled (s .device)) where
   unfolding counters countersOf countedOf ofAll wordsOf packetsOf flatMap
   offcore-alone w a u = (
     WithRsp (u .0) 0 ∷ [],
-    fits-legal s free (Offcore w a ∷ []) (WithRsp (u .0) 0 ∷ []) (record {
+    alone-legal (Offcore w a) (WithRsp (u .0) 0) (offcore-anywhere (s .device) w a) (record {
       differ = add nil empty;
       usable-only = cons (u .2) nil;
       allowed = and (offcore {i = 0} (u .1) (omega arith)) none;

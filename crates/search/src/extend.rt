@@ -3,7 +3,6 @@ ghost use mathlib.Core.Bool.{true, false};
 ghost use mathlib.Core.Path.{_≡_};
 ghost use mathlib.Core.List.{[], _∷_};
 ghost use Prim.Native.Nat.{_+_, _*_, _^_, _<_, _≤_};
-ghost use Rattle.requests.specs.EventRules.{hasRules};
 ghost use Rattle.plans.specs.Places.{countersOf};
 ghost use Rattle.plans.specs.Legal.{HasPlan};
 ghost use Rattle.search.specs.Rows.{rowsFrom};
@@ -15,7 +14,10 @@ use crate::counters::without;
 use crate::packed::place_at;
 use crate::rows::ROW_NUMBERS;
 use crate::rows::request_at;
+use crate::ruled::may_follow;
+use crate::ruled::runs_anywhere;
 use checks::devices::all_counters;
+use checks::rules::rule_of;
 use checks::set::has;
 use plans::Place;
 use requests::CounterSet;
@@ -68,7 +70,7 @@ fn free_beside(setup: Setup, code: u64, rows: &[u64; ROW_NUMBERS], count: usize)
     free
 }
 
-// The least counter of an event beside a packed plan, where events have no rules; 64 or more where there is none, and for any other request.
+// The least counter of an event beside a packed plan, where no rule stands in the way; 64 or more where there is none, and for any other request.
 pub fn counter_beside(
     setup: Setup,
     code: u64,
@@ -76,29 +78,24 @@ pub fn counter_beside(
     count: usize,
     request: Request,
 ) -> u64
-    requires { ⌜ (count ≤ 8) × (hasRules (setup .device) ≡ false) ⌝ }
-    ensures { λ r. ⌜ (r < 64 → Beside setup (placesFrom code 0 (rowsFrom (now (rows .entry)) 0 count)) request r) ⌝ }
+    requires { ⌜ count ≤ 8 ⌝ }
+    ensures { λ r. ⌜ (r < 64 → Beside setup (rowsFrom (now (rows .entry)) 0 count) code request r) ⌝ }
 {
     match request {
         Request::Event {
-            code: _,
-            mask: _,
+            code: event,
+            mask,
             allowed,
-        } => next_in(available(allowed, free_beside(setup, code, rows, count)), 0),
-        Request::Packet {
-            match_word: _,
-            mask_word: _,
-            allowed: _,
-        } => 64,
-        Request::Offcore {
-            word: _,
-            allowed: _,
-        } => 64,
-        Request::Latency {
-            types: _,
-            first: _,
-            second: _,
-        } => 64,
+        } => {
+            let device = setup.device;
+            if may_follow(device, rows, count, event, mask) {
+                return next_in(available(allowed, free_beside(setup, code, rows, count)), 0);
+            }
+            64
+        }
+        Request::Packet { .. } => 64,
+        Request::Offcore { .. } => 64,
+        Request::Latency { .. } => 64,
     }
 }
 
@@ -109,28 +106,29 @@ pub fn any_usable(setup: Setup, allowed: CounterSet) -> bool
     next_in(available(allowed, own_counters(setup)), 0) < 64
 }
 
-// Whether a request that takes one counter has one, and so a plan alone, where events have no rules. Nothing is said of the others.
+// Whether a request that takes one counter, any that it allows, has one, and so a plan alone. Nothing is said of the others.
 pub fn counter_alone(setup: Setup, request: Request) -> bool
-    requires { ⌜ hasRules (setup .device) ≡ false ⌝ }
     ensures { λ r. ⌜ (r ≡ true → HasPlan setup (request ∷ [])) ⌝ }
 {
     match request {
         Request::Event {
-            code: _,
-            mask: _,
+            code,
+            mask,
             allowed,
-        } => any_usable(setup, allowed),
+        } => {
+            let device = setup.device;
+            if runs_anywhere(rule_of(device, code, mask)) {
+                return any_usable(setup, allowed);
+            }
+            false
+        }
         Request::Packet {
             match_word: _,
             mask_word: _,
             allowed,
         } => any_usable(setup, allowed),
         Request::Offcore { word: _, allowed } => any_usable(setup, allowed),
-        Request::Latency {
-            types: _,
-            first: _,
-            second: _,
-        } => false,
+        Request::Latency { .. } => false,
     }
 }
 

@@ -6,11 +6,13 @@ ghost use lib.ListN.{length};
 ghost use Rattle.requests.specs.EventRules.{wantsQuiet};
 ghost use Rattle.plans.specs.Narrowed.{onlyCounter, allowedBy, narrowed, anyLone, quietKept};
 ghost use Rattle.search.specs.Counters.{withCounters};
+ghost use Rattle.search.specs.Beside.{isAnywhere, mayFollow};
 ghost use Rattle.search.specs.Rows.{rowsFrom};
 use crate::rows::ROW_NUMBERS;
 use crate::rows::put_request;
 use crate::rows::request_at;
 use checks::devices::all_counters;
+use checks::rules::has_rules;
 use checks::rules::rule_for;
 use checks::rules::rule_of;
 use checks::set::has;
@@ -103,6 +105,37 @@ fn any_lone(device: Device, rows: &[u64; ROW_NUMBERS], count: usize) -> bool
         }
     }
     false
+}
+
+// Whether the rule lets an event run on every counter.
+pub fn runs_anywhere(rule: EventRule) -> bool
+    ensures { λ r. ⌜ r ≡ isAnywhere rule ⌝ }
+{
+    match rule {
+        EventRule::Anywhere => true,
+        EventRule::OnlyOn(_) => false,
+        EventRule::AloneOn(_) => false,
+    }
+}
+
+// Whether an event may run on every counter, and beside each of the requests in the first `count` rows.
+pub fn may_follow(
+    device: Device,
+    rows: &[u64; ROW_NUMBERS],
+    count: usize,
+    code: u8,
+    mask: u8,
+) -> bool
+    requires { ⌜ count ≤ 8 ⌝ }
+    ensures { λ r. ⌜ r ≡ mayFollow device (rowsFrom (now (rows .entry)) 0 count) code mask ⌝ }
+{
+    if has_rules(device) {
+        if runs_anywhere(rule_of(device, code, mask)) {
+            return !any_lone(device, rows, count);
+        }
+        return false;
+    }
+    true
 }
 
 // Whether every other counter is quiet where a request wants it: it is the only request, and all counters are usable.
