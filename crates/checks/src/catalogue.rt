@@ -1,5 +1,5 @@
 // What a catalogue lists of an event.
-use crate::halving::halving_search;
+use crate::cbox_events::row_of;
 use crate::mask_rules::lists;
 use crate::sbox_events::S_EVENTS;
 use crate::sbox_events::row_at;
@@ -11,7 +11,7 @@ ghost use lib.Dec.{eqb};
 ghost use Rattle.requests.specs.Choice.{either};
 ghost use Rattle.requests.specs.CBoxEvents.{cboxEvents};
 ghost use Rattle.requests.specs.Lookup.{rowOf, listingOf};
-ghost use Rattle.requests.specs.Halving.{halvingSearch, listedBy};
+ghost use Rattle.requests.specs.ByCode.{tableOf, foundIn, listedBy};
 
 // The look-up on S, row by row: the rows stand in any order.
 fn row_by_row(code: u8, mask: u8) -> Listing
@@ -104,12 +104,11 @@ fn on_precise_core(code: u8, mask: u8) -> Listing
     }
 }
 
-// The look-up on C by halving: the row found says what is listed.
-fn by_halving(code: u8, mask: u8) -> Listing
-    ensures { λ r. ⌜ r ≡ listedBy (halvingSearch (map rowOf cboxEvents) code .row) mask ⌝ }
+// The look-up on C, by the code: one entry of the table is read, and the row in it says what is listed.
+fn on_cbox(code: u8, mask: u8) -> Listing
+    ensures { λ r. ⌜ r ≡ listedBy (foundIn (tableOf (map rowOf cboxEvents)) code .row) mask ⌝ }
 {
-    let found = halving_search(code);
-    let row = found.row;
+    let row = row_of(code);
     if row == 0 {
         return Listing {
             code: false,
@@ -130,7 +129,7 @@ pub fn look_up(device: Device, code: u8, mask: u8) -> Listing
     match device {
         Device::G => on_core(code, mask),
         Device::S => row_by_row(code, mask),
-        Device::C(_) => by_halving(code, mask),
+        Device::C(_) => on_cbox(code, mask),
         Device::B => on_precise_core(code, mask),
     }
 }

@@ -7,7 +7,6 @@ pub mod check;
 pub mod devices;
 pub mod faults;
 pub mod fields;
-mod halving;
 mod mask_rules;
 pub mod refusals;
 pub mod rules;

@@ -9,8 +9,8 @@ pub mod Openings
 pub mod OpeningsTaken
 pub mod RuleNumbers
 pub mod Lookups
-pub mod Halvings
-pub mod HalvedLookups
+pub mod ByCode
+pub mod ListedByCode
 pub mod Roles
 pub mod FirstHolding
 pub mod AcceptanceTests

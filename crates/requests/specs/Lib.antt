@@ -26,4 +26,4 @@ pub mod FaultExamples
 pub mod Choice
 pub mod Masks
 pub mod Lookup
-pub mod Halving
+pub mod ByCode

@@ -13,7 +13,7 @@ use Rattle.requests.specs.declared.Listing.{Listing}
 use Rattle.requests.specs.declared.Request.{Request}
 use Rattle.requests.specs.declared.Request.the-variants.{Event, Packet, Offcore, Latency}
 
--- the mask rules of the catalogues that are searched by rows: a rule's number is its place
+-- the mask rules of the catalogues that stand in rows: a rule's number is its place
 unfoldable pub maskRules : List MaskRule
 maskRules =
     among []

@@ -86,19 +86,6 @@ pub enum EventRule {
     AloneOn(u64),
 }
 
-// Where a search by halving stands: the rows from low to below high are left. The row with the code, or 0 until it is found.
-pub struct Span {
-    pub low: usize,
-    pub high: usize,
-    pub row: u16,
-}
-
-// What a search by halving answers: the row with the code, 0 where there is none, and the number of rounds.
-pub struct Found {
-    pub row: u16,
-    pub rounds: usize,
-}
-
 // An entry of the queue.
 pub struct Entry {
     pub id: u64,
