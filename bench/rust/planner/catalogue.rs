@@ -30,9 +30,16 @@ impl Masks {
     }
 }
 
-/// The row of a code, found by halving.
-pub fn row_of(events: &[Event], code: u8) -> Option<&Event> {
-    events.binary_search_by_key(&code, |event| event.code).ok().map(|at| &events[at])
+/// A table by code: the row of each.
+pub type ByCode = [Option<Event>; 256];
+
+const fn by_code(events: &[Event]) -> ByCode {
+    let (mut table, mut at) = ([None; 256], 0);
+    while at < events.len() {
+        table[events[at].code as usize] = Some(events[at]);
+        at += 1;
+    }
+    table
 }
 
 const fn range(code: u8, first: u8, last: u8) -> Event {
@@ -95,3 +102,8 @@ pub const C: &[Event] = &[
     range(0x27, 1, 3),
     range(0x28, 1, 0xFF),
 ];
+
+pub static G_BY_CODE: ByCode = by_code(G);
+pub static S_BY_CODE: ByCode = by_code(S);
+pub static C_BY_CODE: ByCode = by_code(C);
+pub static B_BY_CODE: ByCode = by_code(B);

@@ -1,6 +1,6 @@
 //! The devices of document 01 and of the orders 3 and 12, a row each: whatever tells one from another stands in this table.
 
-use super::catalogue::{self, Event};
+use super::catalogue::{self, ByCode, Event};
 use super::pebs::{self, Precise};
 use super::refusal::Refusal;
 use super::u_box;
@@ -39,6 +39,7 @@ pub struct Device {
     /// How far the addresses of each box lie behind those of box 0; a device that is no box has box 0 alone.
     pub boxes: &'static [u64],
     pub events: &'static [Event],
+    pub by_code: &'static ByCode,
     /// Whether its counters are the uncore's, whose U-Box can freeze them and interrupt a core on an overflow.
     pub uncore: bool,
     /// Whether a pair that is not listed gets 8; otherwise only a code does, and a mask gets 9 or 10.
@@ -57,6 +58,7 @@ pub static DEVICES: [Device; 4] = [
         addresses: Addresses { global: 0x38F, control: 0x186, counter: 0xC1, step: 1 },
         boxes: &[0],
         events: catalogue::G,
+        by_code: &catalogue::G_BY_CODE,
         uncore: false,
         listed_by_pair: true,
         precise: &[],
@@ -70,6 +72,7 @@ pub static DEVICES: [Device; 4] = [
         addresses: Addresses { global: 0xC40, control: 0xC50, counter: 0xC51, step: 2 },
         boxes: &[0],
         events: catalogue::S,
+        by_code: &catalogue::S_BY_CODE,
         uncore: true,
         listed_by_pair: false,
         precise: &[],
@@ -83,6 +86,7 @@ pub static DEVICES: [Device; 4] = [
         addresses: Addresses { global: 0xD00, control: 0xD10, counter: 0xD11, step: 2 },
         boxes: &[0x00, 0x80, 0x40, 0xC0, 0x20, 0xA0, 0x60, 0xE0],
         events: catalogue::C,
+        by_code: &catalogue::C_BY_CODE,
         uncore: true,
         listed_by_pair: false,
         precise: &[],
@@ -96,6 +100,7 @@ pub static DEVICES: [Device; 4] = [
         addresses: Addresses { global: 0x38F, control: 0x186, counter: 0xC1, step: 1 },
         boxes: &[0],
         events: catalogue::B,
+        by_code: &catalogue::B_BY_CODE,
         uncore: false,
         listed_by_pair: true,
         precise: pebs::SANDY_BRIDGE,
@@ -136,7 +141,7 @@ impl Device {
 
     /// The number that refuses an event's code and mask.
     pub fn event_refusal(&self, code: u8, mask: u8) -> Option<u64> {
-        self.row_refusal(catalogue::row_of(self.events, code), mask)
+        self.row_refusal(self.by_code[code as usize].as_ref(), mask)
     }
 
     /// The same by the code's row: 8, or for a mask that is not listed 9 where it is 0 and otherwise 10.
