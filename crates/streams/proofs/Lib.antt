@@ -2,6 +2,7 @@ pub mod Cut
 pub mod Kept
 pub mod LineByLine
 pub mod LongLines
+pub mod UnfinishedLines
 pub mod TranscriptHolds
 pub mod AcceptanceTests
 pub mod FeedAnswers

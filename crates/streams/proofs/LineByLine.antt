@@ -90,14 +90,14 @@ last-member b [] = List·Memᴰ·head refl
 last-member b (c ∷ cs) = List·Memᴰ·tail (last-member c cs)
 
 -- bytes without a newline are not closed
-not-closed : (text : List ℕ) → NewlineFree text → isClosed text ≡ false
+pub not-closed : (text : List ℕ) → NewlineFree text → isClosed text ≡ false
 unfolding isClosed newline
 not-closed [] free = refl
 not-closed (b ∷ bs) free =
     let size : length (b ∷ bs) - 1 ≡ length bs = omega arith in
     ne-eqb _ newline (λ e. free (subst (λ (n : ℕ). List·Memᴰ n (b ∷ bs)) (ap (λ (k : ℕ). getD (b ∷ bs) k 0) (sym size) ∙ e) (last-member b bs)))
 
-open-parsed : (text : List ℕ) → NewlineFree text → (n : NameLists) (d : Device)
+pub open-parsed : (text : List ℕ) → NewlineFree text → (n : NameLists) (d : Device)
     → parseLineWith n d text ≡ parseTextWith n d (take longest text) false (ltb longest (length text))
 unfolding parseLineWith textLength
 open-parsed text free n d = rw (not-closed text free, take-all (length text) text (le-refl (length text)))

@@ -87,6 +87,7 @@ feedTries =
       calls = give 8 (tabbed "turn") ∷ finish 8 ∷ finish 8 ∷ [];
       said = ok 8 [] ∷ ok 8 (typed ("no 1 1" ∷ [])) ∷ no 8 2 ∷ [];
     }
+    ∷ record { calls = give 0 (tabbed "open C 63 0 7 0 -") ∷ finish 8 ∷ []; said = ok 0 [] ∷ ok 8 (typed ("no 1 7" ∷ [])) ∷ [] }
     ∷ record { calls = finish 0 ∷ finish 0 ∷ give 0 [] ∷ give 3 (typed ("turn" ∷ [])) ∷ []; said = ok 0 [] ∷ no 0 2 ∷ no 0 2 ∷ no 3 2 ∷ [] }
     ∷
     -- an output that is one byte too short, and one that is just long enough

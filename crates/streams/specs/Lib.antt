@@ -4,6 +4,7 @@ pub mod Feeds
 -- Statements: what is claimed of it.
 pub mod LineByLine
 pub mod LongLines
+pub mod UnfinishedLines
 pub mod Transcript
 pub mod Cutting
 pub mod FeedRules
