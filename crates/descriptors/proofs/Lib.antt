@@ -4,3 +4,5 @@ pub mod RoomFilled
 pub mod WholeFiles
 pub mod Reported
 pub mod Retried
+pub mod ClosedOutputs
+pub mod AnswersCounted

@@ -5,3 +5,5 @@ pub mod WholeFiles
 pub mod Writes
 pub mod Reports
 pub mod Retries
+pub mod ClosedOutputs
+pub mod AnswersCounted
