@@ -90,8 +90,9 @@ unfoldable pub lentRuns : List LentRun
 lentRuns =
     -- open looks at no contents, and makes all vacant; the second is refused
     record { start = (newLent, with 9 (Packet 0xFF 0xFF (setOf 99)) ∷ waiting 0 3 ∷ waiting 9 1 ∷ []); calls = opening 71 15 ∷ opening 71 15 ∷ []; numbers = none ∷ some 2 ∷ []; plans = []; left = replicate 3 Vacant }
-    -- no record, and 257
+    -- no record, 256 and 257
     ∷ record { start = (newLent, []); calls = opening 71 15 ∷ Turn 64 ∷ []; numbers = some 3 ∷ some 2 ∷ []; plans = []; left = [] }
+    ∷ record { start = (newLent, replicate 256 (waiting 7 1)); calls = opening 71 15 ∷ []; numbers = none ∷ []; plans = []; left = replicate 256 Vacant }
     ∷ record { start = (newLent, replicate 257 Vacant); calls = opening 71 15 ∷ []; numbers = some 3 ∷ []; plans = []; left = replicate 257 Vacant }
     ∷ record { start = (on G 15, []); calls = Turn 64 ∷ Drop 1 ∷ []; numbers = some 3 ∷ some 3 ∷ []; plans = []; left = [] }
     -- not open: 2, whatever the records
@@ -104,12 +105,16 @@ lentRuns =
     ∷ refused (on G 15) (waiting 1 1 ∷ waiting 2 1 ∷ waiting 3 1 ∷ waiting 1 1 ∷ Vacant ∷ [])
     ∷ refused (on G 15) (waiting 65536 1 ∷ [])
     ∷ refused (on G 15) (waiting 1 1 ∷ waiting 0 1 ∷ [])
+    ∷ refused (on G 15) (waiting 1 1 ∷ with 0 (Event 0 1 (setOf 0)) ∷ [])
+    ∷ refused (on G 15) (waiting 1 1 ∷ with 0 (Event 0 0 (setOf 1)) ∷ [])
     ∷ refused (on G 15) (waiting 1 1 ∷ with 0 (Packet 0 0 (setOf 0)) ∷ [])
     ∷ refused (on G 15) (waiting 1 1 ∷ Vacant ∷ with 0 (Event 1 0 (setOf 0)) ∷ [])
     -- ill-formed on this device, no plan by itself, none with these usable counters
     ∷ refused (on G 15) (with 1 (Packet 0 0 (setOf 1)) ∷ [])
     ∷ refused (on G 15) (with 1 (Latency 1 (setOf 4) (setOf 4)) ∷ [])
     ∷ refused (on G 7) (waiting 1 8 ∷ [])
+    -- the last id; the last record is freed
+    ∷ record { start = (on G 15, waiting 65535 1 ∷ waiting 1 1 ∷ []); calls = Drop 1 ∷ []; numbers = none ∷ []; plans = []; left = waiting 65535 1 ∷ Vacant ∷ [] }
     -- what is broken on G may be sound on S
     ∷ record { start = (on S 15, with 1 (Packet 0 0 (setOf 1)) ∷ Vacant ∷ []); calls = Drop 1 ∷ []; numbers = none ∷ []; plans = []; left = Vacant ∷ Vacant ∷ [] }
     -- drop closes the gap, and the freed record is all 0
