@@ -1,4 +1,5 @@
 pub mod Progress
+pub mod OutputRead
 pub mod Runs
 pub mod NextLine
 pub mod Taking
