@@ -119,7 +119,7 @@ fn main() {
     println!("{count} transcripts, {} lines, {cut} of them in pieces too: the same, byte for byte", tally.lines);
     tally.print();
     tally.nothing_else();
-    if count >= 1000 {
+    if count >= 10_000 {
         tally.nothing_missed();
     }
 }

@@ -84,7 +84,7 @@ impl Bench<'_> {
         let (once, twice) = (self.totals(repeated, LINES), self.totals(repeated, 2 * LINES));
         let [ours, road, fastest] = [0, 1, 2].map(|program| (twice[program] - once[program]) / LINES as f64);
         let what = format!("{rows:4} rows, {}", repeated.what);
-        println!("{what:46}{ours:10.0}{road:10.0}{:7.2}{fastest:10.0}{:7.2}", ours / road, ours / fastest);
+        println!("{what:46}{ours:10.0}{road:10.0}{:7.2}{fastest:10.0}{:10.2}", ours / road, ours / fastest);
     }
 
     /// All lines beside two lists of so many rows.
@@ -105,7 +105,7 @@ fn main() {
     let [tuner, road, fastest, folder] = &words[..] else { panic!("named_lines TUNER SAME_ROAD FASTEST FOLDER") };
     let bench = Bench { programs: [tuner, road, fastest], folder };
     let countable = instructions::countable();
-    println!("{:46}{:>10}{:>10}{:>7}{:>10}{:>7}", "instructions", "ours", "same road", "ratio", "fastest", "ratio");
+    println!("{:46}{:>10}{:>10}{:>7}{:>10}{:>10}", "instructions", "ours", "same road", "ratio", "fastest", "ratio");
     ROWS.iter().for_each(|rows| bench.run(*rows, countable));
     for name in ["site", "house", "text"] {
         fs::remove_file(bench.file(name)).expect("a file of ours");
