@@ -4,13 +4,15 @@ use crate::ids::outside_ids;
 use crate::queue::bounded;
 use crate::queue::vacant;
 use checks::check::request_refusal;
+use checks::rules::has_rules;
 use requests::Answer;
 use requests::Entry;
 use requests::Refusal;
 use requests::Request;
 use requests::Setup;
 use search::extend::counter_alone;
-use search::plan_rows::plan_rows;
+use search::plan_rows::plan_ruled;
+use search::plan_rows::plan_unruled;
 use search::rows::ROW_NUMBERS;
 use search::rows::put_request;
 use sessions::Answered;
@@ -32,7 +34,12 @@ pub fn plans_alone(setup: Setup, request: Request) -> bool
     }
     let mut rows: [u64; ROW_NUMBERS] = [0; ROW_NUMBERS];
     put_request(&mut rows, 0, request);
-    plan_rows(setup, &rows, 1) != 0
+    let device = setup.device;
+    if has_rules(device) {
+        let usable = setup.usable;
+        return plan_ruled(device, usable, &rows, 1) != 0;
+    }
+    plan_unruled(setup, &rows, 1) != 0
 }
 
 // The answer to an add of an id, by the refusal table, told whether it is waiting.

@@ -37,7 +37,12 @@ fn search_rows(device: Device, usable: CounterSet, rows: &[u64; ROW_NUMBERS], co
 
 // The first plan of the requests as the rules of events leave them. What it asks of the setup is given by itself, so that where there are no
 // rules nothing is copied for it.
-fn plan_ruled(device: Device, usable: CounterSet, rows: &[u64; ROW_NUMBERS], count: usize) -> u64
+pub fn plan_ruled(
+    device: Device,
+    usable: CounterSet,
+    rows: &[u64; ROW_NUMBERS],
+    count: usize,
+) -> u64
     requires { ⌜ count ≤ 8 ⌝ }
     ensures { λ r. ⌜ r ≡ packed (firstPlan (withCounters device usable) (rowsFrom (now (rows .entry)) 0 count)) ⌝ }
 {
@@ -50,7 +55,7 @@ fn plan_ruled(device: Device, usable: CounterSet, rows: &[u64; ROW_NUMBERS], cou
 }
 
 // The first plan of the requests on a device whose events have no rules.
-fn plan_unruled(setup: Setup, rows: &[u64; ROW_NUMBERS], count: usize) -> u64
+pub fn plan_unruled(setup: Setup, rows: &[u64; ROW_NUMBERS], count: usize) -> u64
     requires { ⌜ (count ≤ 8) × (hasRules (setup .device) ≡ false) ⌝ }
     ensures { λ r. ⌜ r ≡ packed (firstPlan setup (rowsFrom (now (rows .entry)) 0 count)) ⌝ }
 {
