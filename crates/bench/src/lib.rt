@@ -1,4 +1,6 @@
 // The planner over numbers, for the Rust program of bench/ to link. Requests stand in rows, as in `search::rows`.
+#![tactic(auto)]
+
 ghost use Rattle.std.specs.Prelude.{◌≡◌, ◌<◌, ◌≤◌};
 ghost use Rattle.plans.specs.Search.{first_plan};
 ghost use Rattle.search.specs.Rows.{rows_from};

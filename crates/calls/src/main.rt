@@ -1,5 +1,7 @@
 // Library calls as scripts: reads a script from standard input, a call a line, and prints the answer of each.
 // docs/MAINTAINING.md has the notation. A line that is not in it is answered `?` and changes nothing.
+#![tactic(auto)]
+
 mod answers;
 mod asked;
 mod edits;

@@ -1,4 +1,6 @@
 // The devices, the event catalogues and the checks of a request.
+#![tactic(auto)]
+
 pub mod askings;
 pub mod bits;
 pub mod catalogue;

@@ -2,6 +2,8 @@
 // after a wait, and a failure is told on standard error.
 // No contract can say what is read and written there. What is made of the answers of `read` and `write` stands in functions of
 // its own, each with a contract that says it exactly.
+#![tactic(auto)]
+
 pub mod errors;
 mod failures;
 pub mod file;

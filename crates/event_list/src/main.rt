@@ -1,6 +1,8 @@
 // The list of events, `event_list LIST [DEVICE]`: a row for each event that the device with this letter counts, or that any device counts.
 // The file LIST has the names, in the rows of the line program's lists.
 // A program has no exit status of its own: where its first argument asks for it, it writes the number on descriptor 3 as it ends.
+#![tactic(auto)]
+
 mod events;
 mod list_names;
 mod row_parts;

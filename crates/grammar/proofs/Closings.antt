@@ -6,7 +6,7 @@ use Prim.Native.Nat.{ℕ, ◌-◌, ◌≤◌}
 use native.Mathlib.Omega.{arith}
 use lib.Dec.{ltb}
 use lib.ListN.{length, get_or, take, length-take}
-use lib.Seq.{take_all, take_at, take-suc, take_length, get_or_at}
+use lib.Seq.{take_all, take_at, take-suc, take-length, get_or_at}
 use borrow.Author.Tests.{eq-eqb, le-ltb, ltb-false, eqb-true}
 use Rattle.grammar.specs.Text.{newline}
 use Rattle.grammar.specs.Fields.{fields}
@@ -75,7 +75,7 @@ last_newline [] c = absurd (true≢false (sym c))
 last_newline (b ∷ line) c =
     let before : length (b ∷ line) - 1 ≡ length line = omega arith in
     let last : get_or (b ∷ line) (length line) 0 ≡ newline = eqb-true _ newline (rw before at c) in
-    rw (before, ← last) (sym (take_length (b ∷ line)) ∙ take-suc (b ∷ line) (length line) 0 (omega arith))
+    rw (before, ← last) (sym (take-length (b ∷ line)) ∙ take-suc (b ∷ line) (length line) 0 (omega arith))
 
 -- a closed line within the limit is its text and a newline
 pub closed_only : (line : List ℕ) → is_closed line ≡ true → text_length line ≤ 80 → line ≡ text_of line ++ newline ∷ []

@@ -6,7 +6,7 @@ use native.Mathlib.Nat.{div-lt_iff_lt-mul, pow-zero, pow-suc}
 use native.Mathlib.Numerals.{add-one}
 use native.Mathlib.Omega.{arith}
 use lib.ListN.{length, get_or, take, length-append}
-use lib.Seq.{take-suc, take_length, length-take-le}
+use lib.Seq.{take-suc, take-length, length-take-le}
 use Rattle.grammar.specs.Text.{hex_digit}
 use Rattle.grammar.specs.Numbers.{number_from}
 use Rattle.grammar.specs.declared.Number.TheVariants.{Value}
@@ -25,7 +25,7 @@ module _ (base : ℕ) (some : 0 < base) (most : base ≤ 16) where
     by_length zero [] n l e = let is : 0 ≡ n = cc in subst (P []) is none
     by_length zero (b ∷ f) n l e = absurd (omega arith)
     by_length (suc w) f n l e =
-        let parts : f ≡ take w f ++ get_or f w 0 ∷ [] = sym (take_length f) ∙ ap (λ (k : ℕ). take k f) l ∙ take-suc f w 0 (omega arith) in
+        let parts : f ≡ take w f ++ get_or f w 0 ∷ [] = sym (take-length f) ∙ ap (λ (k : ℕ). take k f) l ∙ take-suc f w 0 (omega arith) in
         let (front, last) = last_only base some most (take w f) n (get_or f w 0) (rw parts at e) in
         let whole : f ≡ take w f ++ hex_digit (n % base) ∷ [] = parts ∙ ap (λ (b : ℕ). take w f ++ b ∷ []) last in
         subst (λ (g : List ℕ). P g n) (sym whole) (more (take w f) n (by_length w (take w f) (n / base) (length-take-le w f (omega arith)) front))

@@ -1,4 +1,6 @@
 // Records: what a line of text asks for, verb by verb.
+#![tactic(auto)]
+
 use requests::{Device, Request, Setup};
 
 // The most bytes of a line, without its newline.

@@ -4,7 +4,7 @@ use mathlib.Core.Bool.{Bool, true, false, not}
 use mathlib.Core.List.{List, [], ◌∷◌, Memᴰ}
 use Prim.Native.Nat.{ℕ, ◌+◌, ◌*◌, ◌/◌, ◌%◌, ◌<◌}
 use lib.Dec.{eqb}
-use borrow.Author.Tests.{eqb-true, not_true, ne_eqb}
+use borrow.Author.Tests.{eqb-true, not-true, ne_eqb}
 use Rattle.requests.specs.Choice.{both, either, every}
 use Rattle.requests.specs.declared.Device.TheVariants.{C}
 use Rattle.requests.specs.Bits.{in_list}
@@ -45,7 +45,7 @@ disjoint (x ∷ xs) ys = both (not (in_list ys x)) (disjoint xs ys)
 
 not_both : (xs ys : List ℕ) → disjoint xs ys ≡ true → (a : ℕ) → Memᴰ a xs → ¬ Memᴰ a ys
 unfolding disjoint
-not_both (x ∷ xs) ys h a (Memᴰ.head e) m = both_ways (member_in ys x (rw (← e) m)) (not_true _ (both_parts _ _ h).0)
+not_both (x ∷ xs) ys h a (Memᴰ.head e) m = both_ways (member_in ys x (rw (← e) m)) (not-true _ (both_parts _ _ h).0)
 not_both (x ∷ xs) ys h a (Memᴰ.tail r) m = not_both xs ys (both_parts _ _ h).1 a r m
 
 all_apart : every 8 (λ b. every 8 (λ c. either (eqb b c) (disjoint (cbox_registers b) (cbox_registers c)))) ≡ true

@@ -13,7 +13,7 @@ use Prim.Native.Nat.{ℕ, ◌+◌, ◌*◌, ◌-◌, ◌%◌, ◌^◌, ◌≤◌
 use native.Mathlib.Nat.{zero-add, add-zero, add_assoc, mod-eq_of_lt, mod-lt}
 use native.Mathlib.Decide.{dec_lt}
 use native.Mathlib.Omega.{arith}
-use borrow.Author.Tests.{eqb-true, not_true, le-ltb}
+use borrow.Author.Tests.{eqb-true, not-true, le-ltb}
 use lib.Dec.{eqb, ltb}
 use lib.Pow.{pow_pos, pow_mono}
 use Rattle.requests.specs.Choice.{both, either}
@@ -167,7 +167,7 @@ module _ (s : Setup) (rs : List Request) (ps : List Place) (legal : Legal s rs p
       (set_sum (counter_count s.device) 0 (others s) (in_list (counters ps)) (λ k l h. apart (0 + k) h (in_list (counters ps) (0 + k)) refl))
     where
       apart : (k : ℕ) → not (has s.usable k) ≡ true → (b : Bool) → in_list (counters ps) k ≡ b → b ≡ false
-      apart k h true e = absurd (true≢false (sym (all_listed {P = Usable s} k legal.usable_only e).1 ∙ not_true (has s.usable k) h))
+      apart k h true e = absurd (true≢false (sym (all_listed {P = Usable s} k legal.usable_only e).1 ∙ not-true (has s.usable k) h))
       apart k h false e = refl
 
   pub last_bit : (k : ℕ) → k < counter_count s.device

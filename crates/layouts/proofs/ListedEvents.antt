@@ -7,7 +7,7 @@ use mathlib.Core.Bool.{Bool, true, not, false≢true}
 use mathlib.Core.List.{List, [], ◌∷◌}
 use Prim.Native.Nat.{ℕ, ◌<◌}
 use native.Mathlib.Omega.{arith}
-use borrow.Author.Tests.{eqb-true, leb-true, ltb-true, eqb-false, not_true}
+use borrow.Author.Tests.{eqb-true, leb-true, ltb-true, eqb-false, not-true}
 use lib.Dec.{eqb, ltb, leb}
 use Rattle.requests.specs.Choice.{both}
 use Rattle.requests.specs.Bits.{in_list}
@@ -63,7 +63,7 @@ row_listed x c m (e ∷ es) t l =
     record {
       code = omega (arith, ltb-true e.code 256 here.0);
       mask = mask_below e.masks m rest.0 pair.1;
-      other = λ q. eqb-false e.code x (not_true _ rest.1) (sym same ∙ q);
+      other = λ q. eqb-false e.code x (not-true _ rest.1) (sym same ∙ q);
     })
     (λ h. row_listed x c m es all.1 h)
     (either_cases _ _ l)

@@ -11,7 +11,7 @@ use Prim.Native.Nat.{ℕ, suc, ◌+◌, ◌^◌, ◌≤◌, ◌<◌}
 use native.Mathlib.Nat.{pow-succ'}
 use native.Mathlib.Decide.{ℕ_discrete, dec_lt}
 use native.Mathlib.Omega.{arith}
-use borrow.Author.Tests.{ne_eqb, ltb-true, not_true}
+use borrow.Author.Tests.{ne_eqb, ltb-true, not-true}
 use lib.Dec.{ltb}
 use lib.Pow.{pow_mono}
 use Rattle.requests.specs.Choice.{both, either, every}
@@ -50,7 +50,7 @@ pub types_below : (t : ℕ) → only_bits type_bits t ≡ true → t < 2 ^ 16
 types_below t h =
     below_bits 16 48 t (only_below type_bits t h)
     (λ k l b. reserved type_bits k t b
-    (⊎_elim (λ e. absurd (omega (arith, ltb-true k 16 e))) (λ e. not_true _ e) (either_cases _ _ (every_at 64 (λ j. either (ltb j 16) (not (in_list type_bits j))) types_low k b))) h)
+    (⊎_elim (λ e. absurd (omega (arith, ltb-true k 16 e))) (λ e. not-true _ e) (either_cases _ _ (every_at 64 (λ j. either (ltb j 16) (not (in_list type_bits j))) types_low k b))) h)
 
 -- no answer stands below bit 17
 answers_high : every 17 (λ k. not (in_list answer_bits k)) ≡ true
@@ -59,7 +59,7 @@ answers_high = refl
 
 answers_above : (k : ℕ) → Memᴰ k answer_bits → 17 ≤ k
 answers_above k m = elim (dec_lt k 17) [
-  | yes l ↦ absurd (both_ways (member_in answer_bits k m) (not_true _ (every_at 17 (λ j. not (in_list answer_bits j)) answers_high k l)))
+  | yes l ↦ absurd (both_ways (member_in answer_bits k m) (not-true _ (every_at 17 (λ j. not (in_list answer_bits j)) answers_high k l)))
   | no g ↦ omega arith
 ]
 

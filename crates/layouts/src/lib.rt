@@ -1,4 +1,6 @@
 // What is written into registers, and what is read from them: the types of the register tables, the writer and the reader.
+#![tactic(auto)]
+
 use requests::{Answer, CAPACITY, CounterSet};
 
 // Where a device's registers are: counter k's control is at control + step * k, its count at counter + step * k.

@@ -5,7 +5,7 @@ use mathlib.Core.List.{List, [], ◌∷◌}
 use mathlib.Core.Bool.{Bool, true, false, not, false≢true, true≢false}
 use Prim.Native.Nat.{ℕ}
 use lib.Dec.{eqb}
-use borrow.Author.Tests.{eqb-true, eq-eqb, ne_eqb, not_true}
+use borrow.Author.Tests.{eqb-true, eq-eqb, ne_eqb, not-true}
 use Rattle.requests.specs.declared.Setup.{Setup}
 use Rattle.requests.specs.declared.Entry.{Entry}
 use Rattle.requests.specs.Choice.{both, either}
@@ -77,7 +77,7 @@ after_kept s seen (e ∷ es) h = go (eqb e.id 0) refl (after_kept s (e ∷ seen)
     go false k below =
         let t = both_parts (may_wait s e) _ (sym (after_waiting s seen e es k) ∙ h) in
         let u = both_parts (not (waits e.id seen)) (kept_after s (e ∷ seen) es) t.1 in
-        let unseen : waits e.id seen ≡ false = not_true (waits e.id seen) u.0 in
+        let unseen : waits e.id seen ≡ false = not-true (waits e.id seen) u.0 in
         let rest = below u.1 in
         let alone : waits e.id es ≡ false = rest.1 e.id (may_id s e t.0) (waits_front e.id e seen refl) in (
           kept_waiting s e es k ∙ true_both (may_wait s e) _ t.0 (true_both (not (waits e.id es)) (kept_rules s es) (ap not alone) rest.0),
@@ -93,7 +93,7 @@ kept_after_lem s seen (e ∷ es) h apart = go (eqb e.id 0) refl (kept_after_lem 
     go false k below =
         let t = both_parts (may_wait s e) _ (sym (kept_waiting s e es k) ∙ h) in
         let u = both_parts (not (waits e.id es)) (kept_rules s es) t.1 in
-        let alone : waits e.id es ≡ false = not_true (waits e.id es) u.0 in
+        let alone : waits e.id es ≡ false = not-true (waits e.id es) u.0 in
         let is_id : IsId e.id = may_id s e t.0 in
         let unseen : waits e.id seen ≡ false = not_seen (waits e.id seen) refl is_id in
         after_waiting s seen e es k

@@ -1,4 +1,6 @@
 // The calls of a session whose queue the host lends as a slice of records.
+#![tactic(auto)]
+
 use lent_sessions::{LentAnswered, LentTurned};
 use requests::{CAPACITY, Entry, Setup};
 use search::rows::ROW_NUMBERS;

@@ -10,7 +10,7 @@ use mathlib.Core.Option.{Option, none, some, none-ne-some}
 use Prim.Native.Nat.{ℕ, ◌-◌, ◌≤◌}
 use native.Mathlib.Omega.{arith}
 use lib.ListN.{length, replicate, length-append, length-replicate}
-use borrow.Author.Tests.{not_true}
+use borrow.Author.Tests.{not-true}
 use Rattle.requests.specs.declared.Opening.{Opening}
 use Rattle.requests.specs.declared.Setup.{Setup}
 use Rattle.requests.specs.declared.Entry.{Entry}
@@ -77,10 +77,10 @@ table_last s rows c h b = later_row (out_of_order_lem s c) CallOrder _ h ∙ lat
 pub plain_order : (limit : ℕ) (s : LentSession) (rows : List Entry) (c : Call) → out_of_order_lem s c ≡ true → refusal limit (plain_with s rows) c ≡ some CallOrder
 unfolding out_of_order_lem
 plain_order limit s rows (Open o) h = rw (with_opened s rows h) (open_again limit s.setup (standing rows) o)
-plain_order limit s rows (Add id r) h = rw (with_closed s rows (not_true s.opened h)) (add_closed limit id r)
-plain_order limit s rows (Drop id) h = rw (with_closed s rows (not_true s.opened h)) (drop_closed limit id)
-plain_order limit s rows (Turn room) h = rw (with_closed s rows (not_true s.opened h)) (turn_closed limit room)
-plain_order limit s rows (Turns n room places) h = rw (with_closed s rows (not_true s.opened h)) (turns_closed limit n room places)
+plain_order limit s rows (Add id r) h = rw (with_closed s rows (not-true s.opened h)) (add_closed limit id r)
+plain_order limit s rows (Drop id) h = rw (with_closed s rows (not-true s.opened h)) (drop_closed limit id)
+plain_order limit s rows (Turn room) h = rw (with_closed s rows (not-true s.opened h)) (turn_closed limit room)
+plain_order limit s rows (Turns n room places) h = rw (with_closed s rows (not-true s.opened h)) (turns_closed limit n room places)
 
 -- the records of a call that is in order
 rows_fine : (s : LentSession) (rows : List Entry) → InOrder s rows → (c : Call) → out_of_order_lem s c ≡ false → bad_rows s.setup rows c ≡ false

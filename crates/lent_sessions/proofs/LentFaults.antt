@@ -8,7 +8,7 @@ use mathlib.Mathlib.Data.Bool.Basic.{eq-false_of_not-eq-true}
 use Prim.Native.Nat.{ℕ, ◌<◌}
 use native.Mathlib.Omega.{arith}
 use lib.ListN.{length}
-use borrow.Author.Tests.{not_true, not-false}
+use borrow.Author.Tests.{not-true, not-false}
 use Rattle.requests.specs.declared.Opening.{Opening}
 use Rattle.requests.specs.declared.Entry.{Entry}
 use Rattle.requests.specs.declared.Refusal.{Refusal}
@@ -74,7 +74,7 @@ module _ (s : LentSession) (rows : List Entry) where
   -- with others 3 is at 0
   rows_field : (c : Call) → bad_rows s.setup rows c ≡ true → field_of BadOpening (lent_fields_of s.setup.device (length rows) c) ≡ 0
   unfolding bad_rows lent_fields_of lent_opening_fields field_of request_fields turns_fields no_fields
-  rows_field (Open o) b = ap (λ (x : Bool). (pick x (opening_fields o) no_fields).opening) (not_true (is_count (length rows)) b)
+  rows_field (Open o) b = ap (λ (x : Bool). (pick x (opening_fields o) no_fields).opening) (not-true (is_count (length rows)) b)
   rows_field (Add id r) b = refl
   rows_field (Drop id) b = refl
   rows_field (Turn room) b = refl
@@ -101,11 +101,11 @@ module _ (s : LentSession) (rows : List Entry) where
   -- what the test of the records says
   bad_applies : (c : Call) → bad_rows s.setup rows c ≡ true → LentAppliesAt s rows c BadOpening 0
   unfolding bad_rows
-  bad_applies (Open o) b = bad_number (λ n. both_ways (row_rules.counts (length rows) n) (not_true _ b))
-  bad_applies (Add id r) b = broken_rows tt (λ k. both_ways (row_rules.holds s.setup rows k) (not_true _ b))
-  bad_applies (Drop id) b = broken_rows tt (λ k. both_ways (row_rules.holds s.setup rows k) (not_true _ b))
-  bad_applies (Turn room) b = broken_rows tt (λ k. both_ways (row_rules.holds s.setup rows k) (not_true _ b))
-  bad_applies (Turns n room places) b = broken_rows tt (λ k. both_ways (row_rules.holds s.setup rows k) (not_true _ b))
+  bad_applies (Open o) b = bad_number (λ n. both_ways (row_rules.counts (length rows) n) (not-true _ b))
+  bad_applies (Add id r) b = broken_rows tt (λ k. both_ways (row_rules.holds s.setup rows k) (not-true _ b))
+  bad_applies (Drop id) b = broken_rows tt (λ k. both_ways (row_rules.holds s.setup rows k) (not-true _ b))
+  bad_applies (Turn room) b = broken_rows tt (λ k. both_ways (row_rules.holds s.setup rows k) (not-true _ b))
+  bad_applies (Turns n room places) b = broken_rows tt (λ k. both_ways (row_rules.holds s.setup rows k) (not-true _ b))
 
   fine_number : (o : Opening) → bad_rows s.setup rows (Open o) ≡ false → IsCount (length rows)
   unfolding bad_rows

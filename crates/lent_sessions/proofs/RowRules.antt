@@ -11,7 +11,7 @@ use Prim.Native.Nat.{ℕ, zero, suc}
 use native.Mathlib.Omega.{arith}
 use lib.Dec.{eqb, leb}
 use lib.ListN.{length, replicate}
-use borrow.Author.Tests.{eqb-true, eqb-false, ne_eqb, leb-true, le-leb, not_true}
+use borrow.Author.Tests.{eqb-true, eqb-false, ne_eqb, leb-true, le-leb, not-true}
 use Rattle.requests.specs.declared.Setup.{Setup}
 use Rattle.requests.specs.declared.Request.{Request}
 use Rattle.requests.specs.declared.Request.TheVariants.{Event, Packet, Offcore, Latency}
@@ -127,7 +127,7 @@ unfolding may_wait
 waiting_is s e h =
     let t = both_parts (not (outside_ids e.id)) (both (formed s e.request) (has_plan_lem s (e.request ∷ []))) h in
     let u = both_parts (formed s e.request) (has_plan_lem s (e.request ∷ [])) t.1 in
-    record { is_id = inside e.id (not_true (outside_ids e.id) t.0); formed = formed_is s e.request u.0; alone = plan_test.has_plan s (e.request ∷ []) u.1 }
+    record { is_id = inside e.id (not-true (outside_ids e.id) t.0); formed = formed_is s e.request u.0; alone = plan_test.has_plan s (e.request ∷ []) u.1 }
 
 not_outside : (id : ℕ) → IsId id → not (outside_ids id) ≡ true
 not_outside id i = go (outside_ids id) refl
@@ -206,7 +206,7 @@ kept_is s (e ∷ es) h = go (eqb e.id 0) refl (kept_is s es)
         record {
           free = rest.free;
           placed = ap (λ (l : List Entry). e ∷ l) rest.placed ∙ ap (λ (l : List Entry). l ++ replicate rest.free vacant) (sym stands);
-          distinct = rw stands (add (apart_from e.id es (not_true (waits e.id es) u.0)) rest.distinct);
+          distinct = rw stands (add (apart_from e.id es (not-true (waits e.id es) u.0)) rest.distinct);
           ids = rw stands (cons w.is_id rest.ids);
           formed = rw stands (cons w.formed rest.formed);
           alone = rw stands (cons w.alone rest.alone);

@@ -1,4 +1,6 @@
 // A session whose queue the host lends as a slice of records, and the answers of its calls.
+#![tactic(auto)]
+
 use requests::{Answer, CAPACITY, Setup};
 use sessions::Assigned;
 

@@ -6,7 +6,7 @@ use native.Mathlib.Nat.{zero-add, add-zero, sub-zero, sub-add-eq}
 use native.Mathlib.Omega.{arith}
 use borrow.Author.Tests.{le-ltb}
 use lib.ListN.{length, take, drop, drop_of_length-le, take-append-drop, length-append, length-drop}
-use lib.Seq.{take_length, drop-length, drop-drop, take_at, drop_at}
+use lib.Seq.{take-length, drop-length, drop-drop, take_at, drop_at}
 use Rattle.grammar.specs.Text.{newline}
 use Rattle.sessions.specs.declared.Session.{Session}
 use Rattle.grammar.specs.declared.Parsed.{Parsed}
@@ -166,7 +166,7 @@ module _ {n : NameLists} {f : Feed} {block out : List ℕ} {next : Feed} {taken 
     rest_is_free = rw (all_left block taken) at free
 
     whole : take (length block) block ≡ take taken block ++ drop taken block
-    whole = take_length block ∙ sym (take-append-drop taken block)
+    whole = take-length block ∙ sym (take-append-drop taken block)
 
     rest_text : feed_text n f (take (length block) block) ≡ feed_text n f (take taken block)
     rest_text =

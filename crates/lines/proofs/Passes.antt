@@ -7,7 +7,7 @@ use native.Mathlib.Omega.{arith}
 use borrow.Author.Tests.{lt-ltb, le-ltb}
 use lib.Dec.{ltb}
 use lib.ListN.{length, get_or, take, drop, take-append-drop, length-append, length-drop}
-use lib.Seq.{take-add, take_at, take_length, drop-cons}
+use lib.Seq.{take-add, take_at, take-length, drop-cons}
 use Rattle.names.specs.Lists.{NameLists}
 use Rattle.responder.specs.Texts.{Put}
 use Rattle.answers.specs.ReplyLength.{reply_room}
@@ -97,12 +97,12 @@ module _ {n : NameLists} {f : Feed} {text : List ℕ} {next : Feed} {taken : ℕ
 pub whole_fits : (n : NameLists) (f : Feed) (text : List ℕ) (taken all left : ℕ) → taken ≡ length text → left + length (feed_text n f (take taken text)) ≡ all
     → ltb all (length (feed_text n f text)) ≡ false
 whole_fits n f text taken all left e sum =
-    le-ltb all (length (feed_text n f text)) (omega (arith, rw (e, take_length text) at sum))
+    le-ltb all (length (feed_text n f text)) (omega (arith, rw (e, take-length text) at sum))
 
 -- the whole text is taken and its answers are put
 pub whole_passed : {n : NameLists} {f : Feed} {text before after : List ℕ} {at : ℕ} {next : Feed} {taken written : ℕ} → taken ≡ length text
     → PassedSoFar n f text next taken → Put before at (feed_text n f (take taken text)) after written
     → Passed n f text before at after (record { feed = next; taken = taken; written = written })
 whole_passed {text = text} {taken = taken} e so put =
-    let t : take taken text ≡ text = rw e (take_length text) in
+    let t : take taken text ≡ text = rw e (take-length text) in
     record { state = rw t at so.state; output = rw t at put }

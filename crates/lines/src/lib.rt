@@ -1,4 +1,6 @@
 // The line program: lines in, replies out, however the input is cut: into blocks, or into pieces that are taken whole or refused.
+#![tactic(auto)]
+
 use streams::Feed;
 
 pub mod feeds;

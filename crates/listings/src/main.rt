@@ -1,4 +1,6 @@
 // How the events of every code and unit mask are answered, a line for each device. What is expected comes from the model in bench/rust.
+#![tactic(auto)]
+
 mod print;
 mod tally;
 

@@ -1,6 +1,8 @@
 // Runs with lists of names. The house's list is held to the event catalogues: whether it is formed, and a line for each device.
 // Then rows are looked up in two lists, in the same exchanged, and in two of which one is damaged. Then come transcripts: a technician's
 // with the house's list, one for each device with the names of the papers, one with names of every kind, and one with a damaged list.
+#![tactic(auto)]
+
 mod coverage;
 mod events;
 mod look_ups;

@@ -1,4 +1,6 @@
 // Names of events: two lists of rows, the site's and the house's, the row that a name finds, and the request that it stands for.
+#![tactic(auto)]
+
 use requests::Device;
 
 pub mod event_names;

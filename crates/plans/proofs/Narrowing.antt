@@ -9,7 +9,7 @@ use native.Mathlib.Decide.{ℕ_discrete}
 use native.Mathlib.Omega.{arith}
 use lib.Dec.{eqb}
 use lib.ListN.{length}
-use borrow.Author.Tests.{eqb-true, eq-eqb, not_true}
+use borrow.Author.Tests.{eqb-true, eq-eqb, not-true}
 use Rattle.requests.specs.declared.CounterSet.{CounterSet}
 use Rattle.requests.specs.declared.Device.{Device}
 use Rattle.requests.specs.declared.EventRule.{EventRule}
@@ -175,7 +175,7 @@ Quiet s rs = (r : Request) → Memᴰ r rs → Lone s.device r → (rs ≡ r ∷
 
 kept_quiet : (s : Setup) (rs : List Request) → quiet_kept s rs ≡ true → Quiet s rs
 unfolding quiet_kept
-kept_quiet s rs h r m l = ⊎_elim (λ t. absurd (both_ways (lone_any s.device rs r m l) (not_true _ t))) fits (either_cases _ _ h)
+kept_quiet s rs h r m l = ⊎_elim (λ t. absurd (both_ways (lone_any s.device rs r m l) (not-true _ t))) fits (either_cases _ _ h)
   where
     fits : both (eqb (length rs) 1) (eqb s.usable.0 (all_counters s.device)) ≡ true → (rs ≡ r ∷ []) × (s.usable.0 ≡ all_counters s.device)
     fits t = let p = both_parts _ _ t in (only_member rs r (eqb-true (length rs) 1 p.0) m, eqb-true s.usable.0 (all_counters s.device) p.1)

@@ -1,4 +1,6 @@
 // What a plan gives a request, and what is left while requests are placed one after another.
+#![tactic(auto)]
+
 use requests::CounterSet;
 
 // What a request is given: a counter, a counter and an RSP register, or two counters.

@@ -1,4 +1,6 @@
 // Standard output, for the programs whose output is compared with a stored one.
+#![tactic(auto)]
+
 use libc::STDOUT_FILENO;
 
 pub fn text(bytes: &[u8]) {

@@ -1,5 +1,7 @@
 // A session whose queue lies in two lent arrays of numbers, changed in place by the calls. A session by value is copied whole wherever it
 // is handed on, and a reference to a struct is not covered by the borrow checker; arrays of numbers are.
+#![tactic(auto)]
+
 use requests::{Answer, Setup};
 use sessions::QUEUE_LIMIT;
 

@@ -1,5 +1,7 @@
 // For each plan: what the reader tells of the registers that its writes leave, and how many of the values with one bit changed it
 // accepts. What is expected comes from the model in bench/rust.
+#![tactic(auto)]
+
 mod asked;
 mod changes;
 mod compare;

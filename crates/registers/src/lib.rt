@@ -1,4 +1,6 @@
 // The register tables, the writer and the reader.
+#![tactic(auto)]
+
 pub mod accept;
 pub mod global;
 pub mod pebs;

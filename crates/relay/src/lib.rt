@@ -1,6 +1,8 @@
 // The line program over two descriptors: lines come from one, and the replies go to the other.
 // No contract can say what is read and written there: what is read is answered by `lines`, `pass_block` says that all of a block is,
 // and `answer_all` that the blocks are one text.
+#![tactic(auto)]
+
 mod endings;
 mod ill_formed;
 

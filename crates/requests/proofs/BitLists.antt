@@ -4,7 +4,7 @@ use mathlib.Core.Bool.{Bool, true, false, not, true≢false}
 use mathlib.Core.List.{List, [], ◌∷◌, ◌++◌}
 use Prim.Native.Nat.{ℕ, ◌<◌, ◌^◌}
 use lib.Dec.{eqb, ltb}
-use borrow.Author.Tests.{eqb-true, not_true}
+use borrow.Author.Tests.{eqb-true, not-true}
 use Rattle.requests.specs.Choice.{both, either}
 use Rattle.requests.specs.Bits.{bit, in_list, any_bit, only_bits}
 use Rattle.requests.proofs.Tests.{either_false, either_assoc, both_parts, every_same, every_at}
@@ -41,4 +41,4 @@ pub reserved : (ks : List ℕ) (k w : ℕ) → k < 64 → in_list ks k ≡ false
 unfolding only_bits
 reserved ks k w below out only =
     let here : either (not (bit k w)) (in_list ks k) ≡ true = every_at 64 (λ j. either (not (bit j w)) (in_list ks j)) (both_parts _ _ only).1 k below in
-    not_true _ (sym (either_false (not (bit k w))) ∙ ap (either (not (bit k w))) (sym out) ∙ here)
+    not-true _ (sym (either_false (not (bit k w))) ∙ ap (either (not (bit k w))) (sym out) ∙ here)

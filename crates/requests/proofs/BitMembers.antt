@@ -35,6 +35,7 @@ pub member_in : (ks : List ℕ) (k : ℕ) → Memᴰ k ks → in_list ks k ≡ t
 unfolding in_list
 member_in (j ∷ ks) k (Memᴰ.head e) = either_left _ _ (eq-eqb j k (sym e))
 member_in (j ∷ ks) k (Memᴰ.tail m) = either_right _ _ (member_in ks k m)
+member_in [] k x' = elim x' [ ]
 
 -- the list from i on, by the number there
 pub in_here : (ks : List ℕ) (i k : ℕ) → i < length ks → get_or ks i 0 ≡ k → in_list (drop i ks) k ≡ true
@@ -60,6 +61,7 @@ has_any : (ks : List ℕ) (k w : ℕ) → Memᴰ k ks → bit k w ≡ true → a
 unfolding any_bit
 has_any (j ∷ ks) k w (Memᴰ.head e) h = either_left _ _ (rw (← e) h)
 has_any (j ∷ ks) k w (Memᴰ.tail m) h = either_right _ _ (has_any ks k w m h)
+has_any [] k w x'' h = elim x'' [ ]
 
 pub any_of_has : (ks : List ℕ) (w : ℕ) → HasBit ks w → any_bit ks w ≡ true
 any_of_has ks w h = has_any ks h.0 w h.1 h.2

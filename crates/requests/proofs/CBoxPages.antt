@@ -9,7 +9,7 @@ use mathlib.Mathlib.Data.Bool.Basic.{eq-false_of_not-eq-true}
 use mathlib.Core.List.{List, [], ◌∷◌, Memᴰ}
 use Prim.Native.Nat.{ℕ, ◌≤◌, ◌<◌}
 use lib.Dec.{leb, eqb}
-use borrow.Author.Tests.{eqb-true, eq-eqb, ne_eqb, le-ltb, not_true}
+use borrow.Author.Tests.{eqb-true, eq-eqb, ne_eqb, le-ltb, not-true}
 use Rattle.requests.specs.Choice.{both, either, every, first_holding}
 use Rattle.requests.specs.Bits.{bit, in_list}
 use Rattle.requests.specs.Refusals.{number_of, answer_for, answer_number}
@@ -89,6 +89,7 @@ agrees_some : (ps : List Pattern) (p : Pattern) (m : ℕ) → Memᴰ p ps → Ag
 unfolding some_agrees
 agrees_some (q ∷ ps) p m (Memᴰ.head e) a = either_left _ _ (ap (λ (y : Pattern). agrees y m) (sym e) ∙ with_agrees p m a)
 agrees_some (q ∷ ps) p m (Memᴰ.tail r) a = either_right _ _ (agrees_some ps p m r a)
+agrees_some [] p m x3 a = elim x3 [ ]
 
 -- ---- the pages against the catalogue
 
@@ -105,7 +106,7 @@ as_printed_lem = refl
 
 same_is : (p q : Bool) → same p q ≡ true → p ≡ q
 same_is true q h = sym h
-same_is false q h = sym (not_true q h)
+same_is false q h = sym (not-true q h)
 
 -- a page of the list has the code
 unfoldable paged : List Page → ℕ → Bool
@@ -151,6 +152,7 @@ page_paged : (ps : List Page) (c : ℕ) (q : Printed) → Memᴰ (page c q) ps �
 unfolding paged
 page_paged (p ∷ ps) c q (Memᴰ.head e) = either_left _ _ (eq-eqb c p.code (ap (λ (y : Page). y.code) e))
 page_paged (p ∷ ps) c q (Memᴰ.tail r) = either_right _ _ (page_paged ps c q r)
+page_paged [] c q x'' = elim x'' [ ]
 
 printed_page : (ps : List Page) (c m : ℕ) → printed ps c m ≡ true → (q : Printed) × Memᴰ (page c q) ps × (prints q m ≡ true)
 unfolding printed
@@ -166,6 +168,7 @@ unfolding printed
 page_printed (p ∷ ps) c m q (Memᴰ.head e) h =
     either_left _ _ (true_both _ _ (eq-eqb c p.code (ap (λ (y : Page). y.code) e)) (ap (λ (y : Page). prints y.printed m) (sym e) ∙ h))
 page_printed (p ∷ ps) c m q (Memᴰ.tail r) h = either_right _ _ (page_printed ps c m q r h)
+page_printed [] c m q x3 h = elim x3 [ ]
 
 accepted : (c m : ℕ) (q : Printed) → Memᴰ (page c q) pages → prints q m ≡ true → Accepted c m
 unfolding prints

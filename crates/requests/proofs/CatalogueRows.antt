@@ -6,7 +6,7 @@ use mathlib.Core.List.{List, [], ◌∷◌, Memᴰ}
 use Prim.Native.Nat.{ℕ, ◌≤◌}
 use native.Mathlib.Nat.{lt_of_not-le}
 use native.Mathlib.Omega.{arith}
-use borrow.Author.Tests.{eqb-true, eq-eqb, leb-true, le-leb, not_true}
+use borrow.Author.Tests.{eqb-true, eq-eqb, leb-true, le-leb, not-true}
 use Rattle.requests.specs.Choice.{both, either}
 use Rattle.requests.specs.Devices.{pairs_judged}
 use Rattle.requests.specs.MaskRules.{MaskRule, alone, range, among, allows, ListedEvent, listed}
@@ -49,6 +49,7 @@ pub row_code : (es : List ListedEvent) (c : ℕ) (masks : MaskRule) → RowOf es
 unfolding code_in
 row_code (e ∷ es) c masks (Memᴰ.head p) = either_left _ _ (eq-eqb c e.code (ap (λ (x : ListedEvent). x.code) p))
 row_code (e ∷ es) c masks (Memᴰ.tail m) = either_right _ _ (row_code es c masks m)
+row_code [] c masks x' = elim x' [ ]
 
 -- ---- pairs
 
@@ -68,6 +69,7 @@ row_pair (e ∷ es) c m masks (Memᴰ.head p) h =
     either_left _ _ (true_both _ _ (eq-eqb c e.code (ap (λ (x : ListedEvent). x.code) p))
     (ap (λ (x : ListedEvent). allows x.masks m) (sym p) ∙ lists_allows masks m h))
 row_pair (e ∷ es) c m masks (Memᴰ.tail r) h = either_right _ _ (row_pair es c m masks r h)
+row_pair [] c m masks x'' h = elim x'' [ ]
 
 -- ---- one row a code
 
@@ -79,7 +81,7 @@ distinct_codes (e ∷ es) = both (not (code_in es e.code)) (distinct_codes es)
 again : (e : ListedEvent) (es : List ListedEvent) → distinct_codes (e ∷ es) ≡ true → (c : ℕ) (masks : MaskRule) → c ≡ e.code → RowOf es c masks → ⊥
 unfolding distinct_codes
 again e es distinct c masks same r =
-    both_ways (row_code es c masks r) (ap (code_in es) same ∙ not_true _ (both_parts _ _ distinct).0)
+    both_ways (row_code es c masks r) (ap (code_in es) same ∙ not-true _ (both_parts _ _ distinct).0)
 
 one_row : (es : List ListedEvent) → distinct_codes es ≡ true → (c : ℕ) (masks others : MaskRule) → RowOf es c masks → RowOf es c others → masks ≡ others
 unfolding distinct_codes
@@ -87,6 +89,7 @@ one_row (e ∷ es) distinct c masks others (Memᴰ.head p) (Memᴰ.head q) = ap 
 one_row (e ∷ es) distinct c masks others (Memᴰ.head p) (Memᴰ.tail r) = absurd (again e es distinct c others (ap (λ (x : ListedEvent). x.code) p) r)
 one_row (e ∷ es) distinct c masks others (Memᴰ.tail r) (Memᴰ.head q) = absurd (again e es distinct c masks (ap (λ (x : ListedEvent). x.code) q) r)
 one_row (e ∷ es) distinct c masks others (Memᴰ.tail r) (Memᴰ.tail t) = one_row es (both_parts _ _ distinct).1 c masks others r t
+one_row [] distinct c masks others x3 _ = elim x3 [ ]
 
 -- a code that has its own masks stands in one row
 pub one_row_on : (d : Device) → CodesOn d → (c : ℕ) (masks others : MaskRule) → InCatalogue d c masks → InCatalogue d c others → masks ≡ others
@@ -123,6 +126,7 @@ rule_on_s c masks (Memᴰ.tail (Memᴰ.tail (Memᴰ.head p))) = inr (ap (λ (x :
 rule_on_s c masks (Memᴰ.tail (Memᴰ.tail (Memᴰ.tail (Memᴰ.head p)))) = inr (ap (λ (x : ListedEvent). x.masks) p)
 rule_on_s c masks (Memᴰ.tail (Memᴰ.tail (Memᴰ.tail (Memᴰ.tail (Memᴰ.head p))))) = inr (ap (λ (x : ListedEvent). x.masks) p)
 rule_on_s c masks (Memᴰ.tail (Memᴰ.tail (Memᴰ.tail (Memᴰ.tail (Memᴰ.tail (Memᴰ.head p)))))) = inr (ap (λ (x : ListedEvent). x.masks) p)
+rule_on_s c masks (mathlib.Core.List.Memᴰ.tail (mathlib.Core.List.Memᴰ.tail (mathlib.Core.List.Memᴰ.tail (mathlib.Core.List.Memᴰ.tail (mathlib.Core.List.Memᴰ.tail (mathlib.Core.List.Memᴰ.tail x24)))))) = elim x24 [ ]
 
 -- where 0 is not listed, 1..3 is; another mask that is not listed is above those that are
 pub zero_on_s : (c : ℕ) (masks : MaskRule) → InCatalogue S c masks → ¬ Lists masks 0 → masks ≡ range 1 3

@@ -8,7 +8,7 @@ use mathlib.Mathlib.Data.Bool.Basic.{eq-false_of_not-eq-true, eq-true_of_not-eq-
 use Prim.Native.Nat.{ℕ}
 use native.Mathlib.Omega.{arith}
 use lib.Dec.{eqb}
-use borrow.Author.Tests.{not_true, eqb-true, eqb-false, ne_eqb, ltb-true, lt-ltb}
+use borrow.Author.Tests.{not-true, eqb-true, eqb-false, ne_eqb, ltb-true, lt-ltb}
 use Rattle.requests.specs.Choice.{both, either, pick}
 use Rattle.requests.specs.Bits.{any_bit, type_bits, any_response, answer_bits, outstanding, rsp0_bits, match_bits, mask_bits}
 use Rattle.requests.specs.Devices.{packets_on, offcore_on, pairs_judged}
@@ -51,10 +51,10 @@ only_g (C b) h = absurd (false≢true h)
 only_g B h = absurd (false≢true h)
 
 not_s : (d : Device) → not (packets_on d) ≡ true → ¬ (d ≡ S)
-not_s d h e = both_ways (ap packets_on e ∙ packets_on_s) (not_true _ h)
+not_s d h e = both_ways (ap packets_on e ∙ packets_on_s) (not-true _ h)
 
 not_g : (d : Device) → not (offcore_on d) ≡ true → ¬ (d ≡ G)
-not_g d h e = both_ways (ap offcore_on e ∙ offcore_on_g) (not_true _ h)
+not_g d h e = both_ways (ap offcore_on e ∙ offcore_on_g) (not-true _ h)
 
 pub is_s : (d : Device) → ¬ (¬ (d ≡ S)) → d ≡ S
 is_s d h = only_s d (eq-true_of_not-eq-false (λ e. h (not_s d (ap not e))))
@@ -82,10 +82,10 @@ unfolding not_listed_lem
 listed_applies d (Event c m a) h = ⊎_elim pairs codes (judged d)
   where
     pairs : PairsOn d × (pairs_judged d ≡ true) → NotListed d (Event c m a)
-    pairs (on, j) = pair on (λ p. both_ways (row_pair (events_of d) c m p.0 p.1 p.2) (not_true _ (rw j at h)))
+    pairs (on, j) = pair on (λ p. both_ways (row_pair (events_of d) c m p.0 p.1 p.2) (not-true _ (rw j at h)))
 
     codes : CodesOn d × (pairs_judged d ≡ false) → NotListed d (Event c m a)
-    codes (on, j) = code on (λ p. both_ways (row_code (events_of d) c p.0 p.1) (not_true _ (rw j at h)))
+    codes (on, j) = code on (λ p. both_ways (row_code (events_of d) c p.0 p.1) (not-true _ (rw j at h)))
 listed_applies d (Packet x y a) h = absurd (false≢true h)
 listed_applies d (Offcore w a) h = absurd (false≢true h)
 listed_applies d (Latency t a b) h = absurd (false≢true h)
@@ -106,13 +106,13 @@ mask_row d c m h = ⊎_elim pairs codes (judged d)
     parts = both_parts _ _ h
 
     pairs : PairsOn d × (pairs_judged d ≡ true) → CodesOn d × ((masks : MaskRule) × InCatalogue d c masks × (¬ Lists masks m))
-    pairs (on, j) = absurd (both_ways j (not_true _ parts.0))
+    pairs (on, j) = absurd (both_ways j (not-true _ parts.0))
 
     codes : CodesOn d × (pairs_judged d ≡ false) → CodesOn d × ((masks : MaskRule) × InCatalogue d c masks × (¬ Lists masks m))
     codes (on, j) =
         let p = both_parts (code_in (events_of d) c) _ parts.1 in
         let row = code_row (events_of d) c p.0 in
-        (on, (row.0, row.1, λ l. both_ways (row_pair (events_of d) c m row.0 row.1 l) (not_true _ p.1)))
+        (on, (row.0, row.1, λ l. both_ways (row_pair (events_of d) c m row.0 row.1 l) (not-true _ p.1)))
 
 pub row_mask : (d : Device) → CodesOn d → (c m : ℕ) (masks : MaskRule) → InCatalogue d c masks → ¬ Lists masks m → mask_not_listed d c m ≡ true
 unfolding mask_not_listed
@@ -140,11 +140,11 @@ lacks_applies d (Event c m a) h =
 lacks_applies d (Packet x y a) h = absurd (false≢true h)
 lacks_applies d (Offcore w a) h =
     ⊎_elim
-    (λ t. no_type offcore_word (none_has type_bits w (not_true _ t)))
-    (λ t. let none = none_apart (any_response ∷ answer_bits) (outstanding ∷ []) w (none_has _ w (not_true _ t)) in
+    (λ t. no_type offcore_word (none_has type_bits w (not-true _ t)))
+    (λ t. let none = none_apart (any_response ∷ answer_bits) (outstanding ∷ []) w (none_has _ w (not-true _ t)) in
     no_response none.0 (none.1 outstanding (Memᴰ.head refl)))
     (either_cases _ _ h)
-lacks_applies d (Latency t a b) h = no_type latency_types (none_has type_bits t (not_true _ h))
+lacks_applies d (Latency t a b) h = no_type latency_types (none_has type_bits t (not-true _ h))
 
 lacks_holds : (d : Device) (r : Request) → Incomplete d r → incomplete d r ≡ true
 unfolding incomplete
@@ -174,15 +174,15 @@ range_applies d (Event c m a) h = ⊎_elim other (wide_applies d _ a of_event) (
     other t =
         let p = both_parts (not (eqb m 0)) (mask_not_listed d c m) t in
         let row = mask_row d c m p.1 in
-        mask_other row.0 row.1.1 row.1.2 (eqb-false m 0 (not_true _ p.0))
+        mask_other row.0 row.1.1 row.1.2 (eqb-false m 0 (not-true _ p.0))
 range_applies d (Packet x y a) h =
-    ⊎_elim (λ t. match_bit (match_reserved x (not_true _ t)))
-    (λ t. ⊎_elim (λ u. mask_bit (mask_reserved y (not_true _ u))) (wide_applies d _ a of_packet) (either_cases _ _ t))
+    ⊎_elim (λ t. match_bit (match_reserved x (not-true _ t)))
+    (λ t. ⊎_elim (λ u. mask_bit (mask_reserved y (not-true _ u))) (wide_applies d _ a of_packet) (either_cases _ _ t))
     (either_cases _ _ h)
 range_applies d (Offcore w a) h =
-    ⊎_elim (λ t. word_bit (permitted_reserved w (not_true _ t))) (wide_applies d _ a of_offcore) (either_cases _ _ h)
+    ⊎_elim (λ t. word_bit (permitted_reserved w (not-true _ t))) (wide_applies d _ a of_offcore) (either_cases _ _ h)
 range_applies d (Latency t a b) h =
-    ⊎_elim (λ x. type_bit (types_reserved t (not_true _ x)))
+    ⊎_elim (λ x. type_bit (types_reserved t (not-true _ x)))
     (λ x. ⊎_elim (wide_applies d _ a first_of_latency) (wide_applies d _ b second_of_latency) (either_cases _ _ x))
     (either_cases _ _ h)
 

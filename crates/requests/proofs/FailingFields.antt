@@ -6,7 +6,7 @@ use mathlib.Core.Option.{some, none-ne-some, some-injective}
 use Prim.Native.Nat.{ℕ, ◌<◌}
 use native.Mathlib.Omega.{arith}
 use lib.Dec.{eqb}
-use borrow.Author.Tests.{eqb-false, ne_eqb, ltb-true, lt-ltb, not_true}
+use borrow.Author.Tests.{eqb-false, ne_eqb, ltb-true, lt-ltb, not-true}
 use Rattle.requests.specs.Choice.{both, first_holding}
 use Rattle.requests.specs.Bits.{only_bits, type_bits, rsp0_bits, match_bits, mask_bits}
 use Rattle.requests.specs.Devices.{all_counters}
@@ -51,7 +51,7 @@ mask_out : (d : Device) (c m : ℕ) (a : CounterSet) → both (not (eqb m 0)) (m
 mask_out d c m a h =
     let p = both_parts (not (eqb m 0)) (mask_not_listed d c m) h in
     let row = mask_row d c m p.1 in
-    event_mask row.0 row.1.1 row.1.2 (eqb-false m 0 (not_true _ p.0))
+    event_mask row.0 row.1.1 row.1.2 (eqb-false m 0 (not-true _ p.0))
 
 mask_in : (d : Device) (c m : ℕ) (masks : MaskRule) → both (not (eqb m 0)) (mask_not_listed d c m) ≡ false → CodesOn d → InCatalogue d c masks → ¬ Lists masks m → ¬ (m ≡ 0) → ⊥
 mask_in d c m masks h on row out nonzero = both_ways (true_both _ _ (ap not (ne_eqb m 0 nonzero)) (row_mask d on c m masks row out)) h

@@ -6,7 +6,7 @@ use Prim.Native.Nat.{ℕ, zero, suc, ◌/◌, ◌<◌}
 use native.Mathlib.Omega.{arith}
 use lib.Dec.{eqb, ltb}
 use lib.ListN.{length}
-use borrow.Author.Tests.{eqb-true, eqb-false, eq-eqb, ne_eqb, lt-ltb, not_true}
+use borrow.Author.Tests.{eqb-true, eqb-false, eq-eqb, ne_eqb, lt-ltb, not-true}
 use Rattle.requests.specs.Choice.{both, either}
 use Rattle.requests.specs.Bits.{in_list}
 use Rattle.requests.specs.MaskRules.{among, allows, ListedEvent, listed}
@@ -33,7 +33,7 @@ distinct (r ∷ rs) = both (lacks (r / 16) rs) (distinct rs)
 lacks_at : (c : ℕ) (rows : List ℕ) → lacks c rows ≡ true → (j : ℕ) → j < length rows → c ≡ code_at rows j → ⊥
 unfolding lacks
 lacks_at c [] h j l = absurd (omega arith)
-lacks_at c (r ∷ rs) h zero l = eqb-false c (r / 16) (not_true _ (both_parts _ _ h).0)
+lacks_at c (r ∷ rs) h zero l = eqb-false c (r / 16) (not-true _ (both_parts _ _ h).0)
 lacks_at c (r ∷ rs) h (suc j) l = lacks_at c rs (both_parts _ _ h).1 j (omega arith)
 
 distinct_apart : (rows : List ℕ) → distinct rows ≡ true → Apart rows
@@ -67,7 +67,7 @@ no_pair : (es : List ListedEvent) → all_known es ≡ true → (c m : ℕ) → 
 unfolding all_known lacks pair_in
 no_pair [] k c m h = refl
 no_pair (e ∷ es) k c m h =
-    let first = eqb-false c (row_of e / 16) (not_true _ (both_parts _ _ h).0) in
+    let first = eqb-false c (row_of e / 16) (not-true _ (both_parts _ _ h).0) in
     let other : c ≡ e.code → ⊥ = λ same. first (same ∙ sym (row_code e (both_parts _ _ k).0)) in
     pair_behind e es c m other ∙ no_pair es (both_parts _ _ k).1 c m (both_parts _ _ h).1
 
@@ -115,7 +115,7 @@ told (e ∷ es) k h z c m =
         → (b : Bool) → eqb (row_of e / 16) c ≡ b → Told es c m → Told (e ∷ es) c m
     go k h z true t rest =
         let same = eqb-true (row_of e / 16) c t in
-        told_here e es c m k.0 (eqb-false 0 (row_of e / 16) (not_true _ z.0)) same (no_pair es k.1 c m (ap (λ (x : ℕ). lacks x (map row_of es)) (sym same) ∙ h.0))
+        told_here e es c m k.0 (eqb-false 0 (row_of e / 16) (not-true _ z.0)) same (no_pair es k.1 c m (ap (λ (x : ℕ). lacks x (map row_of es)) (sym same) ∙ h.0))
     go k h z false t rest = told_behind e es c m k.0 (eqb-false (row_of e / 16) c t) rest
 
 -- ---- the C-Box

@@ -6,7 +6,7 @@ use mathlib.Core.Option.{Option, none, some}
 use Prim.Native.Nat.{◌≤◌}
 use native.Mathlib.Omega.{arith}
 use lib.Dec.{leb, ltb}
-use borrow.Author.Tests.{lt-ltb, le-leb, ltb-true, leb-true, not_true, not-false}
+use borrow.Author.Tests.{lt-ltb, le-leb, ltb-true, leb-true, not-true, not-false}
 use Rattle.requests.specs.Choice.{both, first_holding}
 use Rattle.requests.specs.Refusals.{number_of, answer_number}
 use Rattle.requests.specs.Askings.{overflow_on, asks, asked, overflow_not_on, overflow_fits}
@@ -193,7 +193,7 @@ device_row o = (λ h d given. to d given (device_of o.device o.cbox) refl h, λ 
     to : (d : Device) → GivenFor o d → (x : Option Device) → device_of o.device o.cbox ≡ x → not (elim x [ none ↦ false | some d ↦ opens d o ]) ≡ true → ⊥
     to d given x e h =
         let named = sym e ∙ letter_named o.device o.cbox d given.letter given.box in
-        both_ways (given_tested d o given) (not_true _ (rw named at h))
+        both_ways (given_tested d o given) (not-true _ (rw named at h))
 
     from : ((d : Device) → ¬ GivenFor o d) → (x : Option Device) → device_of o.device o.cbox ≡ x → not (elim x [ none ↦ false | some d ↦ opens d o ]) ≡ true
     from no_device none e = refl
@@ -222,7 +222,7 @@ kind_row o = (to (device_of o.device o.cbox) refl, from)
     to none e h = absurd (false≢true h)
     to (some d) e h =
         let parts = both_parts _ _ h in (
-          (d, sym (letter_is o.device o.cbox d e), λ m. both_ways (asked_on d m) (not_true _ parts.1)),
+          (d, sym (letter_is o.device o.cbox d e), λ m. both_ways (asked_on d m) (not-true _ parts.1)),
           λ n. both_ways parts.0 (asks_nothing o.overflow n),
         )
 
@@ -232,7 +232,7 @@ kind_row o = (to (device_of o.device o.cbox) refl, from)
         (true_both _ _ (asks_some o.overflow h.1) (ap not (not_asked_on h.0.0 h.0.2)))
 
 pub range_row : (o : Opening) → (not (overflow_fits o.overflow) ≡ true) ↔ (¬ InRange o.overflow)
-range_row o = (λ h r. both_ways (range_fits o.overflow r) (not_true _ h), λ n. ap not (range_missed o.overflow n))
+range_row o = (λ h r. both_ways (range_fits o.overflow r) (not-true _ h), λ n. ap not (range_missed o.overflow n))
 
 nothing : (o : Opening) (s : Setup) → setup_of o ≡ some s → NothingAsked o.overflow → asked s ≡ false
 unfolding asked

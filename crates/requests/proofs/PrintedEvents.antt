@@ -56,6 +56,7 @@ printed_code : (rows : List PrintedRow) (c : ℕ) (r : PrintedRow) → Memᴰ r 
 unfolding code_in event
 printed_code (q ∷ rows) c r (Memᴰ.head e) h = either_left _ _ (eq-eqb c q.code (h ∙ ap (λ (x : PrintedRow). x.code) e))
 printed_code (q ∷ rows) c r (Memᴰ.tail m) h = either_right _ _ (printed_code rows c r m h)
+printed_code [] c r x'' h = elim x'' [ ]
 
 pair_printed : (rows : List PrintedRow) (c m : ℕ) → pair_in (map event rows) c m ≡ true → PairPrinted rows c m
 unfolding pair_in event
@@ -73,6 +74,7 @@ unfolding pair_in event
 printed_pair (q ∷ rows) c m r (Memᴰ.head e) h k =
     either_left _ _ (true_both _ _ (eq-eqb c q.code (h ∙ ap (λ (x : PrintedRow). x.code) e)) (ap (λ (x : PrintedRow). allows (rule x) m) (sym e) ∙ has_rule r m k))
 printed_pair (q ∷ rows) c m r (Memᴰ.tail t) h k = either_right _ _ (printed_pair rows c m r t h k)
+printed_pair [] c m r x3 h k = elim x3 [ ]
 
 -- a device whose events are the rows'
 as_printed_lem : (d : Device) (rows : List PrintedRow) → events_of d ≡ map event rows → AsPrinted d rows

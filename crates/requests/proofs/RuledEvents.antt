@@ -61,16 +61,54 @@ event_says c m a = go (is_instructions c m) refl (is_stores c m) refl
 
 -- ---- every device
 
+-- only B has an event that runs somewhere or alone
+nowhere_on_g : (r : Request) (k : ℕ) → ¬ RunsOn G r k
+nowhere_on_g r k h = elim h [ ]
+
+nowhere_on_s : (r : Request) (k : ℕ) → ¬ RunsOn S r k
+nowhere_on_s r k h = elim h [ ]
+
+nowhere_on_c : (b : ℕ) (r : Request) (k : ℕ) → ¬ RunsOn (C b) r k
+nowhere_on_c b r k h = elim h [ ]
+
+not_lone_on_g : (r : Request) → ¬ Lone G r
+not_lone_on_g r h = elim h [ ]
+
+not_lone_on_s : (r : Request) → ¬ Lone S r
+not_lone_on_s r h = elim h [ ]
+
+not_lone_on_c : (b : ℕ) (r : Request) → ¬ Lone (C b) r
+not_lone_on_c b r h = elim h [ ]
+
+-- and no other kind of request does
+packet_nowhere : (d : Device) (x y : ℕ) (a : CounterSet) (k : ℕ) → ¬ RunsOn d (Packet x y a) k
+packet_nowhere d x y a k h = elim h [ ]
+
+offcore_nowhere : (d : Device) (w : ℕ) (a : CounterSet) (k : ℕ) → ¬ RunsOn d (Offcore w a) k
+offcore_nowhere d w a k h = elim h [ ]
+
+latency_nowhere : (d : Device) (t : ℕ) (a b : CounterSet) (k : ℕ) → ¬ RunsOn d (Latency t a b) k
+latency_nowhere d t a b k h = elim h [ ]
+
+packet_not_lone : (d : Device) (x y : ℕ) (a : CounterSet) → ¬ Lone d (Packet x y a)
+packet_not_lone d x y a h = elim h [ ]
+
+offcore_not_lone : (d : Device) (w : ℕ) (a : CounterSet) → ¬ Lone d (Offcore w a)
+offcore_not_lone d w a h = elim h [ ]
+
+latency_not_lone : (d : Device) (t : ℕ) (a b : CounterSet) → ¬ Lone d (Latency t a b)
+latency_not_lone d t a b h = elim h [ ]
+
 -- the rule of a request says what the order does
 pub rule_says : (d : Device) (r : Request) → Says d r (rule_for d r)
 unfolding rule_for rule_of has_rules
-rule_says G (Event c m a) = nothing (λ k h. elim h [ ]) (λ h. elim h [ ])
-rule_says S (Event c m a) = nothing (λ k h. elim h [ ]) (λ h. elim h [ ])
-rule_says (C b) (Event c m a) = nothing (λ k h. elim h [ ]) (λ h. elim h [ ])
+rule_says G (Event c m a) = nothing (nowhere_on_g _) (not_lone_on_g _)
+rule_says S (Event c m a) = nothing (nowhere_on_s _) (not_lone_on_s _)
+rule_says (C b) (Event c m a) = nothing (nowhere_on_c b _) (not_lone_on_c b _)
 rule_says B (Event c m a) = event_says c m a
-rule_says d (Packet x y a) = nothing (λ k h. elim h [ ]) (λ h. elim h [ ])
-rule_says d (Offcore w a) = nothing (λ k h. elim h [ ]) (λ h. elim h [ ])
-rule_says d (Latency t a b) = nothing (λ k h. elim h [ ]) (λ h. elim h [ ])
+rule_says d (Packet x y a) = nothing (packet_nowhere d x y a) (packet_not_lone d x y a)
+rule_says d (Offcore w a) = nothing (offcore_nowhere d w a) (offcore_not_lone d w a)
+rule_says d (Latency t a b) = nothing (latency_nowhere d t a b) (latency_not_lone d t a b)
 
 anywhere_says : (d : Device) (r : Request) → Says d r Anywhere → (k : ℕ) → ¬ RunsOn d r k
 anywhere_says d r (nothing n l) = n

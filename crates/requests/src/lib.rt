@@ -1,4 +1,5 @@
 // What a request is, what a session is opened with, and how a call is answered.
+#![tactic(auto)]
 
 // The number of counters that arrays have room for.
 pub const CAPACITY: usize = 8;

@@ -1,4 +1,6 @@
 // The reply to a line: its text, and the session afterwards.
+#![tactic(auto)]
+
 use crate::replies::REPLY_ROOM;
 use queue_rows::Head;
 use sessions::Session;

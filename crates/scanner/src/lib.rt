@@ -1,4 +1,6 @@
 // The fields of a text, the numbers and letters that they are, and the line of each verb.
+#![tactic(auto)]
+
 pub mod fields;
 pub mod letters;
 mod numbers;

@@ -7,7 +7,7 @@ use Prim.Native.Nat.{ℕ, ◌<◌, ◌≤◌}
 use native.Mathlib.Omega.{arith}
 use native.Mathlib.Decide.{dec_lt}
 use lib.Dec.{eqb}
-use borrow.Author.Tests.{not_true}
+use borrow.Author.Tests.{not-true}
 use Rattle.requests.specs.declared.CounterSet.{CounterSet}
 use Rattle.requests.specs.declared.Device.{Device}
 use Rattle.requests.specs.declared.EventRule.{EventRule}
@@ -152,7 +152,7 @@ pub follows : (s : Setup) (rs : List Request) (c m : ℕ) (a : CounterSet) → m
 unfolding may_follow
 follows s rs c m a h =
     let o = both_parts (is_anywhere (rule_of s.device c m)) (not (any_lone s.device rs)) h in
-    record { anywhere = runs_anywhere s.device c m a o.0; beside = none_lone s.device rs (not_true (any_lone s.device rs) o.1) }
+    record { anywhere = runs_anywhere s.device c m a o.0; beside = none_lone s.device rs (not-true (any_lone s.device rs) o.1) }
 
 unruled_none : (d : Device) → Unruled d → (rs : List Request) → any_lone d rs ≡ false
 unfolding any_lone either wants_quiet

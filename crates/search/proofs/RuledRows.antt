@@ -7,7 +7,7 @@ use native.Mathlib.Numerals.{add-one}
 use native.Mathlib.Omega.{arith}
 use lib.Dec.{eqb}
 use lib.ListN.{length}
-use borrow.Author.Tests.{ne_eqb, not_true, not-false}
+use borrow.Author.Tests.{ne_eqb, not-true, not-false}
 use Rattle.requests.specs.declared.Device.{Device}
 use Rattle.requests.specs.declared.Request.{Request}
 use Rattle.requests.specs.declared.Setup.{Setup}
@@ -70,7 +70,7 @@ module _ (s : Setup) (rs : List Request) where
   -- where the rules let nothing through, there is no plan
   pub plan_unkept : (b : Bool) → b ≡ quiet_kept s rs → not b ≡ true → 0 ≡ packed (first_plan s rs)
   unfolding first_plan packed
-  plan_unkept b is off = rw (sym is ∙ not_true b off, first_plan)
+  plan_unkept b is off = rw (sym is ∙ not-true b off, first_plan)
 
   pub plan_kept : (b : Bool) → b ≡ quiet_kept s rs → not b ≡ false → (qs : List Request) → qs ≡ map (narrowed s.device) rs
       → (x : ℕ) → x ≡ packed (plan_in (counter_count s.device) qs (empty_room s)) → x ≡ packed (first_plan s rs)

@@ -1,4 +1,6 @@
 // The first plan by a search, and the tests that spare it.
+#![tactic(auto)]
+
 use plans::Place;
 use requests::CAPACITY;
 

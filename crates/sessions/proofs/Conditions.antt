@@ -11,7 +11,7 @@ use Prim.Native.Nat.{ℕ, zero, suc, ◌*◌, ◌≤◌, ◌<◌}
 use native.Mathlib.Omega.{arith}
 use lib.Dec.{ltb, leb, eqb}
 use lib.ListN.{length}
-use borrow.Author.Tests.{ltb-true, ltb-false, leb-true, eqb-true, eqb-false, not_true, lt-ltb, le-leb}
+use borrow.Author.Tests.{ltb-true, ltb-false, leb-true, eqb-true, eqb-false, not-true, lt-ltb, le-leb}
 use Rattle.requests.specs.declared.Setup.{Setup}
 use Rattle.requests.specs.declared.Request.{Request}
 use Rattle.requests.specs.declared.Entry.{Entry}
@@ -33,7 +33,7 @@ use Rattle.sessions.proofs.TurnLists.{lists_hold, lists_are}
 
 -- a test of the contrary
 pub not_test : {b : Bool} {P : Type 0} → (b ≡ true) ↔ P → (not b ≡ true) ↔ (¬ P)
-not_test {b} e = (λ h p. false≢true (sym (not_true b h) ∙ e.1 p), λ n. ap not (eq-false_of_not-eq-true (λ h. n (e.0 h))))
+not_test {b} e = (λ h p. false≢true (sym (not-true b h) ∙ e.1 p), λ n. ap not (eq-false_of_not-eq-true (λ h. n (e.0 h))))
 
 -- ---- 4: id 0 or above 65535
 

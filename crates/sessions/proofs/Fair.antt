@@ -8,7 +8,7 @@ use mathlib.Core.Bool.{Bool, true, false, not, false≢true}
 use mathlib.Core.Option.{none, some, none-ne-some, some-injective}
 use Prim.Native.Nat.{ℕ}
 use lib.Dec.{eqb}
-use borrow.Author.Tests.{eqb-true, eq-eqb, not_true}
+use borrow.Author.Tests.{eqb-true, eq-eqb, not-true}
 use Rattle.requests.specs.declared.Refusal.{Refusal}
 use Rattle.requests.specs.Bits.{in_list}
 use Rattle.requests.specs.Refusals.{number_of, check_order, in_front, checked_before}
@@ -80,7 +80,7 @@ module _ (A : ℕ → Type 0) where
       by_number false k found later =
           let t = both_parts (not (in_list all n)) (in_order_lem all (number_of r.1 ∷ numbers rows) ns) (rw (k, in_order_lem) at ordered) in
           let below = later t.1 in
-          (below.0, in_front_lem (number_of x) n ns (λ a. false≢true (sym (not_true (in_list all n) t.0) ∙ only n a)) below.1)
+          (below.0, in_front_lem (number_of x) n ns (λ a. false≢true (sym (not-true (in_list all n) t.0) ∙ only n a)) below.1)
 
   pub fair_some : {rows : List (Row Refusal)} → Fair A rows → (x : Refusal) → first_holding rows ≡ some x
       → A (number_of x) × All (λ (k : ℕ). A k → ⊥) (checked_before (number_of x))

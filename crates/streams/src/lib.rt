@@ -1,4 +1,6 @@
 // The state of the line program between two bytes of its input, and of a text that is given in pieces.
+#![tactic(auto)]
+
 use requests::Answer;
 use sessions::Session;
 

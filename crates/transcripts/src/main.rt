@@ -2,6 +2,8 @@
 // request among fifteen others, eight of single turns, and fourteen of requests that wait behind events which allow every usable counter, each in
 // a session of its own.
 // The blocks are short and the output has room for little more than one reply, so lines are cut, and blocks are answered in parts.
+#![tactic(auto)]
+
 use libc::STDOUT_FILENO;
 
 // Answers a file's lines, with no names.

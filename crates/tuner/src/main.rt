@@ -1,6 +1,8 @@
 // The line program, `tuner [SITE HOUSE]`: lines from standard input, replies to standard output. The two arguments are files, which
 // have the site's list of names and the house's. Without them both lists are empty.
 // A program has no exit status of its own: where its first argument asks for it, it writes the number on descriptor 3 as it ends.
+#![tactic(auto)]
+
 ghost use Rattle.std.specs.Prelude.{◌≤◌};
 
 use descriptors::errors::tell_failure;

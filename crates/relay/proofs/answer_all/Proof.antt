@@ -1,7 +1,7 @@
 -- The blocks are one text; the end adds its reply where their writing was complete.
 use Rattle.std.proofs.Common.{◌≡◌, true, false, sym, ap, ◌∙◌, rules}
 use mathlib.Core.Bool.{false≢true}
-use borrow.Author.Tests.{not_true, not-false}
+use borrow.Author.Tests.{not-true, not-false}
 use Rattle.descriptors.specs.Writes.{is_complete}
 use Rattle.descriptors.specs.declared.Next.TheVariants.{Complete}
 use Rattle.descriptors.proofs.Reported.{complete_is}
@@ -25,7 +25,7 @@ same-length-2 c = search rules
 returns : tie.Need-returns
 returns c =
     let b = c.before.before.before.before.before.before.answer-blocks in
-    let other : is_complete b.result.next ≡ false = sym c.before.is-complete.ensures ∙ not_true c.before.is-complete.result c.if1.true in
+    let other : is_complete b.result.next ≡ false = sym c.before.is-complete.ensures ∙ not-true c.before.is-complete.result c.if1.true in
     relayed_part b.ensures (λ e. false≢true (sym other ∙ ap is_complete e))
 
 end-requires : tie.Need-end-requires

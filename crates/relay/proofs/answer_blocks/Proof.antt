@@ -2,7 +2,7 @@
 -- The measure is the number of turns that are left.
 use Rattle.std.proofs.Common.{◌≡◌, ℕ, ◌+◌, ◌%◌, ◌^◌, ◌≤◌, true, false, length, take, sym, refl, ap, ◌∙◌, ⊎_elim, arith, length-take-le, rules}
 use mathlib.Core.Bool.{false≢true}
-use borrow.Author.Tests.{not_true, not-false}
+use borrow.Author.Tests.{not-true, not-false}
 use Rattle.descriptors.specs.Writes.{is_complete}
 use Rattle.descriptors.specs.declared.Next.TheVariants.{Complete}
 use Rattle.descriptors.proofs.CallAnswers.{bytes_within}
@@ -71,7 +71,7 @@ returns : tie.Need-returns invariant-loop decreases-loop
 returns c =
     let p = c.before.before.before.before.before.before.before.before.pass-block in
     let l = c.before.before.before.before.before.before.before.before.before.before.before.before.before.before.before.before.before.before.loop in
-    let other : is_complete p.result.next ≡ false = sym c.before.before.is-complete.ensures ∙ not_true c.before.before.is-complete.result c.before.if2.true in
+    let other : is_complete p.result.next ≡ false = sym c.before.before.is-complete.ensures ∙ not-true c.before.before.is-complete.result c.before.if2.true in
     rw c.run_of.ensures (broken_off l.invariant.0 p.ensures (λ e. false≢true (sym other ∙ ap is_complete e)) _ _ _)
 
 sub-turns : tie.Need-overflow-sub-turns invariant-loop decreases-loop

@@ -1,7 +1,7 @@
 -- Each turn answers at least one byte more, so the loop ends, and at its end the whole block is answered and its replies are counted.
 use Rattle.std.proofs.Common.{◌≡◌, ℕ, ◌+◌, ◌-◌, ◌%◌, ◌^◌, ◌≤◌, true, false, List, length, sym, refl, ap, ◌∙◌, arith, length-take-le, take_all, rules}
 use mathlib.Core.Bool.{false≢true}
-use borrow.Author.Tests.{not_true, not-false}
+use borrow.Author.Tests.{not-true, not-false}
 use Rattle.answers.specs.ReplyLength.{reply_room}
 use Rattle.names.specs.Lists.{NameLists}
 use Rattle.streams.specs.Stream.{feed_text}
@@ -68,7 +68,7 @@ same_length c = search rules
 returns : tie.Need-returns invariant-loop decreases-loop
 returns c =
     let next = c.before.before.before.send.result.next in
-    let other : is_complete next ≡ false = sym c.before.is-complete.ensures ∙ not_true c.before.is-complete.result c.if1.true in
+    let other : is_complete next ≡ false = sym c.before.is-complete.ensures ∙ not-true c.before.is-complete.result c.if1.true in
     let no : next ≡ Complete → ⊥ = λ e. false≢true (sym other ∙ ap is_complete e) in
     record { state = (part c.before.before.before.before.before).state; all = λ e. absurd (no e); replies = λ e. absurd (no e) }
 

@@ -5,7 +5,7 @@ use lib.ListN.{length}
 use mir.Syntax.{w64}
 use mir.Val.{to_z, of_z}
 use borrow.Author.Rules.{rules}
-use borrow.Author.Tests.{not_true}
+use borrow.Author.Tests.{not-true}
 use Rattle.descriptors.specs.Reads.{read_again_lem}
 use Rattle.descriptors.proofs.CallAnswers.{moved_read, read_within}
 use Rattle.descriptors.proofs.read.read_named.Statement.{statement}
@@ -43,7 +43,7 @@ returns c =
     let r = c.before.before.before.before.before.before.before.read in
     let s = c.before.before.before.Read-step in
     let moved = moved_read (length r.new.1.0) r.result (record { sfits = r.type-inv }) (rw r.auto.1.0 r.ensures) in
-    let last = ap read_again_lem (sym s.ensures) ∙ sym c.before.is-again.ensures ∙ not_true c.before.is-again.result c.if1.true in
+    let last = ap read_again_lem (sym s.ensures) ∙ sym c.before.is-again.ensures ∙ not-true c.before.is-again.result c.if1.true in
     rw s.ensures (read_within r.new.1.0 (to_z w64 (of_z w64 r.result)) _ moved last)
 
 sub-turns : tie.Need-overflow-sub-turns invariant-loop decreases-loop

@@ -4,7 +4,7 @@ use mathlib.Core.List.{[], ◌∷◌}
 use mathlib.Core.Bool.{true, false}
 use Prim.Native.Nat.{ℕ}
 use borrow.Author.Rules.{rules}
-use borrow.Author.Tests.{not_true, not-false, le-leb, lt-leb}
+use borrow.Author.Tests.{not-true, not-false, le-leb, lt-leb}
 use native.Mathlib.Omega.{arith}
 use lib.ListN.{length}
 use Rattle.requests.specs.declared.Refusal.{Refusal}
@@ -54,7 +54,7 @@ returns-4 c =
     let a = i.before.args in
     let d : outside_ids a.id ≡ false = sym i.outside-ids.ensures ∙ p.before.before.if1.false in
     let e = answer_none (request_refusal a.setup a.request) (sym p.request-refusal.ensures ∙ c.before.before.enum_told.given.1) in
-    let h : has_plan_lem a.setup (a.request ∷ []) ≡ false = sym c.before.plans-alone.ensures ∙ not_true _ c.if3.true in
+    let h : has_plan_lem a.setup (a.request ∷ []) ≡ false = sym c.before.plans-alone.ensures ∙ not-true _ c.if3.true in
     record { table = λ q w l. ap answer_for (sym (add_no_plan a.n a.setup q a.id a.request d (w ∙ p.before.if2.false) e h)); room = never _ }
 
 returns-5 : tie.Need-returns-5

@@ -2,7 +2,7 @@
 use mathlib.Core.Path.{◌≡◌, sym, ◌∙◌}
 use mathlib.Core.Bool.{true, false}
 use borrow.Author.Rules.{rules}
-use borrow.Author.Tests.{not_true, not-false}
+use borrow.Author.Tests.{not-true, not-false}
 use native.Mathlib.Omega.{arith}
 use Rattle.sessions.specs.Calls.{Add}
 use Rattle.requests.proofs.AnswerTests.{answer_none, answer_some}
@@ -16,12 +16,12 @@ use Rattle.lent_planner.proofs.add.decide_add.Tie as tie
 returns : tie.Need-returns
 returns c =
     let a = c.before.before.args in
-    rw c.refused.ensures (for_before a.session a.n a.t a.id (Add a.id a.request) adds (not_true _ c.before.if1.true))
+    rw c.refused.ensures (for_before a.session a.n a.t a.id (Add a.id a.request) adds (not-true _ c.before.if1.true))
 
 returns-2 : tie.Need-returns-2
 returns-2 c =
     let a = c.before.before.before.before.args in
-    let m : is_count a.n ≡ false = sym c.before.before.is_count_lem.ensures ∙ not_true _ c.before.if2.true in
+    let m : is_count a.n ≡ false = sym c.before.before.is_count_lem.ensures ∙ not-true _ c.before.if2.true in
     rw c.refused2.ensures (for_count a.session a.n a.t a.id (Add a.id a.request) adds (not-false _ c.before.before.before.if1.false) m)
 
 returns-3 : tie.Need-returns-3

@@ -2,7 +2,7 @@
 use mathlib.Core.Path.{◌≡◌, sym, ◌∙◌}
 use mathlib.Core.Bool.{true, false}
 use borrow.Author.Rules.{rules}
-use borrow.Author.Tests.{not_true, not-false}
+use borrow.Author.Tests.{not-true, not-false}
 use Rattle.requests.specs.declared.Refusal.TheVariants.{BadId, IdNotWaiting}
 use Rattle.sessions.specs.Calls.{Drop}
 use Rattle.sessions.specs.Table.{outside_ids}
@@ -16,12 +16,12 @@ use Rattle.lent_planner.proofs.drop.decide_drop.Tie as tie
 returns : tie.Need-returns
 returns c =
     let a = c.before.before.args in
-    rw c.refused.ensures (for_before a.session a.n a.t a.id (Drop a.id) drops (not_true _ c.before.if1.true))
+    rw c.refused.ensures (for_before a.session a.n a.t a.id (Drop a.id) drops (not-true _ c.before.if1.true))
 
 returns-2 : tie.Need-returns-2
 returns-2 c =
     let a = c.before.before.before.before.args in
-    let m : is_count a.n ≡ false = sym c.before.before.is_count_lem.ensures ∙ not_true _ c.before.if2.true in
+    let m : is_count a.n ≡ false = sym c.before.before.is_count_lem.ensures ∙ not-true _ c.before.if2.true in
     rw c.refused2.ensures (for_count a.session a.n a.t a.id (Drop a.id) drops (not-false _ c.before.before.before.if1.false) m)
 
 returns-3 : tie.Need-returns-3
@@ -51,7 +51,7 @@ returns-5 c =
     let d : outside_ids a.id ≡ false = sym o.outside-ids.ensures ∙ c.before.before.before.if4.false in
     rw c.refused5.ensures
     (for_table a.session a.n a.t a.id (Drop a.id) drops (not-false _ i.before.before.if1.false) m o.before.if3.false IdNotWaiting
-    (λ rows len k. drop_not_waiting a.n a.session.setup (standing rows) a.id d (sym k.finds.found ∙ not_true _ c.before.if5.true)))
+    (λ rows len k. drop_not_waiting a.n a.session.setup (standing rows) a.id d (sym k.finds.found ∙ not-true _ c.before.if5.true)))
 
 returns-6 : tie.Need-returns-6
 returns-6 c =

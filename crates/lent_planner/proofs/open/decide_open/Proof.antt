@@ -2,7 +2,7 @@
 use mathlib.Core.Path.{◌≡◌, sym, ◌∙◌}
 use mathlib.Core.Bool.{true, false}
 use borrow.Author.Rules.{rules}
-use borrow.Author.Tests.{not_true, not-false}
+use borrow.Author.Tests.{not-true, not-false}
 use Rattle.requests.proofs.Openings.{opened_some}
 use Rattle.lent_sessions.specs.Records.{is_count}
 use Rattle.lent_planner.proofs.Deciding.{open_again, open_count, open_bad, open_with_lem}
@@ -17,7 +17,7 @@ returns c =
 returns-2 : tie.Need-returns-2
 returns-2 c =
     let a = c.before.before.before.before.args in
-    let m : is_count a.n ≡ false = sym c.before.before.is_count_lem.ensures ∙ not_true _ c.before.if2.true in
+    let m : is_count a.n ≡ false = sym c.before.before.is_count_lem.ensures ∙ not-true _ c.before.if2.true in
     rw c.refused2.ensures (open_count a.session a.n a.opening c.before.before.before.if1.false m)
 
 returns-3 : tie.Need-returns-3

@@ -4,7 +4,7 @@ use mathlib.Core.Bool.{true, false}
 use Prim.Native.Nat.{min}
 use native.Mathlib.Omega.{arith}
 use borrow.Author.Rules.{rules}
-use borrow.Author.Tests.{not_true, not-false}
+use borrow.Author.Tests.{not-true, not-false}
 use Rattle.requests.specs.Devices.{capacity}
 use Rattle.lent_sessions.specs.Records.{is_count}
 use Rattle.lent_planner.proofs.TurnDeciding.{turn_before, turn_count, turn_broken, turn_too_short, turn_written}
@@ -14,12 +14,12 @@ use Rattle.lent_planner.proofs.turn.write_turn.Tie as tie
 returns : tie.Need-returns
 returns c =
     let a = c.before.before.before.args in
-    rw c.turn_refused_lem.ensures (turn_before a.session a.n a.s a.t a.out.now (not_true _ c.before.if1.true))
+    rw c.turn_refused_lem.ensures (turn_before a.session a.n a.s a.t a.out.now (not-true _ c.before.if1.true))
 
 returns-2 : tie.Need-returns-2
 returns-2 c =
     let a = c.before.before.before.before.before.args in
-    let m : is_count a.n ≡ false = sym c.before.before.is_count_lem.ensures ∙ not_true _ c.before.if2.true in
+    let m : is_count a.n ≡ false = sym c.before.before.is_count_lem.ensures ∙ not-true _ c.before.if2.true in
     rw c.turn-refused2.ensures (turn_count a.session a.n a.s a.t a.out.now (not-false _ c.before.before.before.if1.false) m)
 
 returns-3 : tie.Need-returns-3

@@ -3,7 +3,7 @@ use mathlib.Core.Path.{sym}
 use native.Mathlib.Omega.{arith}
 use borrow.Author.Rules.{rules}
 use lib.ListN.{replicate}
-use lib.Seq.{length-take-le, take_length}
+use lib.Seq.{length-take-le, take-length}
 use Rattle.streams.specs.Feeds.{piece_of, piece_out}
 use Rattle.streams.proofs.FeedAnswers.{after_end}
 use Rattle.lines.proofs.Delivered.{unfinished_piece, block_held, block_taken, piece_delivered}
@@ -21,12 +21,12 @@ newline-in-requires : tie.Need-newline-in-requires
 newline-in-requires c κs = search rules
 
 unfinished-requires : tie.Need-unfinished-requires
-unfinished-requires c κs = rw (c.if2.true, take_length c.before.before.before.before.before.before.before.before.args.text.now) at c.before.newline-in.ensures.before
+unfinished-requires c κs = rw (c.if2.true, take-length c.before.before.before.before.before.before.before.before.args.text.now) at c.before.newline-in.ensures.before
 
 returns-2 : tie.Need-returns-2
 returns-2 c =
     let a = c.before.before.before.before.before.before.before.before.before.args in
-    unfinished_piece _ a.state a.text.now a.out.now c.before.before.before.before.if1.false (rw (c.before.if2.true, take_length a.text.now) at c.before.before.newline-in.ensures.before) (c.unfinished.ensures _)
+    unfinished_piece _ a.state a.text.now a.out.now c.before.before.before.before.if1.false (rw (c.before.if2.true, take-length a.text.now) at c.before.before.newline-in.ensures.before) (c.unfinished.ensures _)
 
 slice-aggregate-feed : tie.Need-slice-aggregate-feed
 slice-aggregate-feed c = search rules

@@ -2,7 +2,7 @@
 -- Assumes nothing.
 use mathlib.Core.Path.{ap, sym, ◌∙◌}
 use borrow.Author.Rules.{rules}
-use borrow.Author.Tests.{not_true, not-false}
+use borrow.Author.Tests.{not-true, not-false}
 use native.Mathlib.Omega.{arith}
 use lib.ListN.{length}
 use Rattle.names.proofs.LookUpAnswers.{answer_row, answer_none, answer_ill_formed}
@@ -12,7 +12,7 @@ use Rattle.names.proofs.look_up.look_up_answer.Tie as tie
 returns : tie.Need-returns
 returns c =
     let a = c.before.before.before.before.before.args in
-    sym (answer_ill_formed (record { site = a.site.now; house = a.house.now }) a.name.now (sym c.before.lists_formed_lem.ensures ∙ not_true _ c.if1.true))
+    sym (answer_ill_formed (record { site = a.site.now; house = a.house.now }) a.name.now (sym c.before.lists_formed_lem.ensures ∙ not-true _ c.if1.true))
 
 row-named-requires : tie.Need-row-named-requires
 row-named-requires c κs = sym c.before.lists_formed_lem.ensures ∙ not-false _ c.if1.false

@@ -2,7 +2,7 @@
 -- Assumes nothing.
 use mathlib.Core.Path.{ap, sym, ◌∙◌}
 use borrow.Author.Rules.{rules}
-use borrow.Author.Tests.{not_true, not-false}
+use borrow.Author.Tests.{not-true, not-false}
 use Rattle.names.specs.EventNames.{is_name}
 use Rattle.parser.specs.ParseWith.{named_line}
 use Rattle.parser.proofs.named_lines.named_line.Statement.{statement}
@@ -17,7 +17,7 @@ unfolding named_line
 returns-2 c =
     let read = c.before.before.before.before in
     let id = sym read.before.before.number_at.ensures ∙ read.id.given.1 in
-    let name = sym (ap is_name c.before.before.field.ensures) ∙ sym c.before.is_name.ensures ∙ not_true c.before.is_name.result c.if1.true in
+    let name = sym (ap is_name c.before.before.field.ensures) ∙ sym c.before.is_name.ensures ∙ not-true c.before.is_name.result c.if1.true in
     rw (id, name)
 
 returns-3 : tie.Need-returns-3

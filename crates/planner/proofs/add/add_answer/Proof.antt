@@ -4,7 +4,7 @@ use mathlib.Core.List.{[], ◌∷◌}
 use mathlib.Core.Bool.{true, false}
 use mathlib.Core.Option.{none, some}
 use borrow.Author.Rules.{rules}
-use borrow.Author.Tests.{not_true, not-false, le-leb, lt-leb}
+use borrow.Author.Tests.{not-true, not-false, le-leb, lt-leb}
 use native.Mathlib.Omega.{arith}
 use lib.Dec.{leb}
 use lib.ListN.{length, length-take}
@@ -24,7 +24,7 @@ returns : tie.Need-returns
 unfolding answer_for
 returns c queue size inside waiting =
     let a = c.before.args in
-    answer_closed (session_with a.opened a.setup a.len queue) (Add a.id a.request) (some CallOrder) (not_true _ c.if1.true) (add_closed queue_limit a.id a.request)
+    answer_closed (session_with a.opened a.setup a.len queue) (Add a.id a.request) (some CallOrder) (not-true _ c.if1.true) (add_closed queue_limit a.id a.request)
 
 returns-2 : tie.Need-returns-2
 unfolding answer_for
@@ -74,7 +74,7 @@ returns-4 c queue size inside waiting =
     let a = p.before.before.before.before.before.before.args in
     let s = session_with a.opened a.setup a.len queue in
     let f = late p.before.before.before in
-    let n : has_plan_lem s.setup (a.request ∷ []) ≡ false = sym p.plans-alone.ensures ∙ not_true _ c.if3.true in
+    let n : has_plan_lem s.setup (a.request ∷ []) ≡ false = sym p.plans-alone.ensures ∙ not-true _ c.if3.true in
     answer_opened s (Add a.id a.request) (some NoPlanAlone) f.0 (add_no_plan queue_limit s.setup (queued s) a.id a.request inside (sym waiting ∙ f.1) (formed p) n)
 
 returns-5 : tie.Need-returns-5

@@ -2,7 +2,7 @@
 use mathlib.Core.Path.{◌≡◌, sym, ◌∙◌}
 use mathlib.Core.Bool.{true, false}
 use mathlib.Core.Option.{none, some}
-use borrow.Author.Tests.{not_true, not-false}
+use borrow.Author.Tests.{not-true, not-false}
 use Rattle.requests.specs.declared.Refusal.TheVariants.{CallOrder, IdNotWaiting}
 use Rattle.requests.specs.Refusals.{answer_for}
 use Rattle.sessions.specs.Calls.{Drop, waits}
@@ -16,14 +16,14 @@ returns : tie.Need-returns
 unfolding answer_for
 returns c setup len queue size inside waiting =
     let a = c.before.args in
-    answer_closed (session_with a.opened setup len queue) (Drop a.id) (some CallOrder) (not_true _ c.if1.true) (drop_closed queue_limit a.id)
+    answer_closed (session_with a.opened setup len queue) (Drop a.id) (some CallOrder) (not-true _ c.if1.true) (drop_closed queue_limit a.id)
 
 returns-2 : tie.Need-returns-2
 unfolding answer_for
 returns-2 c setup len queue size inside waiting =
     let a = c.before.before.args in
     let s = session_with a.opened setup len queue in
-    let w : waits a.id (queued s) ≡ false = sym waiting ∙ not_true _ c.if2.true in
+    let w : waits a.id (queued s) ≡ false = sym waiting ∙ not-true _ c.if2.true in
     answer_opened s (Drop a.id) (some IdNotWaiting) (not-false _ c.before.if1.false) (drop_not_waiting queue_limit s.setup (queued s) a.id inside w)
 
 returns-3 : tie.Need-returns-3

@@ -1,7 +1,7 @@
 -- `planner::ids::bad_id_refusal`: 2 before open, and 4 afterwards, by the rows of the table.
 use mathlib.Core.Path.{◌≡◌, sym, ◌∙◌}
 use mathlib.Core.Bool.{true, false}
-use borrow.Author.Tests.{not_true, not-false}
+use borrow.Author.Tests.{not-true, not-false}
 use Rattle.sessions.specs.Sessions.{queue_limit, queued, refused_by}
 use Rattle.sessions.proofs.TableAnswers.{plain_closed, plain_opened, add_closed, add_bad_id, drop-closed, drop-bad-id}
 use Rattle.planner.proofs.ids.bad_id_refusal.Statement.{statement}
@@ -10,7 +10,7 @@ use Rattle.planner.proofs.ids.bad_id_refusal.Tie as tie
 returns : tie.Need-returns
 unfolding refused_by
 returns c s same id outside =
-    let closed : s.opened ≡ false = same ∙ not_true _ c.if1.true in
+    let closed : s.opened ≡ false = same ∙ not-true _ c.if1.true in
     (λ r. rw (plain_closed s closed) (add_closed queue_limit id r), rw (plain_closed s closed) (drop_closed queue_limit id))
 
 returns-2 : tie.Need-returns-2

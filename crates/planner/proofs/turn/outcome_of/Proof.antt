@@ -2,7 +2,7 @@
 -- writer's answer.
 use Prim.Native.Nat.{min}
 use borrow.Author.Rules.{rules}
-use borrow.Author.Tests.{not_true, not-false}
+use borrow.Author.Tests.{not-true, not-false}
 use native.Mathlib.Omega.{arith}
 use Rattle.requests.specs.Devices.{capacity}
 use Rattle.layouts.specs.Slices.{Wrote}
@@ -16,7 +16,7 @@ use Rattle.planner.proofs.turn.outcome_of.Tie as tie
 returns : tie.Need-returns
 returns c =
     let a = c.before.before.before.args in
-    let t = turn_order a.session a.out.now (not_true _ c.before.if1.true) in
+    let t = turn_order a.session a.out.now (not-true _ c.before.if1.true) in
     (rw c.refused.ensures (settled_refused _ _ _ _ _ t.0), t.1)
 
 -- what is written

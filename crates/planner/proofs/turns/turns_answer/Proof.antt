@@ -3,7 +3,7 @@ use mathlib.Core.Path.{◌≡◌, ap, ◌∙◌}
 use mathlib.Core.Bool.{true, false}
 use mathlib.Core.Option.{none, some}
 use Prim.Native.Nat.{◌*◌}
-use borrow.Author.Tests.{not_true, not-false, lt-ltb, le-ltb}
+use borrow.Author.Tests.{not-true, not-false, lt-ltb, le-ltb}
 use native.Mathlib.Omega.{arith}
 use lib.Dec.{ltb}
 use lib.ListN.{length}
@@ -23,7 +23,7 @@ returns : tie.Need-returns
 unfolding answer_for
 returns c =
     let a = c.before.args in
-    answer_closed a.session (Turns a.n a.room a.places) (some CallOrder) (not_true _ c.if1.true) (turns_closed queue_limit a.n a.room a.places)
+    answer_closed a.session (Turns a.n a.room a.places) (some CallOrder) (not-true _ c.if1.true) (turns_closed queue_limit a.n a.room a.places)
 
 returns-2 : tie.Need-returns-2
 unfolding answer_for turns_limit

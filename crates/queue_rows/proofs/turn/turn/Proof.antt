@@ -1,6 +1,6 @@
 -- `turnOf` and `turnSlice`: refused before open (`turn-closed`), otherwise by what is parted, put behind and written (`turn-opened`).
 use mathlib.Core.Path.{◌≡◌}
-use borrow.Author.Tests.{not_true, not-false}
+use borrow.Author.Tests.{not-true, not-false}
 use native.Mathlib.Omega.{arith}
 use Rattle.requests.specs.Devices.{capacity}
 use Rattle.layouts.specs.Writes.{writes_for}
@@ -17,7 +17,7 @@ use Rattle.queue_rows.proofs.turn.turn.Tie as tie
 returns : tie.Need-returns
 returns c =
     let a = c.before.before.before.args in
-    rw c.closed_turn_lem.ensures (turn_closed a.head a.ids.now a.rows.now a.out.now (not_true _ c.before.if1.true) c.before.before.before.requires.0)
+    rw c.closed_turn_lem.ensures (turn_closed a.head a.ids.now a.rows.now a.out.now (not-true _ c.before.if1.true) c.before.before.before.requires.0)
 
 put-behind-requires : tie.Need-put-behind-requires
 put-behind-requires c κs =

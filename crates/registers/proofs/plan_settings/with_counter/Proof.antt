@@ -7,7 +7,7 @@ use native.Mathlib.Omega.{arith}
 use lib.Dec.{lit<}
 use lib.Pow.{shl_exact}
 use borrow.Author.Rules.{rules}
-use borrow.Author.Tests.{not_true, not-false}
+use borrow.Author.Tests.{not-true, not-false}
 use Rattle.requests.specs.Devices.{has, counter_count}
 use Rattle.registers.proofs.UsedCounters.{with_new, with_old, with_foreign, with_fits, counter_below}
 use Rattle.registers.proofs.plan_settings.with_counter.Statement.{statement}
@@ -20,14 +20,14 @@ add-t9 : tie.Need-overflow-add-t9
 add-t9 c =
     let a = c.before.before.before.before.before.args in
     let below : a.counter < 64 = counter_below a.device a.counter (rw (← c.before.before.before.before.counter-count.ensures) c.before.before.before.if1.true) in
-    let off : has a.used a.counter ≡ false = sym c.before.before.has.ensures ∙ not_true _ c.before.if2.true in
+    let off : has a.used a.counter ≡ false = sym c.before.before.has.ensures ∙ not-true _ c.before.if2.true in
     rw (shl_exact 1 a.counter 64 (lit< tt) (omega arith) ∙ one-mul _) (record { fits = with_fits a.used a.counter (omega arith) below off })
 
 returns : tie.Need-returns
 returns c =
     let a = c.before.before.before.before.before.args in
     let owned : a.counter < counter_count a.device = rw (← c.before.before.before.before.counter-count.ensures) c.before.before.before.if1.true in
-    let off : has a.used a.counter ≡ false = sym c.before.before.has.ensures ∙ not_true _ c.before.if2.true in
+    let off : has a.used a.counter ≡ false = sym c.before.before.has.ensures ∙ not-true _ c.before.if2.true in
     rw (shl_exact 1 a.counter 64 (lit< tt) (omega (arith, counter_below a.device a.counter owned)) ∙ one-mul _) (with-new a.device a.counter a.used owned off)
 
 returns-2 : tie.Need-returns-2

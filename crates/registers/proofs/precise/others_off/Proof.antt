@@ -4,7 +4,7 @@ use mathlib.Core.Bool.{true}
 use Prim.Native.Nat.{◌-◌, ◌≤◌}
 use native.Mathlib.Omega.{arith}
 use borrow.Author.Rules.{rules}
-use borrow.Author.Tests.{not_true, not-false}
+use borrow.Author.Tests.{not-true, not-false}
 use lib.Dec.{eqb}
 use lib.ListN.{get_or}
 use Rattle.requests.specs.Choice.{either, every}
@@ -35,7 +35,7 @@ returns c =
     let a = c.before.before.before.before.args in
     sym
     (every_fails (λ k. either (eqb k a.allowed) (eqb (get_or a.t2 k 0) 0)) a.limit c.before.before.before.loop.counter c.before.before.loop-test.true
-    (sym c.before.off-or-at.ensures ∙ not_true _ c.if1.true))
+    (sym c.before.off-or-at.ensures ∙ not-true _ c.if1.true))
 
 add-counter : tie.Need-overflow-add-counter invariant-loop decreases-loop
 add-counter c = omega arith

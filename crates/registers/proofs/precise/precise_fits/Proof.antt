@@ -4,7 +4,7 @@ use mathlib.Core.Bool.{true, false}
 use Prim.Native.Nat.{ℕ}
 use lib.ListN.{get_or}
 use borrow.Author.Rules.{rules}
-use borrow.Author.Tests.{not_true, not-false}
+use borrow.Author.Tests.{not-true, not-false}
 use Rattle.requests.specs.declared.Setup.{Setup}
 use Rattle.requests.specs.Choice.{both, every}
 use Rattle.requests.specs.Devices.{counter_count}
@@ -20,7 +20,7 @@ no_rules s f h = every_true (counter_count s.device) (rule_fits s f) (λ k l. un
 
 returns : tie.Need-returns
 unfolding both
-returns c = rw (sym c.before.pebs_fits_lem.ensures ∙ not_true _ c.if1.true)
+returns c = rw (sym c.before.pebs_fits_lem.ensures ∙ not-true _ c.if1.true)
 
 returns-2 : tie.Need-returns-2
 unfolding both

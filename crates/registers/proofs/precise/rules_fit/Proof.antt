@@ -4,7 +4,7 @@ use mathlib.Core.Bool.{true}
 use Prim.Native.Nat.{◌-◌, ◌≤◌}
 use native.Mathlib.Omega.{arith}
 use borrow.Author.Rules.{rules}
-use borrow.Author.Tests.{not_true, not-false}
+use borrow.Author.Tests.{not-true, not-false}
 use lib.ListN.{get_or}
 use Rattle.requests.specs.Choice.{every}
 use Rattle.requests.specs.Devices.{counter_count}
@@ -36,7 +36,7 @@ returns c =
     let a = c.before.before.before.before.before.args in
     sym
     (every_fails (rule_fits a.setup (λ k. get_or a.words k 0)) (counter_count a.setup.device) l.counter (omega (arith, l.invariant.1, c.before.before.loop-test.true))
-    (sym c.before.rule-fits.ensures ∙ not_true _ c.if1.true))
+    (sym c.before.rule-fits.ensures ∙ not-true _ c.if1.true))
 
 add-counter : tie.Need-overflow-add-counter invariant-loop decreases-loop
 add-counter c = omega arith

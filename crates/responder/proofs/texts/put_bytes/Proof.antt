@@ -3,7 +3,7 @@ use mathlib.Core.Path.{◌≡◌}
 use Prim.Native.Nat.{◌-◌, ◌≤◌}
 use native.Mathlib.Omega.{arith}
 use lib.ListN.{length, take}
-use lib.Seq.{take_length, length-take-le}
+use lib.Seq.{take-length, length-take-le}
 use Rattle.responder.specs.Texts.{Put}
 use Rattle.responder.proofs.Putting.{put_nothing, put_length, copied_next}
 use Rattle.responder.proofs.texts.put_bytes.Statement.{statement}
@@ -49,7 +49,7 @@ returns : tie.Need-returns invariant-loop decreases-loop
 returns c =
     let l = c.before.loop in
     let e : l.i ≡ length c.before.before.args.bytes.now = omega arith in
-    rw (e, take_length) at l.invariant.1
+    rw (e, take-length) at l.invariant.1
 
 pub put-bytes-spec : {M : Type 1} → statement M
 put-bytes-spec =

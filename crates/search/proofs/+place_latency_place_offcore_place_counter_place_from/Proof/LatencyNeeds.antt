@@ -2,7 +2,7 @@
 use mathlib.Core.Path.{refl, ◌∙◌}
 use Prim.Native.Nat.{ℕ, ◌+◌}
 use native.Mathlib.Omega.{arith}
-use borrow.Author.Tests.{not_true}
+use borrow.Author.Tests.{not-true}
 use Rattle.plans.specs.Packed.{packed}
 use Rattle.search.proofs.CountersLeft.{taken_less, from_first, next_none, from_next}
 use Rattle.search.proofs.Leaving.{counter_leaves}
@@ -18,7 +18,7 @@ pub place_latency_returns : (t : ℕ)
 place_latency_returns t c =
     let start = c.before.before.before in
     rsp0_refuses t start
-    (word_told (room t start).rsp0 _ _ _ _ c.before.before.latency_word_lem.ensures c.before.holds-word.ensures (not_true _ c.if1.true))
+    (word_told (room t start).rsp0 _ _ _ _ c.before.before.latency_word_lem.ensures c.before.holds-word.ensures (not-true _ c.if1.true))
 
 pub place_latency_returns_2 : (t : ℕ)
     → place-latency-lts.Need-returns-2 (place_latency_claims t) (place_latency_at t) place-latency.Post place_latency_inv_loop place_latency_μ_loop
@@ -26,7 +26,7 @@ place_latency_returns_2 t c =
     let held = c.before.before.before in
     let start = entered t held in
     rsp1_refuses t start (rsp0_holds t held)
-    (word_told (room t start).rsp1 _ _ _ _ c.before.before.latency-word2.ensures c.before.holds-word2.ensures (not_true _ c.if2.true))
+    (word_told (room t start).rsp1 _ _ _ _ c.before.before.latency-word2.ensures c.before.holds-word2.ensures (not-true _ c.if2.true))
 
 pub place_latency_loop_holds : (t : ℕ)
     → place-latency-lts.Need-loop-init (place_latency_claims t) (place_latency_at t) place-latency.Post place_latency_inv_loop place_latency_μ_loop
