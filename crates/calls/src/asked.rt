@@ -5,7 +5,7 @@ use requests::{CounterSet, Request};
 use scanner::words::same;
 
 // What an `add` line asks for.
-#[derive(Drop)]
+#[derive(Clone, Copy)]
 pub enum Asked {
     For(Request),
     Nothing,

@@ -7,7 +7,7 @@ use crate::output::text;
 const LONGEST_TEXT: usize = 4096;
 
 // The text in the first `count` bytes, and whether it is in the notation.
-#[derive(Drop)]
+#[derive(Clone, Copy)]
 pub struct Text {
     pub bytes: [u8; LONGEST_TEXT],
     pub count: usize,
@@ -15,7 +15,7 @@ pub struct Text {
 }
 
 // A byte of a text, and how many bytes it is written with: none where it is not in the notation.
-#[derive(Drop)]
+#[derive(Clone, Copy)]
 struct Letter {
     byte: u8,
     width: usize,

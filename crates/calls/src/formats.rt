@@ -33,7 +33,7 @@ fn number_of(word: &[u8], kind: u8) -> Number {
 }
 
 // The numbers of a line's words, each in the place of its word, and whether the line has the format.
-#[derive(Drop)]
+#[derive(Clone, Copy)]
 pub struct Numbers {
     pub fits: bool,
     pub at: [u64; 20],

@@ -14,7 +14,7 @@ use streams::PieceFeed;
 pub const MOST_ROWS: usize = 512;
 
 // The records are the first `count` rows.
-#[derive(Drop)]
+#[derive(Clone, Copy)]
 pub struct Host {
     pub session: Session,
     pub lent: LentSession,

@@ -12,14 +12,14 @@ use lent_sessions::{LentAnswered, LentSession, LentTurned};
 use requests::{Entry, Opening, Request};
 
 // An answer, and the rows afterwards.
-#[derive(Drop)]
+#[derive(Clone, Copy)]
 pub struct AnsweredRows {
     pub answered: LentAnswered,
     pub rows: [Entry; MOST_ROWS],
 }
 
 // A turn's answer, and the rows afterwards.
-#[derive(Drop)]
+#[derive(Clone, Copy)]
 pub struct TurnedRows {
     pub turned: LentTurned,
     pub rows: [Entry; MOST_ROWS],

@@ -9,7 +9,7 @@ use libc::STDIN_FILENO;
 const TOO_LONG: usize = usize::MAX;
 
 // What a part of the script leaves: the host, and the number of bytes of the unfinished line.
-#[derive(Drop)]
+#[derive(Clone, Copy)]
 struct Held {
     host: Host,
     bytes: usize,

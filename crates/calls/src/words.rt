@@ -5,7 +5,7 @@ ghost use Rattle.std.specs.Prelude.{◌≤◌, ◌<◌, length};
 pub const MOST: usize = 20;
 
 // Where the words of a line begin and end, and how many there are: one more than the most where there are too many.
-#[derive(Drop)]
+#[derive(Clone, Copy)]
 pub struct Words {
     pub starts: [usize; 21],
     pub ends: [usize; 21],

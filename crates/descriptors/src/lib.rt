@@ -13,7 +13,7 @@ pub mod tell;
 pub mod write;
 
 // Why a call failed, by its errno.
-#[derive(Drop)]
+#[derive(Clone, Copy)]
 pub enum Failure {
     Interrupted,
     WouldBlock,
@@ -22,7 +22,7 @@ pub enum Failure {
 }
 
 // What a call of read comes to.
-#[derive(Drop)]
+#[derive(Clone, Copy)]
 pub enum Reading {
     Bytes(usize),
     End,
@@ -33,7 +33,7 @@ pub enum Reading {
 
 // What reading a file whole comes to: the number of its bytes, or that it has more than there is room for, or a failure. The last
 // two were told on standard error.
-#[derive(Drop)]
+#[derive(Clone, Copy)]
 pub enum FileRead {
     Bytes(usize),
     TooLong,
@@ -41,7 +41,7 @@ pub enum FileRead {
 }
 
 // How far reading a file came: the number of its bytes that lie in the room, the last read, and what the file comes to by both.
-#[derive(Drop)]
+#[derive(Clone, Copy)]
 pub struct Filling {
     pub done: usize,
     pub last: Reading,
@@ -49,7 +49,7 @@ pub struct Filling {
 }
 
 // What comes next for a text that is being written.
-#[derive(Drop)]
+#[derive(Clone, Copy)]
 pub enum Next {
     Go,
     Wait,
@@ -60,7 +60,7 @@ pub enum Next {
 }
 
 // How many bytes of a text calls of write have reported written, and what comes next.
-#[derive(Drop)]
+#[derive(Clone, Copy)]
 pub struct Writing {
     pub done: usize,
     pub next: Next,

@@ -7,7 +7,7 @@ use requests::{Device, Request, Setup};
 pub const LONGEST: usize = 80;
 
 // What a line asks for. What it opens with is not judged yet.
-#[derive(Drop)]
+#[derive(Clone, Copy)]
 pub enum Record {
     Open(Setup),
     Add { id: u64, request: Request },
@@ -17,7 +17,7 @@ pub enum Record {
 
 // What a line is: a record; the add of a request that is asked for by name, which has fields of its own; or neither, with the first field that
 // breaks the grammar, counted from 0 at the verb.
-#[derive(Drop)]
+#[derive(Clone, Copy)]
 pub enum Parsed {
     Line(Record),
     Named { id: u64, request: Request },
@@ -25,14 +25,14 @@ pub enum Parsed {
 }
 
 // The device whose letter a field is, as its box 0.
-#[derive(Drop)]
+#[derive(Clone, Copy)]
 pub enum Lettered {
     Known(Device),
     Unknown,
 }
 
 // What a field is that has to be a number. It has no number of its own in the refusal table.
-#[derive(Drop)]
+#[derive(Clone, Copy)]
 pub enum Number {
     Value(u64),
     Bad,

@@ -4,7 +4,7 @@
 use requests::{Answer, CAPACITY, CounterSet};
 
 // Where a device's registers are: counter k's control is at control + step * k, its count at counter + step * k.
-#[derive(Drop)]
+#[derive(Clone, Copy)]
 pub struct Layout {
     pub global: u64,
     pub control: u64,
@@ -13,7 +13,7 @@ pub struct Layout {
 }
 
 // The register values of a plan: the used counters, the control word of each counter, the filter words.
-#[derive(Drop)]
+#[derive(Clone, Copy)]
 pub struct Settings {
     pub used: CounterSet,
     pub words: [u64; CAPACITY],
@@ -25,14 +25,14 @@ pub struct Settings {
 }
 
 // The answer of the writer: the number of writes, or that the slice is shorter than twice that number.
-#[derive(Drop)]
+#[derive(Clone, Copy)]
 pub enum WriteAnswer {
     Written(usize),
     TooShort,
 }
 
 // The values of the filter registers of G and S, and none of C. Those that the device has not are not looked at.
-#[derive(Drop)]
+#[derive(Clone, Copy)]
 pub struct FilterValues {
     pub rsp0: u64,
     pub rsp1: u64,
@@ -43,7 +43,7 @@ pub struct FilterValues {
 
 // What the reader is given. Control values at and past the device's number of counters are not looked at, nor is the value of the U-Box
 // where nothing is asked of it, nor that of IA32_PEBS_ENABLE on a device that has no such register.
-#[derive(Drop)]
+#[derive(Clone, Copy)]
 pub struct RegisterValues {
     pub control: [u64; CAPACITY],
     pub filters: FilterValues,
@@ -53,7 +53,7 @@ pub struct RegisterValues {
 }
 
 // The filter of an event that is counted.
-#[derive(Drop)]
+#[derive(Clone, Copy)]
 pub enum FilterRead {
     NoFilter,
     Rsp(u64, u64),
@@ -61,7 +61,7 @@ pub enum FilterRead {
 }
 
 // What a counter does.
-#[derive(Drop)]
+#[derive(Clone, Copy)]
 pub enum CounterState {
     NotOurs,
     Off,
@@ -72,13 +72,13 @@ pub enum CounterState {
     },
 }
 
-#[derive(Drop)]
+#[derive(Clone, Copy)]
 pub struct CounterRead {
     pub state: CounterState,
 }
 
 // The reader's answer: accepted with the state of each counter, or refused.
-#[derive(Drop)]
+#[derive(Clone, Copy)]
 pub struct Reading {
     pub answer: Answer,
     pub counters: [CounterRead; CAPACITY],

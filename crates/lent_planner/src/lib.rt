@@ -15,7 +15,7 @@ mod rules;
 pub mod turn;
 
 // What a pass over the records has found: how many wait, where the id waits, whether vacant ones have begun, and whether the rules are broken.
-#[derive(Drop)]
+#[derive(Clone, Copy)]
 struct Survey {
     pub setup: Setup,
     pub id: u64,
@@ -28,7 +28,7 @@ struct Survey {
 
 // What a turn has taken of the records: the entries and the places where they stand, in the first `count` places, with the rows and the
 // number of their plan, and the sets of counters that are left. Nothing is looked at from `end` on.
-#[derive(Drop)]
+#[derive(Clone, Copy)]
 struct Choice {
     pub setup: Setup,
     pub usable: usize,
@@ -44,7 +44,7 @@ struct Choice {
 
 // How the records from `from` to `end` change: each is read `skip` places ahead and one more for each place in `at` that is passed over, and past
 // the end from the fresh ones.
-#[derive(Drop)]
+#[derive(Clone, Copy)]
 struct Change {
     pub from: usize,
     pub end: usize,
@@ -54,14 +54,14 @@ struct Change {
 }
 
 // What a call comes to: its answer, and how the records change.
-#[derive(Drop)]
+#[derive(Clone, Copy)]
 struct Decision {
     pub answered: LentAnswered,
     pub change: Change,
 }
 
 // What a turn comes to: its answer, and how the records change.
-#[derive(Drop)]
+#[derive(Clone, Copy)]
 struct TurnDecision {
     pub turned: LentTurned,
     pub change: Change,

@@ -8,21 +8,21 @@ use sessions::Assigned;
 pub const MOST_RECORDS: usize = 256;
 
 // A session without a queue of its own.
-#[derive(Drop)]
+#[derive(Clone, Copy)]
 pub struct LentSession {
     pub opened: bool,
     pub setup: Setup,
 }
 
 // An answer, and the session afterwards.
-#[derive(Drop)]
+#[derive(Clone, Copy)]
 pub struct LentAnswered {
     pub answer: Answer,
     pub session: LentSession,
 }
 
 // A turn's answer: the plan in the first `taken` places, in the order taken, and the number of writes.
-#[derive(Drop)]
+#[derive(Clone, Copy)]
 pub struct LentTurned {
     pub answer: Answer,
     pub session: LentSession,

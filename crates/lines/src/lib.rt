@@ -9,14 +9,14 @@ mod pieces;
 pub mod stream;
 
 // How far an unfinished line goes: the number of its bytes that are kept, and whether it is longer.
-#[derive(Drop)]
+#[derive(Clone, Copy)]
 struct Extent {
     pub used: usize,
     pub long: bool,
 }
 
 // What a block leaves: the state, the number of bytes taken from the block, and the number written.
-#[derive(Drop)]
+#[derive(Clone, Copy)]
 pub struct Fed {
     pub feed: Feed,
     pub taken: usize,

@@ -7,7 +7,7 @@ use requests::{Answer, CounterSet, Device, Request, Setup};
 use std::num::wrapping_add_u64;
 
 // How many events are accepted, and how many are refused with 8, 9 and 10. In the sum each number moves those before it by a factor.
-#[derive(Drop)]
+#[derive(Clone, Copy)]
 pub struct Tally {
     pub accepted: u64,
     pub unlisted: u64,

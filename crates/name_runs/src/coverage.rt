@@ -7,7 +7,7 @@ use std::num::wrapping_add_u64;
 
 // How many codes are accepted with some mask, and how many of these no row names; how many pairs of code and mask are accepted, and how many
 // of these some row names.
-#[derive(Drop)]
+#[derive(Clone, Copy)]
 pub struct Coverage {
     pub codes: u64,
     pub unnamed: u64,

@@ -12,7 +12,7 @@ use requests::{Device, Setup};
 use std::num::wrapping_add_u64;
 
 // How many rows a device has, how many of them the planner refuses, and how many have a name that stands above them in the list.
-#[derive(Drop)]
+#[derive(Clone, Copy)]
 pub struct Rows {
     pub count: u64,
     pub refused: u64,

@@ -11,7 +11,7 @@ pub mod named;
 pub mod rows;
 
 // What a row says of its name: an event's device, code and unit mask.
-#[derive(Drop)]
+#[derive(Clone, Copy)]
 pub struct Row {
     pub device: Device,
     pub code: u8,
@@ -19,7 +19,7 @@ pub struct Row {
 }
 
 // Why a row is ill-formed: its number of fields, the field at fault, or that no newline closes it.
-#[derive(Drop)]
+#[derive(Clone, Copy)]
 pub enum Reason {
     FieldCount,
     Name,
@@ -30,21 +30,21 @@ pub enum Reason {
 }
 
 // What the text of a row is.
-#[derive(Drop)]
+#[derive(Clone, Copy)]
 pub enum RowRead {
     Formed(Row),
     Bad(Reason),
 }
 
 // An ill-formed row of a list: its number, counted from 1, and why it is one.
-#[derive(Drop)]
+#[derive(Clone, Copy)]
 pub struct IllFormedRow {
     pub number: usize,
     pub reason: Reason,
 }
 
 // What a list is: well-formed, or its first ill-formed row.
-#[derive(Drop)]
+#[derive(Clone, Copy)]
 pub enum ListRead {
     Formed,
     IllFormed(IllFormedRow),

@@ -18,7 +18,7 @@ pub const QUEUE_NUMBERS: usize = 4 * QUEUE_LIMIT;
 
 // A session without its queue, which lies in the first `len` places. Where it is trimmed, the places past these are vacant, whatever the
 // arrays hold there.
-#[derive(Drop)]
+#[derive(Clone, Copy)]
 pub struct Head {
     pub opened: bool,
     pub setup: Setup,
@@ -27,7 +27,7 @@ pub struct Head {
 }
 
 // An answer, and the head afterwards.
-#[derive(Drop)]
+#[derive(Clone, Copy)]
 pub struct HeadAnswered {
     pub answer: Answer,
     pub head: Head,
@@ -35,7 +35,7 @@ pub struct HeadAnswered {
 
 // A turn's answer, and the head afterwards: the number of the plan of the entries taken, which stand from `front` on, how many they are,
 // and the number of writes.
-#[derive(Drop)]
+#[derive(Clone, Copy)]
 pub struct TurnTaken {
     pub answer: Answer,
     pub head: Head,

@@ -28,7 +28,7 @@ use std::num::wrapping_add_usize;
 use streams::Feed;
 
 // What a block leaves: the state, the number of bytes answered, the number of bytes reported written, and what comes next.
-#[derive(Drop)]
+#[derive(Clone, Copy)]
 struct Passed {
     pub feed: Feed,
     pub taken: usize,
@@ -37,7 +37,7 @@ struct Passed {
 }
 
 // What a run leaves: the state, the number of bytes reported read, the number reported written, the last read, and what comes next.
-#[derive(Drop)]
+#[derive(Clone, Copy)]
 struct Run {
     pub feed: Feed,
     pub received: usize,
@@ -48,7 +48,7 @@ struct Run {
 
 // How the lines of an input ended: all read and all replies written; the output closed by its reader; a read or write failed,
 // which was told on standard error; or nothing done, for want of room in the lent slices.
-#[derive(Drop)]
+#[derive(Clone, Copy)]
 pub enum Ending {
     Complete,
     Closed,
@@ -58,7 +58,7 @@ pub enum Ending {
 
 // What became of an input: how its lines ended, the number of bytes reported read, the number reported written, the last read, and
 // what the last write left to do.
-#[derive(Drop)]
+#[derive(Clone, Copy)]
 pub struct Answered {
     pub ending: Ending,
     pub received: usize,

@@ -5,11 +5,11 @@
 pub const CAPACITY: usize = 8;
 
 // A set of counters: counter k is 2^k.
-#[derive(Drop)]
+#[derive(Clone, Copy)]
 pub struct CounterSet(pub u64);
 
 // G: one Goldmont core. S: S-Box 0 of the Xeon 7500. C: one of its C-Boxes, by number. B: one Sandy Bridge core.
-#[derive(Drop)]
+#[derive(Clone, Copy)]
 pub enum Device {
     G,
     S,
@@ -18,14 +18,14 @@ pub enum Device {
 }
 
 // The core that gets an interrupt, if any.
-#[derive(Drop)]
+#[derive(Clone, Copy)]
 pub enum Core {
     NoCore,
     At(u64),
 }
 
 // What the overflow of a counter does: with freeze 1 it stops all uncore counting, with a core it interrupts that core.
-#[derive(Drop)]
+#[derive(Clone, Copy)]
 pub struct Overflow {
     pub freeze: u64,
     pub core: Core,
@@ -33,7 +33,7 @@ pub struct Overflow {
 
 // What open is given: the letter of a device, as a number, the usable counters, the enables of the fixed counters, the number of the
 // C-Box, 0 on other devices, and what an overflow does.
-#[derive(Drop)]
+#[derive(Clone, Copy)]
 pub struct Opening {
     pub device: u64,
     pub usable: CounterSet,
@@ -43,7 +43,7 @@ pub struct Opening {
 }
 
 // What a session is opened with, its device known by its letter. A session keeps that of its accepted open.
-#[derive(Drop)]
+#[derive(Clone, Copy)]
 pub struct Setup {
     pub device: Device,
     pub usable: CounterSet,
@@ -52,14 +52,14 @@ pub struct Setup {
 }
 
 // What an opening opens: a session with a setup, or why none.
-#[derive(Drop)]
+#[derive(Clone, Copy)]
 pub enum Opened {
     With(Setup),
     Refused(Refusal),
 }
 
 // The four kinds of request.
-#[derive(Drop)]
+#[derive(Clone, Copy)]
 pub enum Request {
     Event {
         code: u8,
@@ -83,14 +83,14 @@ pub enum Request {
 }
 
 // What a catalogue lists of a code and a unit mask: the code, and the two as a pair.
-#[derive(Drop)]
+#[derive(Clone, Copy)]
 pub struct Listing {
     pub code: bool,
     pub pair: bool,
 }
 
 // Where an event runs: on any counter, on one only, or on one with every other counter quiet.
-#[derive(Drop)]
+#[derive(Clone, Copy)]
 pub enum EventRule {
     Anywhere,
     OnlyOn(u64),
@@ -98,14 +98,14 @@ pub enum EventRule {
 }
 
 // An entry of the queue.
-#[derive(Drop)]
+#[derive(Clone, Copy)]
 pub struct Entry {
     pub id: u64,
     pub request: Request,
 }
 
 // Why a call is refused, in the order of the numbers 1 to 15.
-#[derive(Drop)]
+#[derive(Clone, Copy)]
 pub enum Refusal {
     NotInGrammar,
     CallOrder,
@@ -125,28 +125,28 @@ pub enum Refusal {
 }
 
 // The answer of a call.
-#[derive(Drop)]
+#[derive(Clone, Copy)]
 pub enum Answer {
     Accepted,
     Refused(Refusal),
 }
 
 // A refusal, and the field at fault, counted from 0 at the verb of the line that makes the call.
-#[derive(Drop)]
+#[derive(Clone, Copy)]
 pub struct Fault {
     pub refusal: Refusal,
     pub field: usize,
 }
 
 // What the checks of a call say: nothing is at fault, or this.
-#[derive(Drop)]
+#[derive(Clone, Copy)]
 pub enum Checked {
     Passed,
     Failed(Fault),
 }
 
 // The fields of a call that are at fault under 3, 10 and 9, which alone depend on what the call was given; 0 for a number that it never gets.
-#[derive(Drop)]
+#[derive(Clone, Copy)]
 pub struct Fields {
     pub opening: usize,
     pub range: usize,

@@ -14,7 +14,7 @@ mod take_lines;
 pub mod texts;
 
 // The reply to a line: its text in the first `length` bytes, and the session afterwards.
-#[derive(Drop)]
+#[derive(Clone, Copy)]
 pub struct LineReply {
     pub text: [u8; REPLY_ROOM],
     pub length: usize,
@@ -22,7 +22,7 @@ pub struct LineReply {
 }
 
 // What a reply that went into a lent slice leaves: the session beside its queue, and the number of bytes written.
-#[derive(Drop)]
+#[derive(Clone, Copy)]
 pub struct Replied {
     pub head: Head,
     pub written: usize,

@@ -8,7 +8,7 @@ pub mod verbs;
 pub mod words;
 
 // The numbers of a line, 0 for those that it does not have; or the first field at fault.
-#[derive(Drop)]
+#[derive(Clone, Copy)]
 enum LineNumbers {
     Read(u64, u64, u64, u64, u64),
     Fault(usize),
@@ -23,7 +23,7 @@ const CORE: usize = 17;
 const MOST_FIELDS: usize = 8;
 
 // Where the fields of a text end, those past the last one at its end, and how many fields it has.
-#[derive(Drop)]
+#[derive(Clone, Copy)]
 pub struct Parts {
     pub ends: [usize; MOST_FIELDS],
     pub count: usize,

@@ -7,7 +7,7 @@ use crate::counters::without;
 use requests::CounterSet;
 
 // The free counters, and the row that uses each filter register: 0 for none, k + 1 for row k.
-#[derive(Drop)]
+#[derive(Clone, Copy)]
 pub struct Left {
     pub free: CounterSet,
     pub rsp0: usize,

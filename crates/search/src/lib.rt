@@ -20,20 +20,20 @@ pub mod rows;
 mod ruled;
 
 // What one request is given.
-#[derive(Drop)]
+#[derive(Clone, Copy)]
 pub struct Given {
     pub place: Place,
 }
 
 // Whether there is a plan, and what it gives each request, in their order.
-#[derive(Drop)]
+#[derive(Clone, Copy)]
 pub struct Found {
     pub found: bool,
     pub places: [Given; CAPACITY],
 }
 
 // A request as a row of four numbers: its kind, and what it holds.
-#[derive(Drop)]
+#[derive(Clone, Copy)]
 pub struct Row {
     pub kind: u64,
     pub a: u64,

@@ -8,7 +8,7 @@ use sessions::Session;
 pub const LONGEST: usize = 80;
 
 // The state between two bytes: the session, the first 80 bytes of the unfinished line, and whether it is longer.
-#[derive(Drop)]
+#[derive(Clone, Copy)]
 pub struct Feed {
     pub session: Session,
     pub kept: [u8; LONGEST],
@@ -17,14 +17,14 @@ pub struct Feed {
 }
 
 // A text that is given in pieces: the state after them, and whether the end has been declared.
-#[derive(Drop)]
+#[derive(Clone, Copy)]
 pub struct PieceFeed {
     pub feed: Feed,
     pub ended: bool,
 }
 
 // What a piece or the end leaves: the answer, the state, and the number of bytes written.
-#[derive(Drop)]
+#[derive(Clone, Copy)]
 pub struct PieceAnswered {
     pub answer: Answer,
     pub state: PieceFeed,
