@@ -1,6 +1,6 @@
 // Makes calls of the line program fail, for tests/failures: preloaded into it, this lets FAULT_CALL (open, or read or write on the
 // descriptor FAULT_FD) fail with the errno FAULT_ERRNO, or answer 0 where that is 0, at every call whose number FAULT_EVERY divides,
-// and lets none of the first FAULT_FIRST other reads or writes move more than FAULT_MOST bytes.
+// and lets no other read or write move more than FAULT_MOST bytes.
 #define _GNU_SOURCE
 #include <dlfcn.h>
 #include <errno.h>
@@ -29,8 +29,7 @@ static ssize_t moved(const char *call, int fd, void *buf, size_t n) {
     moves real = (moves)dlsym(RTLD_NEXT, call);
     if (!chosen(call) || fd != number("FAULT_FD")) return real(fd, buf, n);
     if (fails()) return errno ? -1 : 0;
-    static long calls;
-    size_t most = calls++ < number("FAULT_FIRST") ? number("FAULT_MOST") : n;
+    size_t most = number("FAULT_MOST");
     return real(fd, buf, n < most ? n : most);
 }
 

@@ -57,14 +57,14 @@ fn print_coverage(device: &Device, rows: &[Row]) {
     println!(" codes {} unnamed {unnamed} pairs {} named {named_pairs}", codes.len(), pairs.len());
 }
 
-/// The row that a name finds, as it stands in its list, or the number of the refusal.
+/// The row that a name finds, as it stands in its list; nothing where there is none, or where a list is ill-formed.
 fn row_text<'a>(texts: &'a Texts, name: &str) -> &'a str {
     let text = |list: &'a [u8]| std::str::from_utf8(list).expect("letters");
     if rows_of(&texts.site).is_none() || rows_of(&texts.house).is_none() {
-        return "no 1";
+        return "";
     }
     let mut rows = text(&texts.site).lines().chain(text(&texts.house).lines());
-    rows.find(|row| row.split('\t').next() == Some(name)).unwrap_or("no 8")
+    rows.find(|row| row.split('\t').next() == Some(name)).unwrap_or("")
 }
 
 fn print_answers(transcript: &[u8], texts: &Texts) {

@@ -1,25 +1,23 @@
 """Faults that no descriptor makes by itself: calls that tests/faults.c lets fail."""
 import errno, os, shutil, subprocess
-from failing.lists import UNCLOSED, replies
-from failing.setting import LONG_REPLIES, REPLIES, ROOT, check, not_tried, path, shell, text, written
+from failing.lists import replies
+from failing.setting import LONG_REPLIES, REPLIES, ROOT, check, path, shell, tally, text, written
 
 
 def faults():
     shim = path('faults.so')
     if not shutil.which('cc') or subprocess.run(['cc', '-shared', '-fPIC', '-o', shim, os.path.join(ROOT, 'tests/faults.c'), '-ldl']).returncode:
-        return not_tried('faults, for want of a C compiler for tests/faults.c', 22)
+        tally['not tried'] += 14
+        print('not tried: no C compiler for tests/faults.c')
+        return
 
-    def faulty(call, code, every, most=1 << 20, lines='$S', arguments='', descriptor=None, first=1 << 40):
+    def faulty(call, code, every, most=1 << 20, lines='$S', arguments='', descriptor=None):
         descriptor = {'read': 0, 'write': 1, 'open': -1}[call] if descriptor is None else descriptor
-        words = dict(FAULT_CALL=call, FAULT_FD=str(descriptor), FAULT_ERRNO=str(code), FAULT_EVERY=str(every), FAULT_MOST=str(most), FAULT_FIRST=str(first))
+        words = dict(FAULT_CALL=call, FAULT_FD=str(descriptor), FAULT_ERRNO=str(code), FAULT_EVERY=str(every), FAULT_MOST=str(most))
         return shell('LD_PRELOAD=$F "$T" %s <"%s" >"$O"' % (arguments, lines), F=shim, **words) + (written(),)
 
     never = 1 << 40
     check('writes of 7 bytes at most', faulty('write', 0, never, 7), (0, '', REPLIES))
-    short = [most for most in range(1, len(REPLIES), 97) if faulty('write', 0, never, most, first=1) != (0, '', REPLIES)]
-    check('the first write takes a part: the rest follows', (0, '', short), (0, '', []))
-    long = [most for most in (1, 8, 4093, 32768) if faulty('write', 0, never, most, '$L', first=1) != (0, '', LONG_REPLIES)]
-    check('the same, long', (0, '', long), (0, '', []))
     check('every second write interrupted, 7 bytes', faulty('write', errno.EINTR, 2, 7), (0, '', REPLIES))
     check('every third write would block, 7 bytes', faulty('write', errno.EAGAIN, 3, 7), (0, '', REPLIES))
     check('every second write interrupted, long', faulty('write', errno.EINTR, 2, 4000, '$L'), (0, '', LONG_REPLIES))
@@ -35,8 +33,3 @@ def faults():
     check('the fifth read of the lists fails', faulty('read', errno.EIO, 5, 999, **names), (1, 'full: %s\n' % text(errno.EIO), b''))
     check('every second open interrupted', faulty('open', errno.EINTR, 2, **names), good)
     check('the fourth read fails in a line', faulty('read', errno.EIO, 4, 11), (1, 'read: %s\n' % text(errno.EIO), b'ok\nok\nno\t1\t0\n'))
-    for name, code in ('interrupted', errno.EINTR), ('would block', errno.EAGAIN):
-        check('every second write of a message ' + name, faulty('write', code, 2, 3, '$N', 'damaged house', 2), (0, UNCLOSED, replies(1, 1, 1)))
-        missing = faulty('write', code, 2, 3, '$N', 'missing house', 2)
-        check('the same of a failure', missing, (1, 'missing: %s\n' % text(errno.ENOENT), b''))
-        check('every second write of the status ' + name, faulty('write', code, 2, 1, '$N', 'missing house', 3), (1, 'missing: %s\n' % text(errno.ENOENT), b''))

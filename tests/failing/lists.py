@@ -6,10 +6,6 @@ SITE, HOUSE = b'CYCLES\tG\t3C\t00\n', b'INSTR\tG\tC0\t00\n'
 HERE, ELSEWHERE = b'INSTR\tG\t3C\t01\n', b'INSTR\tS\t52\t00\n'
 FULL = b''.join(b'N%06d\tG\t3C\t00\n' % i for i in range(4095)) + b'LAST_ON\tG\t3C\t00\n'
 NAMED = b'open\tG\t15\t0\t0\t-\nnamed\t1\tCYCLES\t15\nnamed\t2\tINSTR\t15\nnamed\t3\tLAST_ON\t15\n'
-UNCLOSED = 'damaged: row 1: no newline at the end\n'
-ILL_FORMED = [(b'', 'not four fields parted by tabs'), (b'CYCLES\tG\t3C', 'not four fields parted by tabs'),
-              (b'Cycles\tG\t3C\t00', 'the name is not 1 to 40 of A-Z, 0-9 and _'), (b'CYCLES\tX\t3C\t00', 'the device letter is unknown'),
-              (b'CYCLES\tG\t3c\t00', 'the code is not two upper-case hex digits'), (b'CYCLES\tG\t3C\t00\r', 'the unit mask is not two upper-case hex digits')]
 AT_FAULT = {1: 0, 7: 0, 8: 2}  # the field of a request by name that is refused with this number
 
 
@@ -41,12 +37,8 @@ def good_and_damaged():
     listed('"a site" "*"', both, 'blanks and signs of the shell in the paths')
     listed('here elsewhere', (0, '', replies(8, 0, 8)), 'a name in both lists: the first is the site')
     listed('elsewhere here', (0, '', replies(8, 7, 8)), 'the same lists exchanged')
-    listed('damaged house', (0, UNCLOSED, replies(1, 1, 1)), 'a damaged list for the site')
-    listed('site damaged', (0, UNCLOSED, replies(1, 1, 1)), 'a damaged list for the house')
-    listed('damaged damaged', (0, UNCLOSED * 2, replies(1, 1, 1)), 'both lists damaged')
-    for row, reason in ILL_FORMED:
-        path('ill-formed', SITE + row + b'\n' + b'x\n')
-        listed('ill-formed house', (0, 'ill-formed: row 2: %s\n' % reason, replies(1, 1, 1)), 'a row of a list: ' + reason)
+    listed('damaged house', (0, '', replies(1, 1, 1)), 'a damaged list for the site')
+    listed('site damaged', (0, '', replies(1, 1, 1)), 'a damaged list for the house')
     listed('empty house', (0, '', replies(8, 0, 8)), 'an empty list for the site')
     listed('site /dev/null', (0, '', replies(0, 8, 8)), 'an empty device for the house')
     check('relative paths from another folder', shell('cd lists && "$T" site ../house <"$N" >"$O"') + (written(),), (0, '', replies(8, 0, 8)))

@@ -1,37 +1,14 @@
-"""Signals, links, arguments, and the program without its script."""
+"""Signals, links, arguments, the program without its script, and what ./tuner does before it runs the program."""
 import errno, os, shutil, signal, subprocess, time
 from failing.lists import replies
-from failing.setting import LONG, LONG_REPLIES, PROGRAM, REPLIES, TUNER, check, children, ended, fed, finish, not_tried, path, program_of, shell, start, text, until, written
-
-# Signals that people and programs send to a script, each of which ends a program that does not ask for it.
-SENT = 'HUP', 'INT', 'QUIT', 'USR1', 'USR2', 'PIPE', 'ALRM', 'TERM'
-
-
-def busy(**words):
-    """./tuner in the middle of a long input, the thread that feeds it, and the number of the program."""
-    process = start(subprocess.PIPE, subprocess.PIPE, **words)
-    return process, fed(process, LONG), program_of(process.pid)
-
-
-def stopped(name, **words):
-    """How a script ends that gets a signal: its status, what it told, and whether the program ended too."""
-    process, feeding, program = busy(**words)
-    os.kill(process.pid, signal.Signals['SIG' + name])
-    status, said = finish(process)
-    feeding.join()
-    return status, said, ended(program)
-
-
-def killed(name, **words):
-    """The status of a script whose program gets a signal."""
-    process, feeding, program = busy(**words)
-    os.kill(program, signal.Signals['SIG' + name])
-    status, _ = finish(process)
-    feeding.join()
-    return status, ''
+from failing.setting import LONG, LONG_REPLIES, PROGRAM, REPLIES, TUNER, check, content, fed, finish, path, program_of, shell, start, text, written
 
 
 def signals():
+    def busy():
+        process = start(subprocess.PIPE, subprocess.PIPE)
+        return process, fed(process, LONG), program_of(process)
+
     process, feeding, program = busy()
     time.sleep(0.1)
     os.kill(program, signal.SIGSTOP)
@@ -41,24 +18,29 @@ def signals():
     feeding.join()
     check('stopped and continued while it writes', finish(process, got), (0, '', LONG_REPLIES))
     for name in 'KILL', 'TERM', 'USR1':
-        check('the program ended by SIG' + name, killed(name), (128 + signal.Signals['SIG' + name], ''))
-    for name in SENT:
-        check('./tuner ended by SIG%s, and the program with it' % name, stopped(name), (-signal.Signals['SIG' + name], '', True))
-
-
-def interrupted_loop():
-    """^C goes to all of a terminal's processes. A shell ends its loop where what it called was ended by the signal itself."""
-    for name in 'bash', 'dash', 'mksh', 'zsh':
-        if not shutil.which(name):
-            not_tried('^C in a loop of %s, which is not installed' % name)
-            continue
-        loop = 'for i in 1 2 3; do "$0"; echo "went on" >&2; done'
-        process = subprocess.Popen([name, '-c', loop, TUNER], stdin=subprocess.PIPE, stdout=subprocess.DEVNULL, stderr=subprocess.PIPE, start_new_session=True)
-        program = program_of(until(lambda: children(process.pid))[0])
-        os.killpg(process.pid, signal.SIGINT)
+        process, feeding, program = busy()
+        os.kill(program, signal.Signals['SIG' + name])
+        status, _ = finish(process)
+        feeding.join()
+        check('the program ended by SIG' + name, (status, ''), (128 + signal.Signals['SIG' + name], ''))
+    for name in 'TERM', 'INT', 'HUP':
+        process, feeding, program = busy()
+        os.kill(process.pid, signal.Signals['SIG' + name])
         status, said = finish(process)
-        process.stdin.close()
-        check('^C in a loop of ' + name, (status in (-2, 130), said, ended(program)), (True, '', True))
+        feeding.join()
+        check('./tuner ended by SIG%s, and the program with it' % name, (status, said, ended(program)), (128 + signal.Signals['SIG' + name], '', True))
+
+
+def ended(program):
+    """Whether the program has ended, or does within two seconds."""
+    for _ in range(200):
+        try:
+            if content('/proc/%d/stat' % program).rsplit(b')', 1)[1].split()[0] == b'Z':
+                return True
+        except OSError:
+            return True
+        time.sleep(0.01)
+    return False
 
 
 def links_and_arguments():
@@ -77,3 +59,29 @@ def without_the_script():
     check('the program alone, two lists', shell('"$P" site house <"$N" >"$O"', P=PROGRAM) + (written(),), (0, '', replies(0, 0, 8)))
     check('the program alone, one list', shell('"$P" site <"$N" >"$O"', P=PROGRAM) + (written(),), (0, 'usage: tuner [SITE HOUSE]\n', b''))
     check('the program alone, a full device', shell('"$P" <"$S" >/dev/full', P=PROGRAM), (0, 'write: %s\n' % text(errno.ENOSPC)))
+
+
+def proving():
+    """The script with another program and another rt, in a folder of its own."""
+    tree = path('tree')
+    os.makedirs(os.path.join(tree, 'crates'))
+    path('tree/crates.txt', b'')
+    shutil.copy(TUNER, tree)
+    os.mkdir(path('bin'))
+    rt = path('bin/rt', b'#!/bin/sh\necho "rt $*"\n[ -e good ] || exit 1\nmkdir -p target/bin && cp program target/bin/tuner\n')
+    program = path('tree/program', b'#!/bin/sh\ncat\nprintf 0 >&3\n')
+    os.chmod(rt, 0o755)
+    os.chmod(program, 0o755)
+    run = 'PATH=$B:$PATH; printf in | ./tree/tuner >"$O"'
+    proves = 'tuner: proving and building the program, which takes some minutes\n'
+    check('not proved', shell(run, B=path('bin')), (1, proves + 'rt check tuner\n'))
+    path('tree/good', b'')
+    check('proved and built first, input kept', shell(run, B=path('bin')) + (written(),), (0, proves, b'in'))
+    check('and not again', shell(run, B=path('bin')) + (written(),), (0, '', b'in'))
+    time.sleep(0.02)
+    path('tree/crates/changed', b'')
+    check('again after a change', shell(run, B=path('bin')), (0, proves))
+    path('tree/target/bin/tuner', b'#!/bin/sh\nprintf "<%s>" "$@"\nprintf 0 >&3\n')
+    check('arguments are handed on', shell('./tree/tuner "a b" "" "*" \'$T\' >"$O"') + (written(),), (0, '', b'<--status-fd=3><a b><><*><$T>'))
+    path('tree/target/bin/tuner', b'#!/bin/sh\nexit 0\n')
+    check('a program that does not say how it ended', shell(run, B=path('bin')), (1, 'tuner: the program did not say how it ended\n'))

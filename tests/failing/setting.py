@@ -1,9 +1,8 @@
 """What the cases share: a folder of their own with inputs and lists, ways to run ./tuner, and the tally."""
-import os, shutil, subprocess, sys, tempfile, threading, time
+import os, subprocess, sys, tempfile, threading, time
 
 ROOT = os.path.dirname(os.path.dirname(os.path.dirname(os.path.realpath(__file__))))
 ROOM = tempfile.mkdtemp(prefix='failures.')
-os.chmod(ROOM, 0o755)
 TUNER, PROGRAM = os.path.join(ROOT, 'tuner'), os.path.join(ROOT, 'target/bin/tuner')
 tally = {'passed': 0, 'failed': 0, 'not tried': 0}
 
@@ -37,7 +36,7 @@ def text(code):
 def check(name, found, expected):
     good = found == expected
     tally['passed' if good else 'failed'] += 1
-    status, told = found[0], found[1].strip().replace('\n', ' | ') or '-'
+    status, told = found[0], found[1].strip() or '-'
     print('%-6s %-46s %5s  %s' % ('ok' if good else 'FAILED', name, status, told if len(told) < 200 else '..' + told[-60:]))
     if not good:
         print('       expected', [x if len(str(x)) < 200 else '..' for x in expected], 'found', [x if len(str(x)) < 200 else '..' for x in found])
@@ -51,27 +50,12 @@ def shell(command, **words):
     return done.returncode, done.stderr.decode()
 
 
-def as_nobody(command):
-    """The command run as a user without rights; nothing where root cannot do so."""
-    if os.getuid():
-        return command
-    other = "setpriv --reuid=65534 --regid=65534 --clear-groups sh -c '%s'" % command
-    reaches = shutil.which('setpriv') and not shell(other.replace(command, 'test -x "$T" -a -r "$S"'))[0]
-    return other if reaches else None
-
-
-def not_tried(what, cases=1):
-    tally['not tried'] += cases
-    print('not tried: ' + what)
-
-
 def written():
     return content(path('out'))
 
 
-def start(stdin, stdout, *arguments, shell=()):
-    """./tuner, by its own first line or by the words that run a shell."""
-    return subprocess.Popen([*shell, TUNER, *arguments], stdin=stdin, stdout=stdout, stderr=subprocess.PIPE)
+def start(stdin, stdout, *arguments):
+    return subprocess.Popen([TUNER, *arguments], stdin=stdin, stdout=stdout, stderr=subprocess.PIPE)
 
 
 def fed(process, lines):
@@ -87,37 +71,17 @@ def fed(process, lines):
     return thread
 
 
-def until(found):
-    """What is found, waited for at most ten seconds; nothing where it does not come."""
-    for _ in range(1000):
-        try:
-            if found():
-                return found()
-        except (OSError, ValueError):
-            pass
+def program_of(process):
+    """The id of the program that the script runs."""
+    for _ in range(500):
+        for child in content('/proc/%d/task/%d/children' % (process.pid, process.pid)).decode().split():
+            try:
+                if os.path.samefile('/proc/%s/exe' % child, PROGRAM):
+                    return int(child)
+            except OSError:
+                pass
         time.sleep(0.01)
-    return None
-
-
-def children(number):
-    return [int(child) for child in content('/proc/%d/task/%d/children' % (number, number)).split()]
-
-
-def program_of(script):
-    """The number of the program that a script runs."""
-    def found():
-        return [child for child in children(script) if os.path.samefile('/proc/%d/exe' % child, PROGRAM)]
-    return (until(found) or sys.exit('tests/failures: the program was not started'))[0]
-
-
-def ended(number):
-    """Whether a process has ended, or does within ten seconds."""
-    def gone():
-        try:
-            return content('/proc/%d/stat' % number).rsplit(b')', 1)[1].split()[0] == b'Z'
-        except OSError:
-            return True
-    return bool(until(gone))
+    sys.exit('tests/failures: the program was not started')
 
 
 def finish(process, got=None):

@@ -1,6 +1,6 @@
 """Inputs and outputs: good ones, and those that fail, are closed or would block."""
 import errno, os, subprocess, time
-from failing.setting import LONG, LONG_REPLIES, REPLIES, SHORT, check, content, fed, finish, path, program_of, shell, start, text, written
+from failing.setting import LONG, LONG_REPLIES, REPLIES, SHORT, check, content, fed, finish, program_of, shell, start, text, written
 
 
 def plain():
@@ -8,19 +8,6 @@ def plain():
     check('a long input', shell('"$T" <"$L" >"$O"') + (written(),), (0, '', LONG_REPLIES))
     check('an empty input', shell('"$T" </dev/null >"$O"') + (written(),), (0, '', b''))
     check('an unfinished line', shell('printf turn | "$T" >"$O"') + (written(),), (0, '', b'no\t1\t1\n'))
-
-
-def by_turns():
-    """Each line is typed once the one before it is answered."""
-    process, got = start(subprocess.PIPE, subprocess.PIPE), b''
-    for line in SHORT.splitlines(True):
-        process.stdin.write(line)
-        process.stdin.flush()
-        got += process.stdout.readline()
-        while line == b'turn\n' and not got.endswith(b'ok\n'):
-            got += process.stdout.readline()
-    process.stdin.close()
-    check('a line answered before the next is typed', finish(process, got), (0, '', REPLIES))
 
 
 def outputs():
@@ -44,15 +31,6 @@ def inputs():
     check('a write-only input', shell('"$T" 0>"$O.in" >"$O"') + (written(),), (1, told % text(errno.EBADF), b''))
 
 
-def same_file():
-    path('both', SHORT)
-    told = 'tuner: the input is also the output, so that each answer would be read as a line\n'
-    check('one file for input and output, appended to', shell('timeout 9 "$T" <both >>both') + (content(path('both')),), (1, told, SHORT))
-    check('the same, written over', shell('timeout 9 "$T" <both 1<>both') + (content(path('both')),), (1, told, SHORT))
-    check('one empty file for input and output', shell('timeout 9 "$T" <"$O" >"$O"') + (written(),), (0, '', b''))
-    check('one device for input and output', shell('timeout 9 "$T" </dev/null >/dev/null'), (0, ''))
-
-
 def seconds(program):
     """The processor time that the program has used."""
     fields = content('/proc/%d/stat' % program).rsplit(b')', 1)[1].split()
@@ -64,7 +42,7 @@ def non_blocking():
     os.set_blocking(writer, False)
     process = start(subprocess.PIPE, writer)
     os.close(writer)
-    feeding, program, got, parts = fed(process, LONG), program_of(process.pid), b'', 0
+    feeding, program, got, parts = fed(process, LONG), program_of(process), b'', 0
     time.sleep(0.5)
     before = seconds(program)
     time.sleep(1)

@@ -1,7 +1,7 @@
 pub mod SignedNumbers
 pub mod CallAnswers
-pub mod WholeFiles
 pub mod RoomFilled
+pub mod WholeFiles
 pub mod Reported
 pub mod Retried
 pub mod ClosedOutputs

@@ -1,6 +1,6 @@
 -- Reads into the rest of a room: the room keeps its length, and all that is read lies in it. Assumes nothing.
 use mathlib.Core.List.{List}
-use mathlib.Core.Path.{◌≡◌, refl}
+use mathlib.Core.Path.{◌≡◌}
 use Prim.Native.Nat.{ℕ, ◌+◌, ◌-◌, ◌≤◌, ◌<◌}
 use native.Mathlib.Omega.{arith}
 use lib.ListN.{length, take, drop, length-drop}
@@ -9,13 +9,12 @@ use borrow.Rule.Slice.PartMut.{mid_of, put_mid, same_len_mid}
 use Rattle.io.specs.Counts.{IsPrefixLen}
 use Rattle.io.proofs.Counting.{prefix_len_of_le}
 use Rattle.descriptors.specs.Reads.{bytes_read, ReadWithin}
-use Rattle.descriptors.specs.Files.{filling_of, Filled}
+use Rattle.descriptors.specs.Files.{file_after, FileWithin}
 use Rattle.descriptors.specs.declared.Reading.{Reading}
-use Rattle.descriptors.specs.declared.Reading.TheVariants.{Bytes}
-use Rattle.descriptors.specs.declared.Filling.{Filling}
+use Rattle.descriptors.specs.declared.Reading.TheVariants.{Bytes, End, Again, Wait, Failed}
+use Rattle.descriptors.specs.declared.FileRead.{FileRead}
 use Rattle.descriptors.specs.declared.FileRead.TheVariants as File
 use Rattle.descriptors.proofs.CallAnswers.{bytes_within}
-use Rattle.descriptors.proofs.WholeFiles.{whole_files}
 
 -- a room that is not full has a byte left
 pub room_left : (room : List ℕ) (done : ℕ) → done < length room → 0 < length (mid_of done (length room - done) room)
@@ -31,15 +30,14 @@ module _ (room : List ℕ) (done : ℕ) (few : done ≤ length room) (part : Lis
   read_on reading within =
       omega (arith, few, kept, bytes_within part reading within, length-take-le (length room - done) (drop done room) (omega (arith, length-drop done room)))
 
--- a read without a byte has none beyond the room
-pub no_byte : {A : Type 0} (part : List ℕ) (last : Reading) → ReadWithin part last → bytes_read last ≡ 0 → (n : ℕ) → last ≡ Bytes n → A
-no_byte part last within none n e = absurd (omega (arith, (rw e at within).0, rw e at none))
-
--- how far a file is read, in a room that is full or by a last read without a byte
-pub filled : (room : List ℕ) (f : Filling) (last : Reading) (done : ℕ) → f ≡ filling_of last done → done ≤ length room → ((n : ℕ) → last ≡ Bytes n → done ≡ length room)
-    → Filled room f
-filled room f last done e few full = rw e (record { within = few; follows = refl; full = full })
+-- and so does a file, whatever the last read is
+pub file_within : (room : List ℕ) (done : ℕ) (last : Reading) → done ≤ length room → FileWithin room (file_after last done)
+file_within room done (Bytes n) few = tt
+file_within room done End few = few
+file_within room done Again few = tt
+file_within room done Wait few = tt
+file_within room done Failed few = tt
 
 -- the bytes of a file that is read are the start of the room
-pub file_counts : (room : List ℕ) (f : Filling) (n : ℕ) → f.read ≡ File.Bytes n → Filled room f → IsPrefixLen n room
-file_counts room f n e so = prefix_len_of_le n room (whole_files.read_so room f n so e).2
+pub file_counts : (room : List ℕ) (read : FileRead) (n : ℕ) → read ≡ File.Bytes n → FileWithin room read → IsPrefixLen n room
+file_counts room read n e within = prefix_len_of_le n room (rw e at within)

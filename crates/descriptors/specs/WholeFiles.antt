@@ -1,9 +1,7 @@
 -- A file is taken for read only where a read came to its end, with the bytes before it: one that has more than the room for it is told as
--- longer, and no failure is taken for an end. In a room into which a file was read, these are the bytes that lie there, and it is told as longer
--- only where they fill it.
-use Rattle.std.specs.Prelude.{◌≡◌, List, ℕ, ◌≤◌, length}
-use Rattle.descriptors.specs.Files.{file_after, Filled}
-use Rattle.descriptors.specs.declared.Filling.{Filling}
+-- longer, and no failure is taken for an end.
+use Rattle.std.specs.Prelude.{◌≡◌, ℕ}
+use Rattle.descriptors.specs.Files.{file_after}
 use Rattle.descriptors.specs.declared.Reading.{Reading}
 use Rattle.descriptors.specs.declared.Reading.TheVariants.{Bytes, End}
 use Rattle.descriptors.specs.declared.FileRead.TheVariants as File
@@ -12,5 +10,3 @@ pub record WholeFiles : Type 0 where
   pub read : (last : Reading) (done n : ℕ) → file_after last done ≡ File.Bytes n → (last ≡ End) × (n ≡ done)
   pub ended : (done : ℕ) → file_after End done ≡ File.Bytes done
   pub longer : (n done : ℕ) → file_after (Bytes n) done ≡ File.TooLong
-  pub read_so : (room : List ℕ) (f : Filling) (n : ℕ) → Filled room f → f.read ≡ File.Bytes n → (f.last ≡ End) × (n ≡ f.done) × (n ≤ length room)
-  pub longer_so : (room : List ℕ) (f : Filling) → Filled room f → f.read ≡ File.TooLong → f.done ≡ length room

@@ -1,13 +1,12 @@
 // Reading a file whole, by its name. What keeps it from being read is told on standard error with the name.
 ghost use Rattle.std.specs.Prelude.{◌≡◌, ◌<◌, length};
 ghost use Rattle.descriptors.specs.Reads.{ReadWithin};
-ghost use Rattle.descriptors.specs.Files.{file_after, filling_of, Filled};
+ghost use Rattle.descriptors.specs.Files.{file_after, FileWithin};
 
-use crate::errors::tell_failure;
 use crate::failures::{failure_of, is_interrupted};
 use crate::read::{bytes_read, read_named};
-use crate::tell::{tell, tell_number};
-use crate::{FileRead, Filling, Reading};
+use crate::{FileRead, Reading};
+use libc::STDERR_FILENO;
 
 // Opens a file to read, and answers a descriptor, or -1, after the reason is told.
 // A proved loop has to end, so it counts down from a number that no run uses up.
@@ -19,7 +18,7 @@ fn open(path: &[u8]) -> i32 {
             return input;
         }
         if !is_interrupted(failure_of(os::errno())) {
-            tell_failure(path);
+            os::fail(path);
             return -1;
         }
         turns -= 1;
@@ -48,41 +47,30 @@ fn file_after(last: Reading, done: usize) -> FileRead
     }
 }
 
-// How far reading a file came, by the same.
-fn filling_of(last: Reading, done: usize) -> Filling
-    ensures { result ≡ filling_of last done }
-{
-    Filling {
-        done,
-        last,
-        read: file_after(last, done),
-    }
-}
-
 // Reads an open file to its end, into the room from its start on. Where the room is full, one byte more is asked for.
-fn read_whole(input: i32, path: &[u8], room: &mut [u8]) -> Filling
-    ensures { Filled room.new result }
+fn read_whole(input: i32, path: &[u8], room: &mut [u8]) -> FileRead
+    ensures { FileWithin room.new result }
 {
     let mut done = 0;
     while done < room.len() {
         let reading = read_more(input, path, &mut room[done..]);
         let n = bytes_read(reading);
         if n == 0 {
-            return filling_of(reading, done);
+            return file_after(reading, done);
         }
         done += n;
     }
     let mut beyond = [0u8; 1];
     let last = read_more(input, path, &mut beyond);
-    filling_of(last, done)
+    file_after(last, done)
 }
 
 // Tells a file that is longer than the room for it.
 fn tell_length(path: &[u8], room: usize) {
-    tell(path);
-    tell(b": longer than ");
-    tell_number(room as u64);
-    tell(b" bytes\n");
+    io::write_all(STDERR_FILENO, path);
+    io::write_all(STDERR_FILENO, b": longer than ");
+    io::print_decimal(STDERR_FILENO, room as u64);
+    io::write_all(STDERR_FILENO, b" bytes\n");
 }
 
 // Tells what is not yet told of a file.
@@ -95,16 +83,15 @@ fn attend(read: FileRead, path: &[u8], room: usize) {
 }
 
 // Reads a file whole, into the room from its start on.
-pub fn read_file(path: &[u8], room: &mut [u8]) -> Filling
-    ensures { Filled room.new result }
+pub fn read_file(path: &[u8], room: &mut [u8]) -> FileRead
+    ensures { FileWithin room.new result }
 {
     let input = open(path);
     if input < 0 {
-        return filling_of(Reading::Failed, 0);
+        return FileRead::Failed;
     }
-    let filling = read_whole(input, path, room);
+    let read = read_whole(input, path, room);
     libc::close(input);
-    let read = filling.read;
     attend(read, path, room.len());
-    filling
+    read
 }

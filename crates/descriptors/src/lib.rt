@@ -4,12 +4,10 @@
 // its own, each with a contract that says it exactly.
 #![tactic(auto)]
 
-pub mod errors;
 mod failures;
 pub mod file;
 mod pause;
 pub mod read;
-pub mod tell;
 pub mod write;
 
 // Why a call failed, by its errno.
@@ -38,14 +36,6 @@ pub enum FileRead {
     Bytes(usize),
     TooLong,
     Failed,
-}
-
-// How far reading a file came: the number of its bytes that lie in the room, the last read, and what the file comes to by both.
-#[derive(Clone, Copy)]
-pub struct Filling {
-    pub done: usize,
-    pub last: Reading,
-    pub read: FileRead,
 }
 
 // What comes next for a text that is being written.

@@ -2,7 +2,6 @@
 ghost use Rattle.std.specs.Prelude.{◌≡◌};
 ghost use Rattle.descriptors.specs.Reads.{read_after, read_step, read_again_lem, bytes_read, ReadWithin};
 
-use crate::errors::tell_failure;
 use crate::failures::failure_of;
 use crate::pause::pause;
 use crate::{Failure, Reading};
@@ -65,7 +64,7 @@ fn attend(reading: Reading, name: &[u8]) {
         Reading::End => {}
         Reading::Again => {}
         Reading::Wait => pause(),
-        Reading::Failed => tell_failure(name),
+        Reading::Failed => os::fail(name),
     }
 }
 

@@ -4,11 +4,10 @@ ghost use Rattle.std.specs.Prelude.{◌≡◌, ◌-◌, ◌≤◌, length};
 ghost use Rattle.libc.specs.Io.{Moved};
 ghost use Rattle.descriptors.specs.Writes.{next_after, next_at, goes_on_lem, is_complete, write_start, write_step, Reached};
 
-use crate::errors::tell_failure;
 use crate::failures::failure_of;
 use crate::pause::pause;
-use crate::tell::tell;
 use crate::{Failure, Next, Writing};
+use libc::STDERR_FILENO;
 
 // A text before the first call: one without a byte needs none.
 fn write_start(length: usize) -> Writing
@@ -99,21 +98,23 @@ pub fn is_complete(next: Next) -> bool
     }
 }
 
-// Waits where a write would block.
-fn wait(next: Next) {
+// Waits where a write would block, and tells one that failed. A closed output is not told.
+fn attend(next: Next) {
     match next {
         Next::Go => {}
         Next::Wait => pause(),
         Next::Complete => {}
         Next::Closed => {}
-        Next::Failed => {}
-        Next::Stuck => {}
+        Next::Failed => os::fail(b"write"),
+        Next::Stuck => {
+            io::write_all(STDERR_FILENO, b"write: nothing was taken\n");
+        }
     }
 }
 
-// Writes a text, until all of it is reported written or a call fails.
+// Writes a text, until all of it is reported written or a call fails, which is told on standard error.
 // A proved loop has to end, so it counts down from a number that no run uses up.
-pub fn send_quietly(output: i32, text: &[u8]) -> Writing
+pub fn send(output: i32, text: &[u8]) -> Writing
     ensures { Reached (length text.now) result }
 {
     let mut state = write_start(text.len());
@@ -127,37 +128,8 @@ pub fn send_quietly(output: i32, text: &[u8]) -> Writing
         let got = libc::write(output, &text[from..]);
         state = write_step(text.len(), state, got, os::errno());
         let after = state.next;
-        wait(after);
+        attend(after);
         turns -= 1;
     }
     state
-}
-
-// Tells a write that failed. A closed output is not told.
-fn attend(next: Next) {
-    match next {
-        Next::Go => {}
-        Next::Wait => {}
-        Next::Complete => {}
-        Next::Closed => {}
-        Next::Failed => tell_failure(b"write"),
-        Next::Stuck => tell(b"write: nothing was taken\n"),
-    }
-}
-
-// The same, and a failure is told on standard error.
-pub fn send(output: i32, text: &[u8]) -> Writing
-    ensures { Reached (length text.now) result }
-{
-    let sent = send_quietly(output, text);
-    let next = sent.next;
-    attend(next);
-    sent
-}
-
-// Sends a number in decimal digits.
-pub fn send_number(output: i32, n: u64) {
-    let mut digits = [0u8; 20];
-    let k = io::decimal(n, &mut digits);
-    send(output, &digits[..k]);
 }

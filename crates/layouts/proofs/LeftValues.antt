@@ -29,7 +29,7 @@ use Rattle.layouts.specs.Layout.{filters_at, rsp0_at, rsp1_at, mm_cfg_at, match_
 use Rattle.layouts.specs.Settings.{word_at, set_from, head_or, nonempty, settings_of}
 use Rattle.layouts.specs.Writes.{last_global, ubox_value, offcore_writes, packet_writes, filter_writes, pebs_enable, writes, apply}
 use Rattle.layouts.specs.Read.{ours, no_counter, filter_word, control_fits, ubox_fits, pebs_fits, accepts, tell, cell, reading_of}
-use Rattle.layouts.specs.Told.{not_ours_lem, told, told_by, told_of_lem, told_at, told_plan}
+use Rattle.layouts.specs.Told.{not_ours, told, told_by, told_of, told_at, told_plan}
 use Rattle.layouts.specs.ExactReader.{FiltersShow, LeavesValues}
 use Rattle.layouts.specs.declared.FilterValues.{FilterValues}
 use Rattle.layouts.specs.declared.RegisterValues.{RegisterValues}
@@ -238,9 +238,9 @@ module _ (s : Setup) (v : RegisterValues) (within : Within s) (plan : LeavesValu
   left_told =
       map_tabulate (λ (c : CounterRead). told c.state) capacity (λ k. cell (pick (has s.usable k) (tell s v.filters (ours s v k)) NotOurs))
       ∙ tabulate_same capacity (λ k. told (pick (has s.usable k) (tell s v.filters (ours s v k)) NotOurs))
-      (λ k. pick (has s.usable k) (told_at (of_all told_of_lem plan.requests plan.places) k) not_ours_lem) (λ k l. go k (has s.usable k))
+      (λ k. pick (has s.usable k) (told_at (of_all told_of plan.requests plan.places) k) not_ours) (λ k l. go k (has s.usable k))
     where
-      go : (k : ℕ) (b : Bool) → told (pick b (tell s v.filters (ours s v k)) NotOurs) ≡ pick b (told_at (of_all told_of_lem plan.requests plan.places) k) not_ours_lem
+      go : (k : ℕ) (b : Bool) → told (pick b (tell s v.filters (ours s v k)) NotOurs) ≡ pick b (told_at (of_all told_of plan.requests plan.places) k) not_ours
       go k true =
           ap (λ (f : ℕ → ℕ). told (tell s v.filters (f k))) ours_left
           ∙ tell_plan d s plan.requests plan.places v.filters k plan_described plan.legal.allowed filters.1

@@ -26,7 +26,7 @@ use Rattle.plans.specs.Legal as plans
 use Rattle.layouts.specs.Layout.{event_word, enabled, enabled_on, code_of, mask_of, offcore_code, rsp_mask, rsp_word, packet_word}
 use Rattle.layouts.specs.Settings.{uses_of, word_at}
 use Rattle.layouts.specs.Read.{filter_of, tell}
-use Rattle.layouts.specs.Told.{Told, counting, told, told_of_lem, told_at}
+use Rattle.layouts.specs.Told.{Told, counting, told, told_of, told_at}
 use Rattle.layouts.specs.declared.FilterValues.{FilterValues}
 use Rattle.layouts.proofs.UsableSets.{on}
 use Rattle.layouts.proofs.ControlWords.{listed, word_parts}
@@ -95,52 +95,52 @@ Holds B rs ps v = Unit {0}
 module _ (u : Setup) (v : FilterValues) (k : ℕ) where
   tell_g : {rs : List Request} {ps : List Place} → All (Described (on G u)) rs → Each Allowed rs ps
       → All (λ (w : ℕ). w ≡ v.rsp0) (of_all (words_of 0) rs ps) → All (λ (w : ℕ). w ≡ v.rsp1) (of_all (words_of 1) rs ps)
-      → told (tell (on G u) v (word_at (of_all (uses_of (on G u)) rs ps) k)) ≡ told_at (of_all told_of_lem rs ps) k
-  unfolding of_all uses_of told_of_lem words_of first second
+      → told (tell (on G u) v (word_at (of_all (uses_of (on G u)) rs ps) k)) ≡ told_at (of_all told_of rs ps) k
+  unfolding of_all uses_of told_of words_of first second
   tell_g nil lists.none xs ys = tell_none (on G u) v k
   tell_g (cons (event {c = c} {m = m} h a) fs) (and {s = rs} {t = ps} (plans.event {k = j} b) es) xs ys =
-      tell_use (on G u) v k j (event_word (on G u) c m) (counting c m none []) (of_all (uses_of (on G u)) rs ps) (of_all told_of_lem rs ps) (tell_event G u v c m h) (tell_g fs es xs ys)
+      tell_use (on G u) v k j (event_word (on G u) c m) (counting c m none []) (of_all (uses_of (on G u)) rs ps) (of_all told_of rs ps) (tell_event G u v c m h) (tell_g fs es xs ys)
   tell_g (cons (packet g x y a) fs) (and (plans.packet b) es) xs ys = absurd (devices_differ g)
   tell_g (cons (offcore {w = w} g h t o c) fs) (and {s = rs} {t = ps} (plans.offcore {k = j} {i = zero} b l) es) (cons e xs) ys =
-      tell_use (on G u) v k j (rsp_word (on G u) 0) (counting offcore_code (rsp_mask 0) (some 0) (w ∷ [])) (of_all (uses_of (on G u)) rs ps) (of_all told_of_lem rs ps)
+      tell_use (on G u) v k j (rsp_word (on G u) 0) (counting offcore_code (rsp_mask 0) (some 0) (w ∷ [])) (of_all (uses_of (on G u)) rs ps) (of_all told_of rs ps)
       (tell_rsp0 u v ∙ ap (λ (x : ℕ). counting offcore_code (rsp_mask 0) (some 0) (x ∷ [])) (sym e)) (tell_g fs es xs ys)
   tell_g (cons (offcore {w = w} g h t o c) fs) (and {s = rs} {t = ps} (plans.offcore {k = j} {i = suc zero} b l) es) xs (cons e ys) =
-      tell_use (on G u) v k j (rsp_word (on G u) 1) (counting offcore_code (rsp_mask 1) (some 1) (w ∷ [])) (of_all (uses_of (on G u)) rs ps) (of_all told_of_lem rs ps)
+      tell_use (on G u) v k j (rsp_word (on G u) 1) (counting offcore_code (rsp_mask 1) (some 1) (w ∷ [])) (of_all (uses_of (on G u)) rs ps) (of_all told_of rs ps)
       (tell_rsp1 u v ∙ ap (λ (x : ℕ). counting offcore_code (rsp_mask 1) (some 1) (x ∷ [])) (sym e)) (tell_g fs es xs ys)
   tell_g (cons (offcore g h t o c) fs) (and (plans.offcore {i = suc (suc i)} b l) es) xs ys = absurd (omega arith)
   tell_g (cons (latency {t = t} g h o c d) fs) (and {s = rs} {t = ps} (plans.latency {j = i} {k = j} x y) es) (cons e xs) (cons q ys) =
       let second-told = counting offcore_code (rsp_mask 1) (some 1) (latency_word 1 t ∷ []) in
-      tell_use (on G u) v k i (rsp_word (on G u) 0) (counting offcore_code (rsp_mask 0) (some 0) (latency_word 0 t ∷ [])) ((j, rsp_word (on G u) 1) ∷ of_all (uses_of (on G u)) rs ps) ((j, second-told) ∷ of_all told_of_lem rs ps)
+      tell_use (on G u) v k i (rsp_word (on G u) 0) (counting offcore_code (rsp_mask 0) (some 0) (latency_word 0 t ∷ [])) ((j, rsp_word (on G u) 1) ∷ of_all (uses_of (on G u)) rs ps) ((j, second-told) ∷ of_all told_of rs ps)
       (tell_rsp0 u v ∙ ap (λ (x : ℕ). counting offcore_code (rsp_mask 0) (some 0) (x ∷ [])) (sym e))
-      (tell_use (on G u) v k j (rsp_word (on G u) 1) second-told (of_all (uses_of (on G u)) rs ps) (of_all told_of_lem rs ps)
+      (tell_use (on G u) v k j (rsp_word (on G u) 1) second-told (of_all (uses_of (on G u)) rs ps) (of_all told_of rs ps)
       (tell_rsp1 u v ∙ ap (λ (x : ℕ). counting offcore_code (rsp_mask 1) (some 1) (x ∷ [])) (sym q)) (tell_g fs es xs ys))
 
   tell_s : {rs : List Request} {ps : List Place} → All (Described (on S u)) rs → Each Allowed rs ps
       → All (λ (p : ℕ × ℕ). p ≡ (v.match_word, v.mask_word)) (flat_map packets_of rs)
-      → told (tell (on S u) v (word_at (of_all (uses_of (on S u)) rs ps) k)) ≡ told_at (of_all told_of_lem rs ps) k
-  unfolding of_all uses_of told_of_lem flat_map packets_of first second
+      → told (tell (on S u) v (word_at (of_all (uses_of (on S u)) rs ps) k)) ≡ told_at (of_all told_of rs ps) k
+  unfolding of_all uses_of told_of flat_map packets_of first second
   tell_s nil lists.none xs = tell_none (on S u) v k
   tell_s (cons (event {c = c} {m = m} h a) fs) (and {s = rs} {t = ps} (plans.event {k = j} b) es) xs =
-      tell_use (on S u) v k j (event_word (on S u) c m) (counting c m none []) (of_all (uses_of (on S u)) rs ps) (of_all told_of_lem rs ps) (tell_event S u v c m h) (tell_s fs es xs)
+      tell_use (on S u) v k j (event_word (on S u) c m) (counting c m none []) (of_all (uses_of (on S u)) rs ps) (of_all told_of rs ps) (tell_event S u v c m h) (tell_s fs es xs)
   tell_s (cons (packet {x = x} {y = y} g m l a) fs) (and {s = rs} {t = ps} (plans.packet {k = j} b) es) (cons e xs) =
-      tell_use (on S u) v k j (packet_word (on S u)) (counting 0 0 none (x ∷ y ∷ [])) (of_all (uses_of (on S u)) rs ps) (of_all told_of_lem rs ps)
+      tell_use (on S u) v k j (packet_word (on S u)) (counting 0 0 none (x ∷ y ∷ [])) (of_all (uses_of (on S u)) rs ps) (of_all told_of rs ps)
       (tell_packet u v ∙ ap (λ (p : ℕ × ℕ). counting 0 0 none (p.0 ∷ p.1 ∷ [])) (sym e)) (tell_s fs es xs)
   tell_s (cons (offcore g h t o c) fs) (and (plans.offcore b l) es) xs = absurd (devices_differ (sym g))
   tell_s (cons (latency g h o c d) fs) (and (plans.latency x y) es) xs = absurd (devices_differ (sym g))
 
   -- a device that has events only
   tell_bare : (d : Device) → (d ≡ G → ⊥) → (d ≡ S → ⊥) → {rs : List Request} {ps : List Place} → All (Described (on d u)) rs → Each Allowed rs ps
-      → told (tell (on d u) v (word_at (of_all (uses_of (on d u)) rs ps) k)) ≡ told_at (of_all told_of_lem rs ps) k
-  unfolding of_all uses_of told_of_lem first second
+      → told (tell (on d u) v (word_at (of_all (uses_of (on d u)) rs ps) k)) ≡ told_at (of_all told_of rs ps) k
+  unfolding of_all uses_of told_of first second
   tell_bare d no-g no-s nil lists.none = tell_none (on d u) v k
   tell_bare d no-g no-s (cons (event {c = c} {m = m} h a) fs) (and {s = rs} {t = ps} (plans.event {k = j} x) es) =
-      tell_use (on d u) v k j (event_word (on d u) c m) (counting c m none []) (of_all (uses_of (on d u)) rs ps) (of_all told_of_lem rs ps) (tell_event d u v c m h) (tell_bare d no-g no-s fs es)
+      tell_use (on d u) v k j (event_word (on d u) c m) (counting c m none []) (of_all (uses_of (on d u)) rs ps) (of_all told_of rs ps) (tell_event d u v c m h) (tell_bare d no-g no-s fs es)
   tell_bare d no-g no-s (cons (packet g m l a) fs) (and (plans.packet x) es) = absurd (no-s g)
   tell_bare d no-g no-s (cons (offcore g h t o c) fs) (and (plans.offcore x l) es) = absurd (no-g g)
   tell_bare d no-g no-s (cons (latency g h o c e) fs) (and (plans.latency x y) es) = absurd (no-g g)
 
 pub tell_plan : (d : Device) (u : Setup) (rs : List Request) (ps : List Place) (v : FilterValues) (k : ℕ) → All (Described (on d u)) rs → Each Allowed rs ps → Holds d rs ps v
-    → told (tell (on d u) v (word_at (of_all (uses_of (on d u)) rs ps) k)) ≡ told_at (of_all told_of_lem rs ps) k
+    → told (tell (on d u) v (word_at (of_all (uses_of (on d u)) rs ps) k)) ≡ told_at (of_all told_of rs ps) k
 tell_plan G u rs ps v k f es h = tell_g u v k f es h.0 h.1
 tell_plan S u rs ps v k f es h = tell_s u v k f es h
 tell_plan (C b) u rs ps v k f es h = tell_bare u v k (C b) (c_not_g b) (c_not_s b) f es

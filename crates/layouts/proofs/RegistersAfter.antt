@@ -93,10 +93,10 @@ pick_same true x = refl
 pick_same false x = refl
 
 module _ (s : CounterSet) (base step : ℕ) (values : List ℕ) where
-  after_row_lem : (b : Bool) (address v a x : ℕ) → after (row b address v) a x ≡ pick b (pick (eqb address a) v x) x
+  after_row : (b : Bool) (address v a x : ℕ) → after (row b address v) a x ≡ pick b (pick (eqb address a) v x) x
   unfolding after
-  after_row_lem true address v a x = refl
-  after_row_lem false address v a x = refl
+  after_row true address v a x = refl
+  after_row false address v a x = refl
 
   -- the value of counter k's register after the writes of a set
   pub rows_at : ((j k : ℕ) → base + step * j ≡ base + step * k → j ≡ k) → (n k x : ℕ) → k < n
@@ -104,7 +104,7 @@ module _ (s : CounterSet) (base step : ℕ) (values : List ℕ) where
   unfolding rows
   rows_at inj zero k x l = absurd (omega arith)
   rows_at inj (suc m) k x l =
-      rw (after_append (rows m s base step values) (row (has s m) (base + step * m) (get_or values m 0)) (base + step * k) x, after_row_lem)
+      rw (after_append (rows m s base step values) (row (has s m) (base + step * m) (get_or values m 0)) (base + step * k) x, after_row)
       (elim (ℕ_discrete m k) [
         | yes e ↦ rw (
           eq-eqb (base + step * m) (base + step * k) (ap (λ (j : ℕ). base + step * j) e),

@@ -10,12 +10,12 @@ use Rattle.plans.specs.Legal.{Usable}
 use Rattle.layouts.specs.Layout.{tabulate, layout_of, control_at}
 use Rattle.layouts.specs.Writes.{writes, apply}
 use Rattle.layouts.specs.Read.{read_of}
-use Rattle.layouts.specs.Told.{Told, off, not_ours_lem, told_by}
+use Rattle.layouts.specs.Told.{Told, off, not_ours, told_by}
 use Rattle.layouts.specs.RoundTrip.{values_in}
 
 -- every usable counter is told off, and every other one not ours
 unfoldable pub all_off : Setup → List Told
-all_off s = tabulate capacity (λ k. pick (has s.usable k) off not_ours_lem)
+all_off s = tabulate capacity (λ k. pick (has s.usable k) off not_ours)
 
 -- registers after the writes of the empty plan
 abbrev pub turned_off : Setup → (ℕ → ℕ) → ℕ → ℕ

@@ -15,7 +15,7 @@ use Rattle.plans.specs.Legal.{Legal}
 use Rattle.layouts.specs.Layout.{layout_of, control_at, rsp0_at, rsp1_at, mm_cfg_at, match_at, mask_at, ubox_at, pebs_at}
 use Rattle.layouts.specs.Writes.{writes, apply}
 use Rattle.layouts.specs.Read.{read_of}
-use Rattle.layouts.specs.Told.{told_by, not_ours_lem, told_plan}
+use Rattle.layouts.specs.Told.{told_by, not_ours, told_plan}
 use Rattle.layouts.specs.declared.FilterValues.{FilterValues}
 use Rattle.layouts.specs.declared.RegisterValues.{RegisterValues}
 use Rattle.layouts.specs.declared.Reading.{Reading}
@@ -46,7 +46,7 @@ pub record LeavesValues (s : Setup) (v : RegisterValues) : Type 0 where
 
 -- refused with the number, and nothing is told of any counter
 abbrev pub RefusedWith : ℕ → Reading → Type 0
-RefusedWith n reading = (answer_number reading.answer ≡ some n) × (told_by reading ≡ replicate capacity not_ours_lem)
+RefusedWith n reading = (answer_number reading.answer ≡ some n) × (told_by reading ≡ replicate capacity not_ours)
 
 pub record ExactReader : Type 0 where
   -- "the reader gives only 3 and 15, 3 first": 3 where open would refuse, with 3, 7 or 10

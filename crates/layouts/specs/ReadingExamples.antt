@@ -8,7 +8,7 @@ use Rattle.requests.specs.declared.Core.{Core}
 use Rattle.requests.specs.declared.Core.TheVariants.{NoCore, At}
 use Rattle.requests.specs.declared.Opening.{Opening}
 use Rattle.layouts.specs.Read.{read_of}
-use Rattle.layouts.specs.Told.{Told, not_ours_lem, off, counting, told_by}
+use Rattle.layouts.specs.Told.{Told, not_ours, off, counting, told_by}
 use Rattle.layouts.specs.Examples.{set}
 use Rattle.layouts.specs.declared.RegisterValues.{RegisterValues}
 use Rattle.layouts.specs.declared.Reading.{Reading}
@@ -94,7 +94,7 @@ acceptances =
     -- usable 14 on S: "An unusable counter is told as not ours", and its control value is not looked at
     ∷ record {
       given = given 83 14 0 (on_s (0xFFFF ∷ 0x400000 ∷ 0x400351 ∷ 0 ∷ []) 0x8000000000000000 0x0123456789ABCDEF 0x0000007F00000000 7);
-      tells = not_ours_lem ∷ counting 0x00 0x00 none (0x0123456789ABCDEF ∷ 0x0000007F00000000 ∷ []) ∷ counting 0x51 0x03 none [] ∷ off ∷ [];
+      tells = not_ours ∷ counting 0x00 0x00 none (0x0123456789ABCDEF ∷ 0x0000007F00000000 ∷ []) ∷ counting 0x51 0x03 none [] ∷ off ∷ [];
     }
     -- all off; "nor are MATCH and MASK where MM_CFG is 0"
     ∷ record { given = given 83 15 0 (on_s (0 ∷ 0 ∷ 0 ∷ 0 ∷ []) 0 0xFFFFFFFFFFFFFFFF 0xFFFFFFFFFFFFFFFF 0); tells = off ∷ off ∷ off ∷ off ∷ [] }
@@ -105,7 +105,7 @@ acceptances =
       given = given_box 7 63 (on_c (0x40180B ∷ 0x400019 ∷ 0 ∷ 0 ∷ 0 ∷ 0x40FF28 ∷ []) 0x23);
       tells = counting 0x0B 0x18 none [] ∷ counting 0x19 0x00 none [] ∷ off ∷ off ∷ off ∷ counting 0x28 0xFF none [] ∷ [];
     }
-    ∷ record { given = given_box 1 48 (on_c (0xFFFF ∷ 0 ∷ 0 ∷ 0 ∷ 0x40001F ∷ 0 ∷ []) 0x1F); tells = not_ours_lem ∷ not_ours_lem ∷ not_ours_lem ∷ not_ours_lem ∷ counting 0x1F 0x00 none [] ∷ off ∷ [] }
+    ∷ record { given = given_box 1 48 (on_c (0xFFFF ∷ 0 ∷ 0 ∷ 0 ∷ 0x40001F ∷ 0 ∷ []) 0x1F); tells = not_ours ∷ not_ours ∷ not_ours ∷ not_ours ∷ counting 0x1F 0x00 none [] ∷ off ∷ [] }
     -- order 7: the value of the U-Box where a freeze is asked, and any value where nothing is
     ∷ record { given = asked 83 1 NoCore 0x500052 1 0x90000000; tells = counting 0x52 0x00 none [] ∷ off ∷ off ∷ off ∷ [] }
     ∷ record { given = asked 83 0 NoCore 0x400052 1 0xFFFFFFFF; tells = counting 0x52 0x00 none [] ∷ off ∷ off ∷ off ∷ [] }
@@ -113,13 +113,13 @@ acceptances =
     -- order 12: C0/01 in counter 1 alone; CD/02 in counter 3, beside others and with another usable set; neither, with C0/00 in counter 1
     ∷ record { given = given 66 15 0 (on_b (0 ∷ 0x4301C0 ∷ 0 ∷ 0 ∷ []) 2 2); tells = off ∷ counting 0xC0 0x01 none [] ∷ off ∷ off ∷ [] }
     ∷ record { given = given 66 15 0 (on_b (0x43003C ∷ 0 ∷ 0 ∷ 0x4302CD ∷ []) 9 0x8000000000000008); tells = counting 0x3C 0x00 none [] ∷ off ∷ off ∷ counting 0xCD 0x02 none [] ∷ [] }
-    ∷ record { given = given 66 14 2 (on_b (0x4301C0 ∷ 0 ∷ 0 ∷ 0x4302CD ∷ []) 0x200000009 0x8000000000000008); tells = not_ours_lem ∷ off ∷ off ∷ counting 0xCD 0x02 none [] ∷ [] }
+    ∷ record { given = given 66 14 2 (on_b (0x4301C0 ∷ 0 ∷ 0 ∷ 0x4302CD ∷ []) 0x200000009 0x8000000000000008); tells = not_ours ∷ off ∷ off ∷ counting 0xCD 0x02 none [] ∷ [] }
     ∷ record { given = given 66 15 0 (on_b (0 ∷ 0x4300C0 ∷ 0 ∷ 0 ∷ []) 2 0); tells = off ∷ counting 0xC0 0x00 none [] ∷ off ∷ off ∷ [] }
     ∷ []
 
 -- what is told of an example; the counters past the device's are not ours
 unfoldable pub tells_of : AcceptedAs → List Told
-tells_of e = e.tells ++ replicate (capacity - length e.tells) not_ours_lem
+tells_of e = e.tells ++ replicate (capacity - length e.tells) not_ours
 
 -- what is given, and the number that refuses it
 pub record RefusedAs : Type 0 where

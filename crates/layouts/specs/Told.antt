@@ -25,8 +25,8 @@ pub record Told : Type 0 where
   pub words : List ℕ
 
 -- "not ours"
-abbrev pub not_ours_lem : Told
-not_ours_lem = record { ours = false; event = none; register = none; words = [] }
+abbrev pub not_ours : Told
+not_ours = record { ours = false; event = none; register = none; words = [] }
 
 -- "off"
 abbrev pub off : Told
@@ -38,7 +38,7 @@ counting c m i ws = record { ours = true; event = some (c, m); register = i; wor
 
 -- the values of each case
 unfoldable pub told : CounterState → Told
-told NotOurs = not_ours_lem
+told NotOurs = not_ours
 told Off = off
 told (Counts c m NoFilter) = counting c m none []
 told (Counts c m (Rsp i w)) = counting c m (some i) (w ∷ [])
@@ -49,11 +49,11 @@ unfoldable pub told_by : Reading → List Told
 told_by reading = map (λ (c : CounterRead). told c.state) reading.counters
 
 -- the counters of a placed request, with what is to be told of them
-unfoldable pub told_of_lem : Request → Place → List (ℕ × Told)
-told_of_lem (Event c m a) p = (first p, counting c m none []) ∷ []
-told_of_lem (Packet x y a) p = (first p, counting 0 0 none (x ∷ y ∷ [])) ∷ []
-told_of_lem (Offcore w a) p = (first p, counting offcore_code (rsp_mask (second p)) (some (second p)) (w ∷ [])) ∷ []
-told_of_lem (Latency t a b) p =
+unfoldable pub told_of : Request → Place → List (ℕ × Told)
+told_of (Event c m a) p = (first p, counting c m none []) ∷ []
+told_of (Packet x y a) p = (first p, counting 0 0 none (x ∷ y ∷ [])) ∷ []
+told_of (Offcore w a) p = (first p, counting offcore_code (rsp_mask (second p)) (some (second p)) (w ∷ [])) ∷ []
+told_of (Latency t a b) p =
     (first p, counting offcore_code (rsp_mask 0) (some 0) (latency_word 0 t ∷ [])) ∷ (second p, counting offcore_code (rsp_mask 1) (some 1) (latency_word 1 t ∷ [])) ∷ []
 
 -- counter k's, off where no request has it
@@ -63,4 +63,4 @@ told_at (x ∷ xs) k = pick (eqb x.0 k) x.1 (told_at xs k)
 
 -- a plan, counter by counter; "An unusable counter is told as not ours"
 unfoldable pub told_plan : Setup → List Request → List Place → List Told
-told_plan s rs ps = tabulate capacity (λ k. pick (has s.usable k) (told_at (of_all told_of_lem rs ps) k) not_ours_lem)
+told_plan s rs ps = tabulate capacity (λ k. pick (has s.usable k) (told_at (of_all told_of rs ps) k) not_ours)

@@ -1,22 +1,14 @@
 // What the look-up shows, and how single lines are answered, with two lists of names.
-use checks::refusals::number_of;
-use names::look_up::{look_up, look_up_answer};
+use names::look_up::look_up;
 use planner::open::new_session;
-use requests::Answer;
 use responder::line::answer_line;
 use sessions::Session;
 
-// A name, and the row that it finds, or the number of the refusal.
+// A name, and the row that it finds.
 fn show<'a>(name: &[u8], site: &'a [u8], house: &'a [u8]) {
     prints::text(name);
     prints::text(b": ");
-    match look_up_answer(name, site, house) {
-        Answer::Accepted => prints::text(look_up(name, site, house)),
-        Answer::Refused(why) => {
-            prints::text(b"no ");
-            prints::decimal(number_of(why));
-        }
-    }
+    prints::text(look_up(name, site, house));
     prints::text(b"\n");
 }
 

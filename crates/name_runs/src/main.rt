@@ -42,9 +42,7 @@ fn report(list: &[u8]) {
 // Holds the list of a file to the catalogues.
 fn hold(path: &[u8]) {
     let mut room = io::large_buffer();
-    let filling = read_file(path, &mut room);
-    let read = filling.read;
-    let FileRead::Bytes(n) = read else {
+    let FileRead::Bytes(n) = read_file(path, &mut room) else {
         return;
     };
     report(&room[..n]);

@@ -69,7 +69,7 @@ fn with_text(rows: Rows, above: &[u8], row: &[u8], setup: Setup) -> Rows {
             }
             rows
         }
-        RowRead::Bad(_) => rows,
+        RowRead::Bad => rows,
     }
 }
 
@@ -102,7 +102,7 @@ fn is_row_of(row: &[u8], device: Device, code: u8, mask: u8) -> bool {
             }
             said.mask == mask
         }
-        RowRead::Bad(_) => false,
+        RowRead::Bad => false,
     }
 }
 

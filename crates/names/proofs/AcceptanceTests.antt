@@ -3,19 +3,17 @@ use mathlib.Core.Path.{refl}
 use mathlib.Core.List.{flat_map}
 use Rattle.requests.specs.Choice.{both}
 use Rattle.requests.specs.Devices.{letter_of, devices, named, device_of}
-use Rattle.requests.specs.Refusals.{number_of, answer_number}
 use Rattle.grammar.specs.Examples.{tabbed, typed}
 use Rattle.grammar.specs.Fields.{fields, same_bytes_lem}
 use Rattle.grammar.specs.Letters.{lettered}
 use Rattle.grammar.specs.Numbers.{digit_of, number_from, hex_of}
 use Rattle.grammar.specs.Text.{bytes, tab, newline}
 use Rattle.names.specs.EventNames.{name_byte, name_bytes, longest_name, is_name}
-use Rattle.names.specs.IllFormed.{ill_formed_at, ill_formed_after, first_ill_formed}
 use Rattle.names.specs.Lists.{row_texts, is_ended, all_formed, well_formed, lists_formed}
-use Rattle.names.specs.LookUp.{top_row, row_named, look_up_answer}
+use Rattle.names.specs.LookUp.{top_row, row_named}
 use Rattle.names.specs.Named.{named_field}
 use Rattle.names.specs.Rows.{numbers_on, row_of, has_name}
-use Rattle.names.specs.Examples.{AnswerExamples, FieldExamples, FindExamples, IllFormedExamples, ListExamples, RowExamples}
+use Rattle.names.specs.Examples.{FieldExamples, FindExamples, ListExamples, RowExamples}
 
 pub rows_read : RowExamples
 unfolding both letter_of devices named device_of tabbed fields lettered digit_of number_from hex_of bytes tab name_byte name_bytes longest_name is_name numbers_on row_of
@@ -25,17 +23,9 @@ pub lists_tested : ListExamples
 unfolding flat_map both letter_of devices named device_of tabbed typed fields lettered digit_of number_from hex_of bytes tab newline name_byte name_bytes longest_name is_name row_texts is_ended all_formed well_formed numbers_on row_of
 lists_tested = refl
 
-pub first_told : IllFormedExamples
-unfolding flat_map both letter_of devices named device_of tabbed typed fields lettered digit_of number_from hex_of bytes tab newline name_byte name_bytes longest_name is_name ill_formed_at ill_formed_after first_ill_formed row_texts is_ended numbers_on row_of
-first_told = refl
-
 pub names_find : FindExamples
 unfolding flat_map both letter_of devices named device_of tabbed typed fields same_bytes_lem lettered digit_of number_from hex_of bytes tab newline name_byte name_bytes longest_name is_name row_texts is_ended all_formed well_formed lists_formed top_row row_named numbers_on row_of has_name
 names_find = refl
-
-pub finds_answered : AnswerExamples
-unfolding flat_map both letter_of devices named device_of number_of answer_number tabbed typed fields same_bytes_lem lettered digit_of number_from hex_of bytes tab newline name_byte name_bytes longest_name is_name row_texts is_ended all_formed well_formed lists_formed top_row row_named look_up_answer numbers_on row_of has_name
-finds_answered = refl
 
 pub fields_are : FieldExamples
 unfolding named_field

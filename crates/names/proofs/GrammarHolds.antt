@@ -10,7 +10,7 @@ use lib.ListN.{length, get_or}
 use borrow.Author.Tests.{eqb-true}
 use Rattle.requests.specs.declared.Device.{Device}
 use Rattle.requests.specs.declared.Device.TheVariants.{G, S, C, B}
-use Rattle.requests.specs.Choice.{pick}
+use Rattle.requests.specs.Choice.{both, pick}
 use Rattle.requests.specs.Devices.{letter_of, box_of}
 use Rattle.requests.proofs.DeviceNumbers.{numbers}
 use Rattle.requests.proofs.Tests.{both_parts, true_both}
@@ -28,8 +28,6 @@ use Rattle.names.specs.EventNames.{is_name}
 use Rattle.names.specs.Rows.{with_device, with_number, numbers_on, row_of, is_formed}
 use Rattle.names.specs.Lists.{row_texts, is_ended, all_formed, well_formed}
 use Rattle.names.specs.RowGrammar.{NamedRow, RowFits, row_line, list_text, AllFit, empty, more, IsList, RowGrammar, ListGrammar}
-use Rattle.names.specs.declared.Reason.{Reason}
-use Rattle.names.specs.declared.Reason.TheVariants.{FieldCount, Name, DeviceLetter, Code, Mask}
 use Rattle.names.specs.declared.Row.{Row}
 use Rattle.names.specs.declared.RowRead.{RowRead}
 use Rattle.names.specs.declared.RowRead.TheVariants.{Formed, Bad}
@@ -40,8 +38,8 @@ use Rattle.names.proofs.NameBytes.{names_tested}
 use Rattle.names.proofs.RowTexts.{rest, row_written, same_before}
 
 -- a bad row is not formed
-pub bad_not_formed : (x : Reason) (r : Row) → Bad x ≡ Formed r → ⊥
-bad_not_formed x r e = let z : ◌≡◌ {A = ℕ} 0 1 = cc in omega arith
+bad_not_formed : (r : Row) → Bad ≡ Formed r → ⊥
+bad_not_formed r e = let z : ◌≡◌ {A = ℕ} 0 1 = cc in omega arith
 
 -- a device's own letter, where it has no box
 own_letter : (d : Device) → box_of d ≡ 0 → lettered (letter_of d ∷ []) ≡ some d
@@ -85,17 +83,17 @@ letter_box f d e =
     ap box_of same ∙ no_box_by_letter d
 
 -- what a formed row tells of its fields
-number_only : (x : Number) (field : Reason) (next : ℕ → RowRead) (r : Row) → with_number x field next ≡ Formed r → (n : ℕ) × (x ≡ number.Value n) × (next n ≡ Formed r)
-number_only (number.Value n) field next r e = (n, refl, e)
-number_only number.Bad field next r e = absurd (bad_not_formed field r e)
+number_only : (x : Number) (next : ℕ → RowRead) (r : Row) → with_number x next ≡ Formed r → (n : ℕ) × (x ≡ number.Value n) × (next n ≡ Formed r)
+number_only (number.Value n) next r e = (n, refl, e)
+number_only number.Bad next r e = absurd (bad_not_formed r e)
 
 device_only : (x : Option Device) (next : Device → RowRead) (r : Row) → with_device x next ≡ Formed r → (d : Device) × (x ≡ some d) × (next d ≡ Formed r)
 device_only (some d) next r e = (d, refl, e)
-device_only none next r e = absurd (bad_not_formed DeviceLetter r e)
+device_only none next r e = absurd (bad_not_formed r e)
 
-pick_only : (b : Bool) (x : RowRead) (reason : Reason) (r : Row) → pick b x (Bad reason) ≡ Formed r → (b ≡ true) × (x ≡ Formed r)
-pick_only true x reason r e = (refl, e)
-pick_only false x reason r e = absurd (bad_not_formed reason r e)
+pick_only : (b : Bool) (x : RowRead) (r : Row) → pick b x Bad ≡ Formed r → (b ≡ true) × (x ≡ Formed r)
+pick_only true x r e = (refl, e)
+pick_only false x r e = absurd (bad_not_formed r e)
 
 formed_is : (d : Device) (code mask : ℕ) (r : Row) → Formed (record { device = d; code = code; mask = mask }) ≡ Formed r → r ≡ record { device = d; code = code; mask = mask }
 formed_is d code mask r e = cc
@@ -104,11 +102,11 @@ text_only : (t : List ℕ) (r : Row) → row_of t ≡ Formed r
     → RowFits (record { name = field_at t 0; row = r }) × (t ++ newline ∷ [] ≡ row_line (record { name = field_at t 0; row = r }))
 unfolding row_of numbers_on row_line
 text_only t r e =
-    let (count, others) = pick_only (eqb (length (fields t)) 4) _ FieldCount r e in
-    let (named, told) = pick_only (is_name (field_at t 0)) (with_device (lettered (field_at t 1)) (numbers_on t)) Name r others in
+    let (tests, told) = pick_only (both (eqb (length (fields t)) 4) (is_name (field_at t 0))) (with_device (lettered (field_at t 1)) (numbers_on t)) r e in
+    let (count, named) = both_parts (eqb (length (fields t)) 4) (is_name (field_at t 0)) tests in
     let (d, known, numbers) = device_only (lettered (field_at t 1)) (numbers_on t) r told in
-    let (code, coded, later) = number_only (hex_of 2 (field_at t 2)) Code _ r numbers in
-    let (mask, masked, last) = number_only (hex_of 2 (field_at t 3)) Mask _ r later in
+    let (code, coded, later) = number_only (hex_of 2 (field_at t 2)) _ r numbers in
+    let (mask, masked, last) = number_only (hex_of 2 (field_at t 3)) _ r later in
     let first = hex_only 2 (field_at t 2) code coded in
     let second = hex_only 2 (field_at t 3) mask masked in
     let parts : fields t ≡ field_at t 0 ∷ (letter_of d ∷ []) ∷ hex_text 2 code ∷ hex_text 2 mask ∷ [] =
@@ -141,7 +139,7 @@ list_formed list l =
 -- formed rows, joined, are the text of rows that fit
 some_row : (x : RowRead) → is_formed x ≡ true → (r : Row) × (x ≡ Formed r)
 some_row (Formed r) e = (r, refl)
-some_row (Bad x) e = absurd (true≢false (sym e))
+some_row Bad e = absurd (true≢false (sym e))
 
 rows_only : (ts : List (List ℕ)) → all_formed ts ≡ true → (ns : List NamedRow) × AllFit ns × (joined ts ≡ list_text ns)
 unfolding all_formed list_text

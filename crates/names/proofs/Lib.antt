@@ -4,15 +4,9 @@ pub mod NameLoops
 pub mod Newlines
 pub mod RowReading
 pub mod Searching
-pub mod IllFormedSteps
 pub mod Joined
 pub mod RowTexts
 pub mod GrammarHolds
-pub mod Occurrences
-pub mod SplitRows
-pub mod WrongRows
-pub mod IllFormedRows
 pub mod RowsFound
-pub mod LookUpAnswers
 pub mod Requesting
 pub mod NamedFields

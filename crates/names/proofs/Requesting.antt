@@ -27,7 +27,6 @@ use Rattle.names.specs.RowGrammar.{RowFits}
 use Rattle.names.specs.LookUp.{row_named, shown}
 use Rattle.names.specs.Named.{unlisted, foreign, request_for, request_named}
 use Rattle.names.specs.NamedRequests.{NamedRequests}
-use Rattle.names.specs.declared.Reason.TheVariants.{FieldCount}
 use Rattle.names.specs.declared.Row.{Row}
 use Rattle.names.specs.declared.RowRead.{RowRead}
 use Rattle.names.specs.declared.RowRead.TheVariants.{Formed, Bad}
@@ -75,11 +74,11 @@ unfolding request_refusal request_rows first_holding
 unlisted_refused s a = rw (unlisted_kind s.device a, unlisted_pair s.device a, first_holding)
 
 -- the row of an empty text
-no_text : row_of [] ≡ Bad FieldCount
-unfolding row_of fields
+no_text : row_of [] ≡ Bad
+unfolding row_of fields both
 no_text = refl
 
-no_row_request : (d : Device) (a : CounterSet) → request_for (Bad FieldCount) d a ≡ unlisted a
+no_row_request : (d : Device) (a : CounterSet) → request_for Bad d a ≡ unlisted a
 unfolding request_for
 no_row_request d a = refl
 
@@ -95,7 +94,7 @@ named_requests =
 -- the numbers of the request fit the fields of a line
 read_fits : (x : RowRead) (t : List ℕ) → row_of t ≡ x → (d : Device) (id : ℕ) (a : CounterSet) → Decimal id → Decimal a.0 → AddFits id (request_for x d a)
 unfolding request_for unlisted foreign
-read_fits (Bad x) t e d id a h k = (h, omega arith, omega arith, k)
+read_fits Bad t e d id a h k = (h, omega arith, omega arith, k)
 read_fits (Formed r) t e d id a h k = go (eqb (letter_of r.device) (letter_of d)) (packets_on d) (row_grammar.only t r e).0
   where
     go : (here packets : Bool) → RowFits (record { name = field_at t 0; row = r })

@@ -8,6 +8,7 @@ use native.Mathlib.Omega.{arith}
 use lib.ListN.{length}
 use borrow.Author.Tests.{eq-eqb, ne_eqb}
 use Rattle.requests.specs.declared.Device.{Device}
+use Rattle.requests.specs.Choice.{both}
 use Rattle.grammar.specs.Fields.{fields, field_at}
 use Rattle.grammar.specs.Letters.{lettered}
 use Rattle.grammar.specs.Numbers.{hex_of}
@@ -15,26 +16,25 @@ use Rattle.grammar.specs.declared.Number.TheVariants.{Value}
 use Rattle.grammar.proofs.Hexes.{hex_only}
 use Rattle.names.specs.EventNames.{is_name}
 use Rattle.names.specs.Rows.{numbers_on, row_of}
-use Rattle.names.specs.declared.Reason.TheVariants.{FieldCount, Name, DeviceLetter}
 use Rattle.names.specs.declared.RowRead.TheVariants.{Bad}
 
 -- the tests from the left
 module _ (t : List ℕ) where
-  pub row_fields : ¬ (length (fields t) ≡ 4) → row_of t ≡ Bad FieldCount
-  unfolding row_of
+  pub row_fields : ¬ (length (fields t) ≡ 4) → row_of t ≡ Bad
+  unfolding row_of both
   row_fields n = rw (ne_eqb (length (fields t)) 4 n)
 
   module _ (four : length (fields t) ≡ 4) where
-    pub row_nameless : is_name (field_at t 0) ≡ false → row_of t ≡ Bad Name
-    unfolding row_of
+    pub row_nameless : is_name (field_at t 0) ≡ false → row_of t ≡ Bad
+    unfolding row_of both
     row_nameless n = rw (eq-eqb (length (fields t)) 4 four, n)
 
-    pub row_deviceless : is_name (field_at t 0) ≡ true → lettered (field_at t 1) ≡ none → row_of t ≡ Bad DeviceLetter
-    unfolding row_of
+    pub row_deviceless : is_name (field_at t 0) ≡ true → lettered (field_at t 1) ≡ none → row_of t ≡ Bad
+    unfolding row_of both
     row_deviceless named d = rw (eq-eqb (length (fields t)) 4 four, named, d)
 
     pub row_numbers : is_name (field_at t 0) ≡ true → (device : Device) → lettered (field_at t 1) ≡ some device → row_of t ≡ numbers_on t device
-    unfolding row_of
+    unfolding row_of both
     row_numbers named device d = rw (eq-eqb (length (fields t)) 4 four, named, d)
 
 -- two digits fit a byte

@@ -210,7 +210,7 @@ module _ (n : NameLists) (name : List ℕ) where
       (λ h. top_formed name (row_texts n.house) row (list_formed n.house house) h.1)
       (found_at row e)
 
-  pub empty : shown (row_named n name) ≡ [] → row_named n name ≡ none
+  empty : shown (row_named n name) ≡ [] → row_named n name ≡ none
   empty e = go (row_named n name) refl e
     where
       go : (o : Option (List ℕ)) → row_named n name ≡ o → shown o ≡ [] → o ≡ none

@@ -51,7 +51,7 @@ list_open list e = rw e
 
 -- a formed row has a byte
 pub formed_some : (t : List ℕ) → is_formed (row_of t) ≡ true → 0 < length t
-unfolding row_of fields
+unfolding row_of both fields
 formed_some [] f = absurd (true≢false (sym f))
 formed_some (b ∷ t) f = omega arith
 

@@ -2,15 +2,12 @@
 pub mod EventNames
 pub mod Rows
 pub mod Lists
-pub mod IllFormed
 pub mod LookUp
 pub mod Named
 -- Statements: what is claimed of it.
 pub mod NamesTested
 pub mod RowGrammar
-pub mod IllFormedRows
 pub mod RowsFound
-pub mod LookUpAnswers
 pub mod NamedRequests
 pub mod NamedFields
 pub mod Examples

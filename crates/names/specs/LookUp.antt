@@ -1,9 +1,6 @@
 -- Document 02, order 9: "the row that was found ... the site's list first, and within a list the topmost row".
 use Rattle.std.specs.Prelude.{true, false, List, [], ◌∷◌, ℕ}
 use Rattle.std.proofs.Math.Option.{Option, none, some}
-use Rattle.requests.specs.declared.Answer.{Answer}
-use Rattle.requests.specs.declared.Answer.TheVariants.{Accepted, Refused}
-use Rattle.requests.specs.declared.Refusal.TheVariants.{NotInGrammar, NotListed}
 use Rattle.names.specs.Rows.{has_name}
 use Rattle.names.specs.Lists.{NameLists, row_texts, lists_formed}
 
@@ -29,12 +26,3 @@ row_named n name =
 abbrev pub shown : Option (List ℕ) → List ℕ
 shown none = []
 shown (some t) = t
-
--- the answer to what was found: "a name in neither list gets 8"
-abbrev pub found_answer : Option (List ℕ) → Answer
-found_answer (some t) = Accepted
-found_answer none = Refused NotListed
-
--- the answer of a look-up: "An ill-formed row in either list is refused with 1 before any search"
-unfoldable pub look_up_answer : NameLists → List ℕ → Answer
-look_up_answer n name = elim (lists_formed n) [ true ↦ found_answer (row_named n name) | false ↦ Refused NotInGrammar ]

@@ -23,7 +23,7 @@ foreign d a = pick (packets_on d) (Offcore 0 a) (Packet 0 0 a)
 -- the request of a row on a device
 unfoldable pub request_for : RowRead → Device → CounterSet → Request
 request_for (Formed r) d a = pick (eqb (letter_of r.device) (letter_of d)) (Event r.code r.mask a) (foreign d a)
-request_for (Bad x) d a = unlisted a
+request_for Bad d a = unlisted a
 
 -- the request of a name on a device
 unfoldable pub request_named : NameLists → List ℕ → Device → CounterSet → Request

@@ -2,46 +2,41 @@
 use Rattle.std.specs.Prelude.{Bool, true, false, List, ℕ, length, eqb}
 use Rattle.std.proofs.Math.Option.{Option, none, some}
 use Rattle.requests.specs.declared.Device.{Device}
-use Rattle.requests.specs.Choice.{pick}
+use Rattle.requests.specs.Choice.{both, pick}
 use Rattle.grammar.specs.Fields.{fields, field_at, same_bytes_lem}
 use Rattle.grammar.specs.Letters.{lettered}
 use Rattle.grammar.specs.Numbers.{hex_of}
 use Rattle.grammar.specs.declared.Number.{Number}
 use Rattle.grammar.specs.declared.Number.TheVariants as number
 use Rattle.names.specs.EventNames.{is_name}
-use Rattle.names.specs.declared.Reason.{Reason}
-use Rattle.names.specs.declared.Reason.TheVariants.{FieldCount, Name, DeviceLetter, Code, Mask}
 use Rattle.names.specs.declared.RowRead.{RowRead}
 use Rattle.names.specs.declared.RowRead.TheVariants.{Formed, Bad}
 
 -- what follows a device
 abbrev pub with_device : Option Device → (Device → RowRead) → RowRead
 with_device (some d) next = next d
-with_device none next = Bad DeviceLetter
+with_device none next = Bad
 
--- what follows a number, or the field's fault
-abbrev pub with_number : Number → Reason → (ℕ → RowRead) → RowRead
-with_number (number.Value n) field next = next n
-with_number number.Bad field next = Bad field
+-- what follows a number
+abbrev pub with_number : Number → (ℕ → RowRead) → RowRead
+with_number (number.Value n) next = next n
+with_number number.Bad next = Bad
 
 -- what a row for a device says
 unfoldable pub numbers_on : List ℕ → Device → RowRead
 numbers_on t device =
-    with_number (hex_of 2 (field_at t 2)) Code (λ code.
-    with_number (hex_of 2 (field_at t 3)) Mask (λ mask.
+    with_number (hex_of 2 (field_at t 2)) (λ code.
+    with_number (hex_of 2 (field_at t 3)) (λ mask.
     Formed (record { device = device; code = code; mask = mask })))
 
--- what a row is: four fields, the first a name, the second a letter that `open` knows; where it is none, the first that fails
+-- what a row is: four fields, the first a name, the second a letter that `open` knows
 unfoldable pub row_of : List ℕ → RowRead
-row_of t =
-    pick (eqb (length (fields t)) 4)
-    (pick (is_name (field_at t 0)) (with_device (lettered (field_at t 1)) (numbers_on t)) (Bad Name))
-    (Bad FieldCount)
+row_of t = pick (both (eqb (length (fields t)) 4) (is_name (field_at t 0))) (with_device (lettered (field_at t 1)) (numbers_on t)) Bad
 
 -- whether it is one
 abbrev pub is_formed : RowRead → Bool
 is_formed (Formed r) = true
-is_formed (Bad x) = false
+is_formed Bad = false
 
 -- whether a row has the name, "compared byte for byte"
 unfoldable pub has_name : List ℕ → List ℕ → Bool

@@ -19,7 +19,7 @@ pub fn row_end(list: &[u8], at: usize) -> usize
 }
 
 // Whether a list is empty or ends with a newline.
-pub fn is_ended(list: &[u8]) -> bool
+fn is_ended(list: &[u8]) -> bool
     ensures { result ≡ is_ended list.now }
 {
     let n = list.len();

@@ -1,11 +1,10 @@
 // The row of a name, as a part of the list that it stands in.
 ghost use Rattle.std.specs.Prelude.{◌≡◌, true};
 ghost use Rattle.names.specs.Lists.{NameLists, row_texts, lists_formed};
-ghost use Rattle.names.specs.LookUp.{shown, top_row, row_named, look_up_answer};
+ghost use Rattle.names.specs.LookUp.{shown, top_row, row_named};
 
 use crate::lists::{lists_formed, row_end};
 use crate::rows::has_name;
-use requests::{Answer, Refusal};
 
 // The topmost row of the name in one list, without its newline; an empty part where there is none.
 fn row_in<'a>(name: &[u8], list: &'a [u8]) -> &'a [u8]
@@ -34,23 +33,8 @@ pub fn row_named<'a>(name: &[u8], site: &'a [u8], house: &'a [u8]) -> &'a [u8]
     row_in(name, house)
 }
 
-// The answer of a look-up: accepted where a row has the name; refused with 1 where a list is ill-formed, and with 8 where
-// neither has such a row.
-pub fn look_up_answer<'a>(name: &[u8], site: &'a [u8], house: &'a [u8]) -> Answer
-    ensures { result ≡ look_up_answer (record { site = site.entry.now; house = house.now }) name.now }
-{
-    if !lists_formed(site, house) {
-        return Answer::Refused(Refusal::NotInGrammar);
-    }
-    let row = row_named(name, site, house);
-    if 0 < row.len() {
-        return Answer::Accepted;
-    }
-    Answer::Refused(Refusal::NotListed)
-}
-
-// The row of a name, without its newline: the topmost of the site's list, or else of the house's. An empty part where the answer
-// of the look-up is a refusal.
+// The row of a name, without its newline: the topmost of the site's list, or else of the house's. An empty part where neither
+// has one, or where one of them is ill-formed.
 pub fn look_up<'a>(name: &[u8], site: &'a [u8], house: &'a [u8]) -> &'a [u8]
     ensures { result.now ≡ shown (row_named (record { site = site.entry.now; house = house.now }) name.now) }
 {

@@ -50,7 +50,7 @@ fn request_for(read: RowRead, device: Device, allowed: CounterSet) -> Request
             }
             foreign(device, allowed)
         }
-        RowRead::Bad(_) => unlisted(allowed),
+        RowRead::Bad => unlisted(allowed),
     }
 }
 

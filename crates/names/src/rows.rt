@@ -4,7 +4,7 @@ ghost use Rattle.scanner.specs.Parts.{Parted};
 ghost use Rattle.names.specs.Rows.{numbers_on, row_of, has_name, is_formed};
 
 use crate::event_names::is_name;
-use crate::{Reason, Row, RowRead};
+use crate::{Row, RowRead};
 use grammar::{Lettered, Number};
 use requests::Device;
 use scanner::Parts;
@@ -20,10 +20,10 @@ fn numbers_on(row: &[u8], parts: Parts, device: Device) -> RowRead
     ensures { result ≡ numbers_on row.now device }
 {
     let Number::Value(code) = number_at(row, parts, 2, 2) else {
-        return RowRead::Bad(Reason::Code);
+        return RowRead::Bad;
     };
     let Number::Value(mask) = number_at(row, parts, 3, 2) else {
-        return RowRead::Bad(Reason::Mask);
+        return RowRead::Bad;
     };
     RowRead::Formed(Row {
         device,
@@ -32,21 +32,21 @@ fn numbers_on(row: &[u8], parts: Parts, device: Device) -> RowRead
     })
 }
 
-// What a row says, without its newline, or what is wrong with it, from the left.
+// What a row says, without its newline.
 pub fn row_of(row: &[u8]) -> RowRead
     ensures { result ≡ row_of row.now }
 {
     let parts = parts_of(row);
     if parts.count != ROW_FIELDS {
-        return RowRead::Bad(Reason::FieldCount);
+        return RowRead::Bad;
     }
     if is_name(field(row, parts, 0)) {
         let Lettered::Known(device) = device_at(row, parts, 1) else {
-            return RowRead::Bad(Reason::DeviceLetter);
+            return RowRead::Bad;
         };
         return numbers_on(row, parts, device);
     }
-    RowRead::Bad(Reason::Name)
+    RowRead::Bad
 }
 
 // Whether a row is formed.
@@ -55,7 +55,7 @@ pub fn is_formed(row: &[u8]) -> bool
 {
     match row_of(row) {
         RowRead::Formed(_) => true,
-        RowRead::Bad(_) => false,
+        RowRead::Bad => false,
     }
 }
 

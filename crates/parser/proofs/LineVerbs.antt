@@ -39,8 +39,8 @@ pub data Verb (line : List ℕ) : Type 0 where
   named : has_verb (text_of line) "named" ≡ true → Verb line
   other : has_verb (text_of line) "named" ≡ false → Verb line
 
-pub verb_of_lem : (line : List ℕ) → Verb line
-verb_of_lem line = go (has_verb (text_of line) "named") refl
+pub verb_of : (line : List ℕ) → Verb line
+verb_of line = go (has_verb (text_of line) "named") refl
   where
     go : (b : Bool) → has_verb (text_of line) "named" ≡ b → Verb line
     go true e = named e

@@ -47,7 +47,7 @@ use Rattle.parser.specs.ParseWith.{add_named, named_line, record_with, parse_tex
 use Rattle.parser.specs.ParsedLines.{ByName, number_for, ParsedLines}
 use Rattle.parser.proofs.NamedReading.{Says, said_text, said_verb, said_line, TextOf, named_written, Read, says, faulty, named_read}
 use Rattle.parser.proofs.VerbsRead.{asked_named, add_formed, add_refused}
-use Rattle.parser.proofs.LineVerbs.{other_line, fault_long, named_not_record, Verb, named, other, verb_of_lem}
+use Rattle.parser.proofs.LineVerbs.{other_line, fault_long, named_not_record, Verb, named, other, verb_of}
 
 -- ---- a request by name
 
@@ -105,7 +105,7 @@ module _ (line : List ℕ) (verb : has_verb (text_of line) "named" ≡ true) whe
 -- ---- every line
 
 pub other_lines : (line : List ℕ) → Outside line → (k : ℕ) × ((n : NameLists) (d : Device) → parse_line_with n d line ≡ Fault k)
-other_lines line out = go (verb_of_lem line)
+other_lines line out = go (verb_of line)
   where
     read : has_verb (text_of line) "named" ≡ true → Read (text_of line) (is_closed line) → (k : ℕ) × ((n : NameLists) (d : Device) → parse_line_with n d line ≡ Fault k)
     read verb (says id a shut s) = absurd (out.no_name id (field_at (text_of line) 2) a (is_named line id a s shut))
@@ -142,7 +142,7 @@ named_asks n d line id a is r e = go (lists_formed n) refl
 
 module _ (n : NameLists) (d : Device) (line : List ℕ) (r : Record) where
   record_lines : IsText line r → parse_line_with n d line ≡ Line r
-  record_lines is = go (verb_of_lem line)
+  record_lines is = go (verb_of line)
     where
       go : Verb line → parse_line_with n d line ≡ Line r
       go (named e) = absurd (fault_not_line 0 r (sym (named_not_record line e) ∙ grammar.parsed line r is))
@@ -150,7 +150,7 @@ module _ (n : NameLists) (d : Device) (line : List ℕ) (r : Record) where
 
   -- a line that asks for a record is its text
   only : parse_line_with n d line ≡ Line r → IsText line r
-  only e = go (verb_of_lem line)
+  only e = go (verb_of line)
     where
       read : has_verb (text_of line) "named" ≡ true → Read (text_of line) (is_closed line) → IsText line r
       read verb (says id a shut s) = absurd (named_asks n d line id a (is_named line id a s shut) r e)
@@ -174,7 +174,7 @@ module _ (n : NameLists) (d : Device) (line : List ℕ) (id : ℕ) (r : Request)
       go false w = absurd (fault_not_named 0 id r (sym (by_name n d line i (field_at (text_of line) 2) a is ∙ add_refused n d (field_at (text_of line) 2) i a w) ∙ e))
 
   only_named : parse_line_with n d line ≡ Named id r → ByName n d line id r
-  only_named e = go (verb_of_lem line)
+  only_named e = go (verb_of line)
     where
       read : has_verb (text_of line) "named" ≡ true → Read (text_of line) (is_closed line) → ByName n d line id r
       read verb (says i a shut s) = asks_by_name i a (is_named line i a s shut) e
@@ -203,7 +203,7 @@ module _ (n : NameLists) (d e : Device) where
       go false w = same (add_refused n d name id a w ∙ sym (add_refused n e name id a w))
 
   pub on_both : (line : List ℕ) → Both (parse_line_with n d line) (parse_line_with n e line)
-  on_both line = go (verb_of_lem line)
+  on_both line = go (verb_of line)
     where
       read : has_verb (text_of line) "named" ≡ true → Read (text_of line) (is_closed line) → Both (parse_line_with n d line) (parse_line_with n e line)
       read verb (says id a shut s) =

@@ -10,15 +10,20 @@ use Rattle.streams.specs.declared.Feed.{Feed}
 use Rattle.streams.proofs.Cut.{state_append, text_append}
 use Rattle.descriptors.specs.Writes.{Reached}
 use Rattle.descriptors.specs.declared.Reading.{Reading}
+use Rattle.descriptors.specs.declared.Reading.TheVariants.{End}
 use Rattle.descriptors.specs.declared.Writing.{Writing}
+use Rattle.descriptors.specs.declared.Next.{Next}
 use Rattle.descriptors.specs.declared.Next.TheVariants.{Complete}
 use Rattle.descriptors.proofs.Reported.{known}
-use Rattle.relay.specs.Answers.{answered_of}
+use Rattle.relay.specs.Endings.{last_of, ending_of}
 use Rattle.relay.specs.Passing.{Passing}
 use Rattle.relay.specs.Relayed.{Relaying, Relayed, Transcribed}
 use Rattle.relay.specs.declared.Passed.{Passed}
 use Rattle.relay.specs.declared.Run.{Run}
 use Rattle.relay.specs.declared.Answered.{Answered}
+use Rattle.relay.specs.declared.Ending.{Ending}
+use Rattle.relay.specs.declared.Ending.TheVariants as Ending
+use Rattle.relay.proofs.Completed.{completed, written}
 
 -- two counts in 64 bits, added
 both_counted : (a b s t : ℕ) → s ≡ a % 2 ^ 64 → t ≡ b % 2 ^ 64 → (s + t) % 2 ^ 64 ≡ (a + b) % 2 ^ 64
@@ -101,6 +106,7 @@ module _ {n : NameLists} {run : Run} (so : Relaying n run) where
       record {
         input = so.input;
         state = so.state;
+        ended = λ e. absurd (short e);
         received = λ e. absurd (short e);
         replies = λ e. absurd (short e);
       }
@@ -110,24 +116,27 @@ module _ {n : NameLists} {run : Run} (so : Relaying n run) where
   whole = rw so.state (length-append (feed_text n feed_start so.input) (end_text (feed_state n feed_start so.input)))
 
   -- one whose end is answered
-  pub relayed : run.next ≡ Complete → (reply : LineReply) (w : Writing) (total : ℕ) → reply ≡ in_array (end_reply run.feed) → Reached reply.length w
-      → total ≡ (run.sent + w.done) % 2 ^ 64
-      → Relayed n (record { feed = run.feed; received = run.received; sent = total; last = run.last; next = w.next })
-  relayed full reply w total answer reached e =
+  pub relayed : run.next ≡ Complete → (reply : LineReply) (w : Writing) (total : ℕ) (next : Next) → reply ≡ in_array (end_reply run.feed) → Reached reply.length w
+      → total ≡ (run.sent + w.done) % 2 ^ 64 → next ≡ last_of run.last w.next
+      → Relayed n (record { feed = run.feed; received = run.received; sent = total; last = run.last; next = next })
+  relayed full reply w total next answer reached e f =
+      let both : next ≡ Complete → (run.last ≡ End) × (w.next ≡ Complete) = λ c. completed.only run.last w.next (ap ending_of (sym f ∙ c)) in
       record {
         input = so.input;
         state = so.state;
+        ended = λ c. (both c).0;
         received = λ c. so.received full;
         replies =
             λ c. e
-            ∙ ap (λ (d : ℕ). (run.sent + d) % 2 ^ 64) ((known (end_reached run.feed reply w answer reached)).complete c)
+            ∙ ap (λ (d : ℕ). (run.sent + d) % 2 ^ 64) ((known (end_reached run.feed reply w answer reached)).complete (both c).1)
             ∙ ap (λ (x : ℕ). (x + length (end_text run.feed)) % 2 ^ 64) (so.replies full)
             ∙ mod-add-mod (length (feed_text n feed_start so.input)) (2 ^ 64) (length (end_text run.feed))
             ∙ ap (λ (x : ℕ). x % 2 ^ 64) (sym whole);
       }
 
 -- what is told of it
-pub transcribed : {n : NameLists} {run : Run} → Relayed n run → (r : Answered) → r ≡ answered_of run → r.next ≡ Complete → Transcribed n r
-transcribed {run = run} so r e c =
-    let full : run.next ≡ Complete = sym (ap (λ (x : Answered). x.next) e) ∙ c in
-    rw e (record { input = so.input; received = so.received full; replies = so.replies full })
+pub transcribed : {n : NameLists} {run : Run} → Relayed n run → (ending : Ending) → ending ≡ ending_of run.next → ending ≡ Ending.Complete
+    → Transcribed n (record { ending = ending; received = run.received; sent = run.sent })
+transcribed {run = run} so ending e c =
+    let full = written run.next (sym e ∙ c) in
+    record { input = so.input; received = so.received full; replies = so.replies full }

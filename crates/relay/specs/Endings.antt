@@ -7,19 +7,9 @@ use Rattle.descriptors.specs.declared.Next.TheVariants as Next
 use Rattle.relay.specs.declared.Ending.{Ending}
 use Rattle.relay.specs.declared.Ending.TheVariants.{Complete, Closed, Failed, Refused}
 
--- what the last write leaves where the input was not read to its end: not even a complete one is all
-abbrev pub unended : Next → Next
-unended Next.Go = Next.Go
-unended Next.Wait = Next.Wait
-unended Next.Complete = Next.Failed
-unended Next.Closed = Next.Closed
-unended Next.Failed = Next.Failed
-unended Next.Stuck = Next.Stuck
-
--- the last read and the last write: at the end of the input what the write leaves, before it what broke the run off, and a failure where the
--- read failed
+-- the last read and the last write: only an input that was read to its end leaves what the write leaves
 abbrev pub last_of : Reading → Next → Next
-last_of (Reading.Bytes n) next = unended next
+last_of (Reading.Bytes n) next = Next.Failed
 last_of Reading.End next = next
 last_of Reading.Again next = Next.Failed
 last_of Reading.Wait next = Next.Failed

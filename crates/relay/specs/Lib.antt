@@ -2,5 +2,4 @@ pub mod Passing
 pub mod Relayed
 pub mod Fitness
 pub mod Endings
-pub mod Answers
 pub mod Completed

@@ -1,32 +1,16 @@
 // How the lines of an input ended.
 ghost use Rattle.std.specs.Prelude.{◌≡◌};
 ghost use Rattle.relay.specs.Endings.{last_of, ending_of, status_of};
-ghost use Rattle.relay.specs.Endings.{unended as Endings·unended};
 
 use crate::Ending;
 use descriptors::{Next, Reading};
 
-// What a write leaves after which the input was not read to its end: not even a complete one is all.
-fn unended(next: Next) -> Next
-    ensures { result ≡ Endings·unended next }
-{
-    match next {
-        Next::Go => Next::Go,
-        Next::Wait => Next::Wait,
-        Next::Complete => Next::Failed,
-        Next::Closed => Next::Closed,
-        Next::Failed => Next::Failed,
-        Next::Stuck => Next::Stuck,
-    }
-}
-
-// What the last read and the last write come to: all is complete only where the input was read to its end, and a read that failed is
-// a failure whatever was written after it.
+// What the last read and the last write come to: all is complete only where the input was read to its end.
 pub fn last_of(reading: Reading, next: Next) -> Next
     ensures { result ≡ last_of reading next }
 {
     match reading {
-        Reading::Bytes(_) => unended(next),
+        Reading::Bytes(_) => Next::Failed,
         Reading::End => next,
         Reading::Again => Next::Failed,
         Reading::Wait => Next::Failed,

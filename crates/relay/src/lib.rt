@@ -4,14 +4,12 @@
 #![tactic(auto)]
 
 mod endings;
-mod ill_formed;
 
 ghost use Rattle.std.specs.Prelude.{◌≡◌, ◌≤◌, length};
 ghost use Rattle.names.specs.Lists.{NameLists};
 ghost use Rattle.descriptors.specs.Writes.{Reached};
 ghost use Rattle.relay.specs.Passing.{Passing};
 ghost use Rattle.relay.specs.Relayed.{Relaying, Relayed, Transcribed};
-ghost use Rattle.relay.specs.Answers.{answered_of, unread_as, Follows};
 ghost use Rattle.relay.specs.Fitness.{Unfit};
 ghost use Rattle.answers.specs.ReplyLength.{reply_room};
 
@@ -21,7 +19,6 @@ use descriptors::write::{is_complete, send};
 use descriptors::{FileRead, Next, Reading, Writing};
 pub use endings::status_of;
 use endings::{ending_of, last_of};
-use ill_formed::tell_ill_formed;
 use lines::stream::{end, feed, start};
 use responder::replies::REPLY_ROOM;
 use std::num::wrapping_add_usize;
@@ -56,42 +53,22 @@ pub enum Ending {
     Refused,
 }
 
-// What became of an input: how its lines ended, the number of bytes reported read, the number reported written, the last read, and
-// what the last write left to do.
+// What became of an input: how its lines ended, the number of bytes reported read, and the number reported written.
 #[derive(Clone, Copy)]
 pub struct Answered {
     pub ending: Ending,
     pub received: usize,
     pub sent: usize,
-    pub last: Reading,
-    pub next: Next,
 }
 
 // An input that is not read.
-fn unread(ending: Ending) -> Answered
-    ensures { result ≡ unread_as ending }
+fn refused() -> Answered
+    ensures { result ≡ record { ending = Ending.Refused; received = 0; sent = 0 } }
 {
     Answered {
-        ending,
+        ending: Ending::Refused,
         received: 0,
         sent: 0,
-        last: Reading::Again,
-        next: Next::Go,
-    }
-}
-
-// An input whose lines left this run.
-fn answered_of(run: Run) -> Answered
-    ensures { result ≡ answered_of run }
-{
-    let last = run.last;
-    let next = run.next;
-    Answered {
-        ending: ending_of(last_of(last, next)),
-        received: run.received,
-        sent: run.sent,
-        last,
-        next,
     }
 }
 
@@ -213,14 +190,14 @@ fn answer_all<'a>(
     let reply = end(feed);
     let text = reply.text;
     let written = send_first(output, &text, reply.length);
-    let last = run.last;
     let ended = written.next;
+    let last = run.last;
     Run {
         feed,
         received: run.received,
         sent: wrapping_add_usize(run.sent, written.done),
         last,
-        next: ended,
+        next: last_of(last, ended),
     }
 }
 
@@ -237,40 +214,26 @@ pub fn answer_input<'a>(
 ) -> Answered
     ensures refused { Unfit block.old out.old → result.ending ≡ Ending.Refused }
     ensures fit { result.ending ≡ Ending.Refused → Unfit block.old out.old }
-    ensures follows { Follows result }
     ensures unused { Unfit block.old out.old → (block.new ≡ block.old) × (out.new ≡ out.old) }
-    ensures written { result.next ≡ Next.Complete → Transcribed (record { site = site.entry.now; house = house.now }) result }
+    ensures complete { result.ending ≡ Ending.Complete → Transcribed (record { site = site.entry.now; house = house.now }) result }
 {
     if block.len() == 0 {
-        return unread(Ending::Refused);
+        return refused();
     }
     if out.len() < REPLY_ROOM {
-        return unread(Ending::Refused);
+        return refused();
     }
-    answered_of(answer_all(input, output, site, house, block, out))
-}
-
-// Answers the lines that come from the input, with names from two lists, the first ill-formed row of each told before, with its file.
-fn answer_lists<'a>(
-    input: i32,
-    output: i32,
-    site_path: &[u8],
-    house_path: &[u8],
-    site: &'a [u8],
-    house: &'a [u8],
-    block: &mut [u8],
-    out: &mut [u8],
-) -> Answered
-    ensures fit { result.ending ≡ Ending.Refused → Unfit block.old out.old }
-    ensures follows { Follows result }
-{
-    tell_ill_formed(site_path, site);
-    tell_ill_formed(house_path, house);
-    answer_input(input, output, site, house, block, out)
+    let run = answer_all(input, output, site, house, block, out);
+    let next = run.next;
+    Answered {
+        ending: ending_of(next),
+        received: run.received,
+        sent: run.sent,
+    }
 }
 
 // Answers the lines that come from the input, with names from the lists of two files, once both are read: what keeps one from being
-// read is told on standard error, and then no line is answered. So is the first ill-formed row of each, which changes no answer.
+// read is told on standard error, and then no line is answered.
 pub fn answer_with_files(
     input: i32,
     output: i32,
@@ -278,30 +241,18 @@ pub fn answer_with_files(
     house_path: &[u8],
     block: &mut [u8],
     out: &mut [u8],
-) -> Answered
-    ensures fit { result.ending ≡ Ending.Refused → Unfit block.old out.old }
-    ensures follows { Follows result }
+) -> Ending
+    ensures { result ≡ Ending.Refused → Unfit block.old out.old }
 {
     let mut site = io::large_buffer();
-    let site_filling = read_file(site_path, &mut site);
-    let site_read = site_filling.read;
-    let FileRead::Bytes(n) = site_read else {
-        return unread(Ending::Failed);
+    let FileRead::Bytes(n) = read_file(site_path, &mut site) else {
+        return Ending::Failed;
     };
     let mut house = io::large_buffer();
-    let house_filling = read_file(house_path, &mut house);
-    let house_read = house_filling.read;
-    let FileRead::Bytes(m) = house_read else {
-        return unread(Ending::Failed);
+    let FileRead::Bytes(m) = read_file(house_path, &mut house) else {
+        return Ending::Failed;
     };
-    answer_lists(
-        input,
-        output,
-        site_path,
-        house_path,
-        &site[..n],
-        &house[..m],
-        block,
-        out,
-    )
+    let answered = answer_input(input, output, &site[..n], &house[..m], block, out);
+    let ending = answered.ending;
+    ending
 }

@@ -5,10 +5,7 @@
 
 ghost use Rattle.std.specs.Prelude.{◌≤◌};
 
-use descriptors::errors::tell_failure;
-use descriptors::tell::tell;
-use descriptors::write::send_number;
-use libc::{STDIN_FILENO, STDOUT_FILENO};
+use libc::{STDERR_FILENO, STDIN_FILENO, STDOUT_FILENO};
 use relay::{answer_input, answer_with_files, status_of};
 use scanner::words::same;
 
@@ -35,25 +32,23 @@ fn answer_with_lists(first: usize, block: &mut [u8], out: &mut [u8]) -> u64
     let mut site = io::buffer();
     let n = os::arg(first, &mut site);
     if os::errno() != 0 {
-        tell_failure(&site);
+        os::fail(&site);
         return UNREAD;
     }
     let mut house = io::buffer();
     let m = os::arg(first + 1, &mut house);
     if os::errno() != 0 {
-        tell_failure(&house);
+        os::fail(&house);
         return UNREAD;
     }
-    let answered = answer_with_files(
+    status_of(answer_with_files(
         STDIN_FILENO,
         STDOUT_FILENO,
         &site[..n],
         &house[..m],
         block,
         out,
-    );
-    let ending = answered.ending;
-    status_of(ending)
+    ))
 }
 
 // Answers the lines, with the lists that the arguments from `first` on name, none or two, and gives the status.
@@ -71,13 +66,13 @@ fn answer_with_arguments(first: usize) -> u64
     if count == first + 2 {
         return answer_with_lists(first, &mut block, &mut out);
     }
-    tell(b"usage: tuner [SITE HOUSE]\n");
+    io::write_all(STDERR_FILENO, b"usage: tuner [SITE HOUSE]\n");
     MISUSED
 }
 
 fn main() {
     if is_status_asked() {
-        send_number(STATUS_FILENO, answer_with_arguments(2));
+        io::print_decimal(STATUS_FILENO, answer_with_arguments(2));
     } else {
         answer_with_arguments(1);
     }

@@ -7,12 +7,12 @@ use Rattle.name_runs.proofs.hold.Tie as tie
 array-share-prefix-room : tie.Need-array-share-prefix-room
 array-share-prefix-room c =
     let r = c.before.before.before.before.read-file in
-    (file_counts r.new.1.0 r.result _ c.before.read.given.1 r.ensures).0
+    (file_counts r.new.1.0 _ _ c.before.n.given.1 r.ensures).0
 
 slice-aggregate-report : tie.Need-slice-aggregate-report
 slice-aggregate-report c =
     let r = c.before.before.before.before.before.read-file in
-    (file_counts r.new.1.0 r.result _ c.before.before.read.given.1 r.ensures).1
+    (file_counts r.new.1.0 _ _ c.before.before.n.given.1 r.ensures).1
 
 pub hold-spec : {M : Type 1} → statement M
 hold-spec =

@@ -40,6 +40,9 @@ send-first-requires c κs = rw c.before.before.end.ensures (array_holds _)
 wrapping-add-usize-requires : tie.Need-wrapping-add-usize-requires
 wrapping-add-usize-requires c κs = search rules
 
+last-of-requires : tie.Need-last-of-requires
+last-of-requires c κs = search rules
+
 same-length-3 : tie.Need-same-length-3
 same-length-3 c = search rules
 
@@ -48,10 +51,10 @@ same-length-4 c = search rules
 
 returns-2 : tie.Need-returns-2
 returns-2 c =
-    let b = c.before.before.before.before.before.before.before.before.before.before.before.before.answer-blocks in
-    let i = c.before.before.before.before.before.before in
+    let b = c.before.before.before.before.before.before.before.before.before.before.before.before.before.answer-blocks in
+    let i = c.before.before.before.before.before.before.before in
     let full : b.result.next ≡ Complete = complete_is b.result.next (sym i.before.is-complete.ensures ∙ not-false i.before.is-complete.result i.if1.false) in
-    relayed b.ensures full c.before.before.before.before.end.result c.before.send-first.result _ c.before.before.before.before.end.ensures c.before.send-first.ensures c.wrapping-add-usize.ensures
+    relayed b.ensures full c.before.before.before.before.before.end.result c.before.before.send-first.result _ _ c.before.before.before.before.before.end.ensures c.before.before.send-first.ensures c.before.wrapping-add-usize.ensures c.last_of.ensures
 
 pub answer-all-spec : {M : Type 1} → statement M
 answer-all-spec =
@@ -66,6 +69,7 @@ answer-all-spec =
     slice-aggregate-send-first
     send-first-requires
     wrapping-add-usize-requires
+    last-of-requires
     same-length-3
     same-length-4
     returns-2)

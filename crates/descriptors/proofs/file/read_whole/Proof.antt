@@ -1,11 +1,11 @@
 -- What is read so far lies in the room, which keeps its length, and each turn reads at least one byte more.
-use mathlib.Core.Path.{◌≡◌, refl, sym, ◌∙◌}
+use mathlib.Core.Path.{◌≡◌, refl, ◌∙◌}
 use Prim.Native.Nat.{◌+◌, ◌-◌, ◌≤◌}
 use native.Mathlib.Omega.{arith}
 use borrow.Author.Rules.{rules}
 use lib.Dec.{lit<}
 use lib.ListN.{length}
-use Rattle.descriptors.proofs.RoomFilled.{room_left, room_kept, read_on, no_byte, filled}
+use Rattle.descriptors.proofs.RoomFilled.{room_left, room_kept, read_on, file_within}
 use Rattle.descriptors.proofs.file.read_whole.Statement.{statement}
 use Rattle.descriptors.proofs.file.read_whole.Tie as tie
 
@@ -36,8 +36,7 @@ returns : tie.Need-returns invariant-loop decreases-loop
 returns c =
     let r = c.before.before.before.before.before.read_more in
     let l = c.before.before.before.before.before.before.before.before.loop in
-    let none = sym c.before.before.bytes_read.ensures ∙ c.before.if1.true in
-    filled _ _ r.result l.done c.filling-of.ensures (rw (room_kept l.room l.done l.invariant.0 r.new.1.1.0 r.auto.1.1.0) l.invariant.0) (no_byte r.new.1.1.0 r.result r.ensures none)
+    rw c.file-after.ensures (file_within _ l.done r.result (rw (room_kept l.room l.done l.invariant.0 r.new.1.1.0 r.auto.1.1.0) l.invariant.0))
 
 -- this turn's bytes lie in the room too
 more : (c : tie.Else1 invariant-loop decreases-loop)
@@ -67,7 +66,7 @@ loop-again c =
 returns-2 : tie.Need-returns-2 invariant-loop decreases-loop
 returns-2 c =
     let l = c.before.before.before.before.before.loop in
-    filled _ _ c.before.before.read-more2.result l.done c.filling-of2.ensures l.invariant.0 (λ n e. omega (arith, l.invariant.0))
+    rw c.file-after2.ensures (file_within _ l.done c.before.before.read-more2.result l.invariant.0)
 
 pub read-whole-spec : {M : Type 1} → statement M
 read-whole-spec =

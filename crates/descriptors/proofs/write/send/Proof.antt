@@ -9,8 +9,8 @@ use borrow.Author.Tests.{not-false}
 use Rattle.descriptors.specs.Writes.{Reached, begun, called}
 use Rattle.descriptors.proofs.CallAnswers.{moved_of_rest}
 use Rattle.descriptors.proofs.Reported.{known}
-use Rattle.descriptors.proofs.write.send_quietly.Statement.{statement}
-use Rattle.descriptors.proofs.write.send_quietly.Tie as tie
+use Rattle.descriptors.proofs.write.send.Statement.{statement}
+use Rattle.descriptors.proofs.write.send.Tie as tie
 
 abbrev invariant-loop : tie.invariant-loop
 invariant-loop output text state₀ turns₀ state turns = Reached (length text) state
@@ -51,8 +51,8 @@ write-step-requires c κs =
     let a = c.before.before.before.before.before.before.before.before.before.args in
     ((known l.invariant).within, moved_of_rest a.text.now l.state.done c.before.write.result (record { sfits = c.before.write.type-inv }) c.before.write.ensures)
 
-wait-requires : tie.Need-wait-requires invariant-loop decreases-loop
-wait-requires c κs = search rules
+attend-requires : tie.Need-attend-requires invariant-loop decreases-loop
+attend-requires c κs = search rules
 
 sub-turns : tie.Need-overflow-sub-turns invariant-loop decreases-loop
 sub-turns c = omega arith
@@ -72,8 +72,8 @@ loop-again c =
 returns-2 : tie.Need-returns-2 invariant-loop decreases-loop
 returns-2 c = c.before.loop.invariant
 
-pub send-quietly-spec : {M : Type 1} → statement M
-send-quietly-spec =
+pub send-spec : {M : Type 1} → statement M
+send-spec =
     tie.close
     (tie.spec
     invariant-loop
@@ -88,7 +88,7 @@ send-quietly-spec =
     write-requires
     errno-requires
     write-step-requires
-    wait-requires
+    attend-requires
     sub-turns
     loop-less
     loop-again
