@@ -13,14 +13,17 @@ use mir.ValLaws.{to_z-of_z}
 use lib.ListN.{length, take, drop, length-drop}
 use lib.Seq.{take_all}
 use borrow.Author.Tests.{eqb-false, ne_eqb}
-use Rattle.libc.specs.Io.{Moved}
+use Rattle.descriptors.specs.Io.{Moved}
 use Rattle.descriptors.specs.Failures.{failure_of, interrupted, would_block, closed_pipe}
 use Rattle.descriptors.specs.Reads.{read_after, read_step, read_again_lem, bytes_read, ReadWithin}
-use Rattle.descriptors.specs.Writes.{next_after, next_at, write_step}
+use Rattle.std.specs.Prelude.{Result, Ok, Err, MatchResult}
+use Rattle.std.specs.Io.{WritesAtMost}
+use Rattle.descriptors.specs.Writes.{next_after, next_at, write_step, goes_on_lem, Reached, called}
 use Rattle.descriptors.specs.declared.Failure.{Failure}
 use Rattle.descriptors.specs.declared.Failure.TheVariants.{Interrupted, WouldBlock, Closed, Other}
 use Rattle.descriptors.specs.declared.Reading.{Reading}
 use Rattle.descriptors.specs.declared.Reading.TheVariants.{Bytes, End, Again, Wait, Failed}
+use Rattle.descriptors.specs.declared.Writing.{Writing}
 use Rattle.descriptors.proofs.SignedNumbers.{number_is, not_over, not_below, cast_is, cast_fits}
 
 -- why a call failed, read from errno's bits
@@ -106,3 +109,18 @@ read_within block (negsuc k) error moved last = go (failure_of error) last
     go WouldBlock e = absurd (true≢false e)
     go Closed e = tt
     go Other e = tt
+
+-- what a call that returned this moved is within what it was handed
+pub moved_at_most : {E : Type 0} (r : Result ℕ E) (rest : List ℕ) (z : ℤ) → WritesAtMost r rest → MatchResult r (λ n. Moved n z) (λ e. z ≡ negsuc 0)
+    → Moved (length rest) z
+moved_at_most (Ok n) rest (pos k) few moved = omega (arith, few, moved)
+moved_at_most (Ok n) rest (negsuc k) few moved = moved
+moved_at_most (Err e) rest (pos k) few failed = let z : ◌≡◌ {A = ℕ} 0 1 = cc in absurd (omega arith)
+moved_at_most (Err e) rest (negsuc k) few failed = let z : negsuc k ≡ negsuc 0 = failed in cc
+
+-- so a call of write on the bytes of a text that are not yet done reaches the next state
+pub write_reached : {E : Type 0} (text : List ℕ) (w v : Writing) (r : Result ℕ E) (z error : ℤ) → Reached (length text) w → goes_on_lem w.next ≡ true → SFits w64 z
+    → WritesAtMost r (take (length text - w.done) (drop w.done text)) → MatchResult r (λ n. Moved n z) (λ e. z ≡ negsuc 0)
+    → v ≡ write_step (length text) w.done (to_z w64 (of_z w64 z)) error → Reached (length text) v
+write_reached text w v r z error reached goes fits few moved e =
+    rw e (called reached goes (to_z w64 (of_z w64 z)) error (moved_of_rest text w.done z fits (moved_at_most r (take (length text - w.done) (drop w.done text)) z few moved)))

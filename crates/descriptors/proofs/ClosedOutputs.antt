@@ -1,6 +1,6 @@
 -- Which write ends a text quietly, by the cases of errno. Assumes nothing.
 use mathlib.Core.Bool.{Bool, true, false}
-use mathlib.Core.Path.{◌≡◌, refl, sym, ap, ◌∙◌}
+use mathlib.Core.Path.{◌≡◌, refl, ap}
 use Prim.Native.Nat.{ℕ, ◌+◌}
 use native.Mathlib.Omega.{arith}
 use lib.Dec.{ltb, eqb}
@@ -10,9 +10,7 @@ use Rattle.descriptors.specs.Failures.{failure_of, interrupted, would_block, clo
 use Rattle.descriptors.specs.Writes.{next_after, next_at, write_step}
 use Rattle.descriptors.specs.ClosedOutputs.{ClosedOutputs}
 use Rattle.descriptors.specs.declared.Failure.{Failure}
-use Rattle.descriptors.specs.declared.Failure.TheVariants as Failure
-use Rattle.descriptors.specs.declared.Next.{Next}
-use Rattle.descriptors.specs.declared.Next.TheVariants.{Go, Wait, Complete, Closed, Failed, Stuck}
+use Rattle.descriptors.specs.declared.Next.TheVariants.{Go, Complete, Closed, Stuck}
 
 -- a call that was answered is none
 moved : (n before after : ℕ) → next_at n before after ≡ Closed → ⊥

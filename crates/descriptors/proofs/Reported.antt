@@ -6,14 +6,13 @@ use native.Mathlib.Omega.{arith}
 use lib.Dec.{ltb, eqb}
 use lib.IntN.{ℤ, pos, negsuc}
 use borrow.Author.Tests.{eqb-true, eqb-false, ltb-true, ltb-false}
-use Rattle.libc.specs.Io.{Moved}
+use Rattle.descriptors.specs.Io.{Moved}
 use Rattle.descriptors.specs.Failures.{failure_of}
 use Rattle.descriptors.specs.Writes.{write_start, next_after, next_at, write_step, goes_on_lem, is_complete, Reached, begun, called}
 use Rattle.descriptors.specs.Reports.{Reports}
 use Rattle.descriptors.specs.declared.Failure.{Failure}
 use Rattle.descriptors.specs.declared.Failure.TheVariants.{Interrupted, WouldBlock, Closed, Other}
 use Rattle.descriptors.specs.declared.Next.{Next}
-use Rattle.descriptors.specs.declared.Next.TheVariants as Next
 use Rattle.descriptors.specs.declared.Next.TheVariants.{Go, Wait, Complete, Failed, Stuck}
 use Rattle.descriptors.specs.declared.Writing.{Writing}
 

@@ -3,17 +3,13 @@ use mathlib.Core.List.{List}
 use mathlib.Core.Path.{◌≡◌}
 use Prim.Native.Nat.{ℕ, ◌+◌, ◌-◌, ◌≤◌, ◌<◌}
 use native.Mathlib.Omega.{arith}
-use lib.ListN.{length, take, drop, length-drop}
+use lib.ListN.{length, drop, length-drop}
 use lib.Seq.{length-take-le}
 use borrow.Rule.Slice.PartMut.{mid_of, put_mid, same_len_mid}
-use Rattle.io.specs.Counts.{IsPrefixLen}
-use Rattle.io.proofs.Counting.{prefix_len_of_le}
 use Rattle.descriptors.specs.Reads.{bytes_read, ReadWithin}
 use Rattle.descriptors.specs.Files.{file_after, FileWithin}
 use Rattle.descriptors.specs.declared.Reading.{Reading}
 use Rattle.descriptors.specs.declared.Reading.TheVariants.{Bytes, End, Again, Wait, Failed}
-use Rattle.descriptors.specs.declared.FileRead.{FileRead}
-use Rattle.descriptors.specs.declared.FileRead.TheVariants as File
 use Rattle.descriptors.proofs.CallAnswers.{bytes_within}
 
 -- a room that is not full has a byte left
@@ -37,7 +33,3 @@ file_within room done End few = few
 file_within room done Again few = tt
 file_within room done Wait few = tt
 file_within room done Failed few = tt
-
--- the bytes of a file that is read are the start of the room
-pub file_counts : (room : List ℕ) (read : FileRead) (n : ℕ) → read ≡ File.Bytes n → FileWithin room read → IsPrefixLen n room
-file_counts room read n e within = prefix_len_of_le n room (rw e at within)

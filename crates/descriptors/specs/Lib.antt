@@ -1,3 +1,4 @@
+pub mod Io
 pub mod Failures
 pub mod Reads
 pub mod Files

@@ -1,9 +1,8 @@
 -- What calls of `write` on a text come to: how much of it they have reported written, and what comes next.
 use Rattle.std.specs.Prelude.{Bool, true, false, ◌≡◌, ℕ, ◌+◌, ◌-◌, ltb, eqb, ℤ, pos, negsuc}
-use Rattle.libc.specs.Io.{Moved}
+use Rattle.descriptors.specs.Io.{Moved}
 use Rattle.descriptors.specs.Failures.{failure_of}
 use Rattle.descriptors.specs.declared.Failure.{Failure}
-use Rattle.descriptors.specs.declared.Failure.TheVariants as Failure
 use Rattle.descriptors.specs.declared.Next.{Next}
 use Rattle.descriptors.specs.declared.Next.TheVariants.{Go, Wait, Complete, Closed, Failed, Stuck}
 use Rattle.descriptors.specs.declared.Writing.{Writing}

@@ -1,13 +1,15 @@
-// Reading and writing over file descriptors: a call that a signal interrupts is made again, one that would block is made again
+// Reading and writing over std's `Read` and `Write`: a call that a signal interrupts is made again, one that would block is made again
 // after a wait, and a failure is told on standard error.
 // No contract can say what is read and written there. What is made of the answers of `read` and `write` stands in functions of
 // its own, each with a contract that says it exactly.
 #![tactic(auto)]
 
+mod answers;
 mod failures;
 pub mod file;
 mod pause;
 pub mod read;
+pub mod told;
 pub mod write;
 
 // Why a call failed, by its errno.

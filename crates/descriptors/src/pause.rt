@@ -1,15 +1,9 @@
-// A short wait, for a descriptor that would block: nothing in the kit waits until it is ready.
-use libc::types::timespec;
+// A short wait, for an input or an output that would block: nothing in std waits until it is ready.
+use std::rt::Clock;
+use std::thread;
+use std::time::Duration;
 
-// Waits a millisecond, or less where a signal comes.
-pub fn pause() {
-    let asked = timespec {
-        tv_sec: 0,
-        tv_nsec: 1_000_000,
-    };
-    let mut left = timespec {
-        tv_sec: 0,
-        tv_nsec: 0,
-    };
-    libc::nanosleep(&asked, &mut left);
+// Waits a millisecond.
+pub fn pause<H: Clock>(rt: &H) {
+    thread::sleep(rt, Duration::from_millis(1));
 }

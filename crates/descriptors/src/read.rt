@@ -2,9 +2,14 @@
 ghost use Rattle.std.specs.Prelude.{◌≡◌};
 ghost use Rattle.descriptors.specs.Reads.{read_after, read_step, read_again_lem, bytes_read, ReadWithin};
 
+use crate::answers::answer_of;
 use crate::failures::failure_of;
 use crate::pause::pause;
+use crate::told::{Tell, fail};
 use crate::{Failure, Reading};
+use std::io;
+use std::io::Read;
+use std::rt::Clock;
 
 // What a failed call of read comes to.
 fn read_after(failure: Failure) -> Reading
@@ -19,6 +24,7 @@ fn read_after(failure: Failure) -> Reading
 }
 
 // What a call of read comes to, by its answer and errno.
+#[tactic(auto, unfolding(crate::specs::Reads::read_step))]
 fn read_step(got: isize, error: i32) -> Reading
     ensures { result ≡ read_step got error }
 {
@@ -57,38 +63,51 @@ pub fn bytes_read(reading: Reading) -> usize
     }
 }
 
+// Tells a read that failed, of an input with this name.
+fn tell_failure<H: Tell>(rt: &H, name: &[u8], returned: &io::Result<usize>) {
+    match returned {
+        Ok(_) => {}
+        Err(error) => fail(rt, name, error),
+    }
+}
+
 // Waits where a read would block, and tells one that failed, of an input with this name.
-fn attend(reading: Reading, name: &[u8]) {
+fn attend<H: Clock + Tell>(rt: &H, reading: Reading, name: &[u8], returned: &io::Result<usize>) {
     match reading {
         Reading::Bytes(_) => {}
         Reading::End => {}
         Reading::Again => {}
-        Reading::Wait => pause(),
-        Reading::Failed => os::fail(name),
+        Reading::Wait => pause(rt),
+        Reading::Failed => tell_failure(rt, name, returned),
     }
 }
 
 // Reads at least one byte, or comes to the end of the input or to a failure, which is told with the input's name.
-// A proved loop has to end, so it counts down from a number that no run uses up.
-pub fn read_named(input: i32, name: &[u8], block: &mut [u8]) -> Reading
+// A proved loop has to end, so it counts to a number that no run comes to.
+#[tactic(auto, using(crate::proofs::CallAnswers::read_within))]
+pub fn read_named<H: Clock + Tell, R: Read>(
+    rt: &H,
+    input: &mut R,
+    name: &[u8],
+    block: &mut [u8],
+) -> Reading
     ensures { ReadWithin block.new result }
 {
-    let mut turns = u64::MAX;
-    while turns > 0 {
-        let got = libc::read(input, block);
-        let reading = read_step(got, os::errno());
-        attend(reading, name);
+    for _ in 0..u64::MAX {
+        let returned = input.read(block);
+        let answer = answer_of(&returned);
+        let reading = read_step(answer.got, answer.error);
+        attend(rt, reading, name, &returned);
         if !is_again(reading) {
             return reading;
         }
-        turns -= 1;
     }
     Reading::Failed
 }
 
 // The same on an input that has no name.
-pub fn read_some(input: i32, block: &mut [u8]) -> Reading
+pub fn read_some<H: Clock + Tell, R: Read>(rt: &H, input: &mut R, block: &mut [u8]) -> Reading
     ensures { ReadWithin block.new result }
 {
-    read_named(input, b"read", block)
+    read_named(rt, input, b"read", block)
 }

@@ -1,15 +1,20 @@
 // Writing: a call that a signal interrupts is made again, one that would block is made again after a wait, and one that
 // takes a part only is followed by one on the rest.
 ghost use Rattle.std.specs.Prelude.{◌≡◌, ◌-◌, ◌≤◌, length};
-ghost use Rattle.libc.specs.Io.{Moved};
+ghost use Rattle.descriptors.specs.Io.{Moved};
 ghost use Rattle.descriptors.specs.Writes.{next_after, next_at, goes_on_lem, is_complete, write_start, write_step, Reached};
 
+use crate::answers::answer_of;
 use crate::failures::failure_of;
 use crate::pause::pause;
+use crate::told::{Tell, fail};
 use crate::{Failure, Next, Writing};
-use libc::STDERR_FILENO;
+use std::io;
+use std::io::Write;
+use std::rt::Clock;
 
 // A text before the first call: one without a byte needs none.
+#[tactic(auto, unfolding(crate::specs::Writes::write_start))]
 fn write_start(length: usize) -> Writing
     ensures { result ≡ write_start length }
 {
@@ -38,6 +43,7 @@ fn next_after(failure: Failure) -> Next
 }
 
 // What comes after a call that moved the text's written part from one length to another.
+#[tactic(auto, unfolding(crate::specs::Writes::next_at))]
 fn next_at(length: usize, before: usize, after: usize) -> Next
     ensures { result ≡ next_at length before after }
 {
@@ -51,6 +57,7 @@ fn next_at(length: usize, before: usize, after: usize) -> Next
 }
 
 // What a call of write on the bytes that are not yet done comes to, by its answer and errno.
+#[tactic(auto, unfolding(crate::specs::Writes::write_step))]
 fn write_step(length: usize, state: Writing, got: isize, error: i32) -> Writing
     requires done_in_bounds { state.done ≤ length }
     requires moved { Moved (length - state.done) got }
@@ -98,38 +105,43 @@ pub fn is_complete(next: Next) -> bool
     }
 }
 
+// Tells a write that failed.
+fn tell_failure<H: Tell>(rt: &H, returned: &io::Result<usize>) {
+    match returned {
+        Ok(_) => {}
+        Err(error) => fail(rt, b"write", error),
+    }
+}
+
 // Waits where a write would block, and tells one that failed. A closed output is not told.
-fn attend(next: Next) {
+fn attend<H: Clock + Tell>(rt: &H, next: Next, returned: &io::Result<usize>) {
     match next {
         Next::Go => {}
-        Next::Wait => pause(),
+        Next::Wait => pause(rt),
         Next::Complete => {}
         Next::Closed => {}
-        Next::Failed => os::fail(b"write"),
-        Next::Stuck => {
-            io::write_all(STDERR_FILENO, b"write: nothing was taken\n");
-        }
+        Next::Failed => tell_failure(rt, returned),
+        Next::Stuck => rt.tell(b"write: nothing was taken\n"),
     }
 }
 
 // Writes a text, until all of it is reported written or a call fails, which is told on standard error.
-// A proved loop has to end, so it counts down from a number that no run uses up.
-pub fn send(output: i32, text: &[u8]) -> Writing
+// A proved loop has to end, so it counts to a number that no run comes to.
+pub fn send<H: Clock + Tell, W: Write>(rt: &H, output: &mut W, text: &[u8]) -> Writing
     ensures { Reached (length text.now) result }
 {
     let mut state = write_start(text.len());
-    let mut turns = u64::MAX;
-    while turns > 0 {
+    for _ in 0..u64::MAX {
         let next = state.next;
         if !goes_on(next) {
             return state;
         }
         let from = state.done;
-        let got = libc::write(output, &text[from..]);
-        state = write_step(text.len(), state, got, os::errno());
+        let returned = output.write(&text[from..]);
+        let answer = answer_of(&returned);
+        state = write_step(text.len(), state, answer.got, answer.error);
         let after = state.next;
-        attend(after);
-        turns -= 1;
+        attend(rt, after, &returned);
     }
     state
 }
