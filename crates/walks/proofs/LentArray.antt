@@ -7,8 +7,8 @@ use Prim.Native.Nat.{ℕ}
 use mathlib.Core.List.{List, [], ◌∷◌}
 use lib.ListN.{length}
 use seplogic.Ra.Ura.{Ura}
-use seplogic.Ra.TreeShare.{full_share}
-use mir.Syntax.{Name, Lifetime, Place, Opd as Operand, Body, seq, call, ty_array}
+use base.Fraction.{full_share}
+use mir.Syntax.{Callee, Lifetime, Place, Opd as Operand, Body, seq, call, ty_array}
 use mir.Val.{Val}
 use base.Logic.{ent, sep, id⊢}
 use base.Fml.{GName, fsep, fat, flft, flent}
@@ -60,7 +60,7 @@ module _ {M : Type 1} {𝓤 : Ura M} {𝓛 : Logic 𝓤} {K : Type 0} {Γ : List
       use1 𝓛 (‵ (fat full_share (ty_array (lone R.mir) m) l 0 (array_of R vals xs))) (𝓛.laws.raw_at full_share (ty_array (lone R.mir) m) l 0 (array_of R vals xs)) $ s))
 
 module _ {M : Type 1} {𝓤 : Ura M} {𝓛 : Logic 𝓤} {K : Type 0} {Γ : List (Item 𝓤)} {E : Env 𝓤 𝓛.H} {C : Calls 𝓤 𝓛.H} {Λ : Loops 𝓤 𝓛.H}
-    {p : Post 𝓤 𝓛.H} {f : Name} {os : List Operand} {d : Place} {rest : Body} where
+    {p : Post 𝓤 𝓛.H} {f : Callee} {os : List Operand} {d : Place} {rest : Body} where
   open 𝓛 use {H, A}
 
   pub calls_array : K → FmC 𝓤 H 𝓛.laws C → (R : RattleType) → Single R.mir → (vals : R.Denot → List Val) → Tells R (Is R) vals → (ℓ : Lifetime) (m l : ℕ)

@@ -10,8 +10,8 @@ use native.Mathlib.Nat.{lt_of_le_of_lt, mul-le-mul_right}
 use mathlib.Core.List.{List, [], ◌∷◌, ◌++◌}
 use lib.ListN.{length, take, drop as past, take-append-drop}
 use seplogic.Ra.Ura.{Ura}
-use seplogic.Ra.TreeShare.{full_share}
-use mir.Syntax.{Name, Lifetime, Place, Opd as Operand, Body, seq, call, ty_array}
+use base.Fraction.{full_share}
+use mir.Syntax.{Callee, Lifetime, Place, Opd as Operand, Body, seq, call, ty_array}
 use mir.Val.{Val}
 use base.Logic.{SProp, ent, sep, ex, guard, id⊢}
 use base.Fml.{Lft, GName, Share, Fml, fsep, fat, flft, flent}
@@ -84,7 +84,7 @@ LeavesBoth {𝓤 = 𝓤} 𝓛 R U n m Says ν δ ν' δ' w = 𝓛.H.⇛ (ex 𝓤
     (sep 𝓤 (sep 𝓤 (𝓛.A.lft (ν ∷ []) full_share) (sem 𝓛 (finally R δ zs))) (sep 𝓤 (𝓛.A.lft (ν' ∷ []) full_share) (sem 𝓛 (finally U δ' us)))))))
 
 module _ {M : Type 1} {𝓤 : Ura M} {𝓛 : Logic 𝓤} {K : Type 0} {Γ : List (Item 𝓤)} {E : Env 𝓤 𝓛.H} {C : Calls 𝓤 𝓛.H} {Λ : Loops 𝓤 𝓛.H}
-    {p : Post 𝓤 𝓛.H} {f : Name} {os : List Operand} {d : Place} {rest : Body} where
+    {p : Post 𝓤 𝓛.H} {f : Callee} {os : List Operand} {d : Place} {rest : Body} where
   open 𝓛 use {H, A}
 
   pub calls_part : K → FmC 𝓤 H 𝓛.laws C → (R : RattleType) → Single R.mir → (vals : R.Denot → List Val) → Tells R (Is R) vals → (ℓ : Lifetime) (m l k : ℕ)
