@@ -4,7 +4,7 @@ use mathlib.Core.Logic.{◌≢◌, ◌⊎◌, inl, inr}
 use mathlib.Core.List.{List, [], ◌∷◌, ◌++◌, flat_map, append-nil, append_assoc, Memᴰ}
 use mathlib.Core.Bool.{true}
 use mathlib.Core.Option.{Option, none, some}
-use Prim.Native.Nat.{ℕ, suc, ◌+◌, ◌*◌, ◌^◌, ◌<◌, ◌≤◌}
+use Prim.Native.Nat.{ℕ, suc, ◌+◌, ◌*◌, ◌^◌, ◌<◌}
 use native.Mathlib.Nat.{mul_assoc}
 use native.Mathlib.Omega.{arith}
 use native.Mathlib.Decide.{dec_lt}
@@ -13,7 +13,7 @@ use lib.Pow.{pow-add}
 use Rattle.requests.specs.declared.CounterSet.{CounterSet}
 use Rattle.requests.specs.declared.Setup.{Setup}
 use Rattle.requests.specs.declared.Request.{Request}
-use Rattle.requests.specs.declared.Request.TheVariants.{Event, Packet}
+use Rattle.requests.specs.declared.Request.TheVariants.{Event}
 use Rattle.requests.specs.Devices.{has}
 use Rattle.requests.specs.RuledEvents.{Lone}
 use Rattle.requests.proofs.RuledEvents.{ruled_events}
@@ -46,6 +46,7 @@ module _ {A : Type 0} where
   all_member : {P : A → Type 0} {l : List A} → All P l → {a : A} → Memᴰ a l → P a
   all_member {P = P} (cons p ps) (Memᴰ.head e) = subst P (sym e) p
   all_member (cons p ps) (Memᴰ.tail m) = all_member ps m
+  all_member {P = P} nil {a = a} x3 = elim x3 [ ]
 
 -- k differs from each of a list
 abbrev Away : List ℕ → ℕ → Type 0
@@ -152,6 +153,7 @@ module _ (s : Setup) (rs : List Request) (r : Request) (a : CounterSet) (o : One
       go [] h (Memᴰ.head e) = let c = ruled_events.counted s.device r (subst (Lone s.device) e l) in may.anywhere c.0 c.1
       go (x ∷ xs) (cons n h) (Memᴰ.head e) = n (subst (Lone s.device) e l)
       go (x ∷ xs) (cons n h) (Memᴰ.tail t) = go xs h t
+      go [] h (mathlib.Core.List.Memᴰ.tail t) = elim t [ ]
 
   legal_more : {ps : List Place} {k : ℕ} → OneValue (flat_map packets_of (rs ++ r ∷ [])) → has a k ≡ true → Unused s ps k → Legal s rs ps → Legal s (rs ++ r ∷ []) (ps ++ Counter k ∷ [])
   legal_more {ps} {k} v h u l = record {

@@ -20,7 +20,6 @@ use Rattle.plans.specs.declared.Filter.{Filter}
 use Rattle.plans.specs.declared.Filter.TheVariants.{Off, Words}
 use Rattle.plans.specs.Lists.{All, cons, Each, none, and}
 use Rattle.plans.specs.Legal.{Allowed, event, packet, offcore, latency, words_of, packets_of, of_all, HasPlan}
-use Rattle.plans.specs.Search.{holds}
 use Rattle.plans.specs.FilterWords.{none_asked, ask_word, ask_packet, asked_by, asked_from, crowded, FilterWords}
 
 module _ (v w : ℕ) (p : ℕ × ℕ) where

@@ -2,12 +2,12 @@
 --     nth-takes, takes-nth   the counters of a plan are those that its places take
 --     asks-word, word-asks   the words of an RSP register are those that requests ask for there
 use mathlib.Core.Path.{◌≡◌, refl, sym, ap, subst, ◌∙◌}
-use mathlib.Core.Logic.{◌≢◌, ◌⊎◌, inl, inr, ⊎_elim, ◌↔◌}
+use mathlib.Core.Logic.{◌≢◌, ◌⊎◌, inl, inr, ⊎_elim}
 use mathlib.Core.Bool.{Bool, true, false}
 use mathlib.Core.List.Memᴰ
 use mathlib.Core.List.Sublistᴰ
 use mathlib.Core.List.{List, [], ◌∷◌, ◌++◌, flat_map, Memᴰ}
-use Prim.Native.Nat.{ℕ, zero, suc, ◌+◌, ◌-◌, ◌^◌, ◌<◌}
+use Prim.Native.Nat.{ℕ, zero, suc, ◌<◌}
 use native.Mathlib.Omega.{arith}
 use borrow.Author.Tests.{eqb-true, eq-eqb}
 use lib.Dec.{eqb}
@@ -37,6 +37,7 @@ module _ {A : Type 0} where
   all_member : {P : A → Type 0} {l : List A} → All P l → {a : A} → Memᴰ a l → P a
   all_member {P = P} (cons p ps) (Memᴰ.head e) = subst P (sym e) p
   all_member (cons p ps) (Memᴰ.tail m) = all_member ps m
+  all_member {P = P} nil {a = a} x3 = elim x3 [ ]
 
   all_of : (P : A → Type 0) (l : List A) → ((a : A) → Memᴰ a l → P a) → All P l
   all_of P [] h = nil
@@ -46,6 +47,7 @@ module _ {A : Type 0} where
   parted : (front : List A) {back : List A} {a : A} → Pairwise ◌≢◌ (front ++ back) → Memᴰ a front → Memᴰ a back → ⊥
   parted (x ∷ front) (add h hs) (Memᴰ.head e) m = all_member {P = λ (y : A). x ≢ y} h (Memᴰ.append_right front m) (sym e)
   parted (x ∷ front) (add h hs) (Memᴰ.tail f) m = parted front hs f m
+  parted [] {back = back} {a = a} _ x4 m = elim x4 [ ]
 
   behind : (front : List A) {back : List A} → Pairwise ◌≢◌ (front ++ back) → Pairwise ◌≢◌ back
   behind front {back = back} d = pairwise_part (back_part front (Sublistᴰ.refl back)) d
@@ -68,6 +70,7 @@ module _ {A : Type 0} where
 each_nth : {R : Request → Place → Type 0} {n : ℕ} {r : Request} {p : Place} {rs : List Request} {ps : List Place} → Each R rs ps → Nth r p n rs ps → R r p
 each_nth (and a es) here = a
 each_nth (and a es) (later g) = each_nth es g
+each_nth {R = R} {n = n} {r = r} {p = p} none x4 = elim x4 [ ]
 
 nth_each : (R : Request → Place → Type 0) (rs : List Request) (ps : List Place) → length ps ≡ length rs
     → ((n : ℕ) (r : Request) (p : Place) → Nth r p n rs ps → R r p) → Each R rs ps
@@ -80,13 +83,14 @@ each_length : {R : Request → Place → Type 0} {rs : List Request} {ps : List 
 each_length none = refl
 each_length (and r rest) = omega (arith, each_length rest)
 
-nth_member : {n : ℕ} {r : Request} {p : Place} {rs : List Request} {ps : List Place} → Nth r p n rs ps → Memᴰ r rs
+nth_member : {r : Request} {p : Place} {n : ℕ} {rs : List Request} {ps : List Place} → Nth r p n rs ps → Memᴰ r rs
 nth_member here = Memᴰ.head refl
 nth_member (later g) = Memᴰ.tail (nth_member g)
 
 member_nth : {R : Request → Place → Type 0} {r : Request} {rs : List Request} {ps : List Place} → Each R rs ps → Memᴰ r rs → (n : ℕ) × (p : Place) × Nth r p n rs ps
 member_nth {r = r} (and {b = p} {s = rs} {t = ps} a es) (Memᴰ.head e) = (0, p, subst (λ (x : Request). Nth r p 0 (x ∷ rs) (p ∷ ps)) e (here {rs = rs}))
 member_nth (and a es) (Memᴰ.tail m) = let g = member_nth es m in (suc g.0, g.1, later g.2)
+member_nth {R = R} {r = r} none x4 = elim x4 [ ]
 
 -- ---- counters
 
@@ -104,6 +108,9 @@ own_takes (Counter j) (Memᴰ.head e) = sym e
 own_takes (WithRsp j i) (Memᴰ.head e) = sym e
 own_takes (Pair i j) (Memᴰ.head e) = inl (sym e)
 own_takes (Pair i j) (Memᴰ.tail (Memᴰ.head e)) = inr (sym e)
+own_takes (Counter j) {k = k} (Memᴰ.tail x5) = elim x5 [ ]
+own_takes (WithRsp j i) {k = k} (Memᴰ.tail x6) = elim x6 [ ]
+own_takes (Pair i j) {k = k} (Memᴰ.tail (Memᴰ.tail x11)) = elim x11 [ ]
 
 takes_own : (p : Place) {k : ℕ} → Takes p k → Memᴰ k (counters_of p)
 unfolding counters_of counted_of
@@ -112,7 +119,7 @@ takes_own (WithRsp j i) e = Memᴰ.head (sym e)
 takes_own (Pair i j) (inl e) = Memᴰ.head (sym e)
 takes_own (Pair i j) (inr e) = Memᴰ.tail (Memᴰ.head (sym e))
 
-pub nth_takes : {n k : ℕ} {r : Request} {p : Place} {rs : List Request} {ps : List Place} → Nth r p n rs ps → Takes p k → Memᴰ k (counters ps)
+pub nth_takes : {r : Request} {p : Place} {n k : ℕ} {rs : List Request} {ps : List Place} → Nth r p n rs ps → Takes p k → Memᴰ k (counters ps)
 unfolding counters flat_map
 nth_takes {p = p} (here {ps = ps}) t = Memᴰ.append_left (counters ps) (takes_own p t)
 nth_takes (later {y = y} g) t = Memᴰ.append_right (counters_of y) (nth_takes g t)
@@ -130,8 +137,9 @@ takes_nth (and {a = r} {b = p} a es) m =
     ⊎_elim (λ h. record { number = 0; request = r; place = p; nth = here; takes = own_takes p h })
     (λ h. let t = takes_nth es h in record { number = suc t.number; request = t.request; place = t.place; nth = later t.nth; takes = t.takes })
     (Memᴰ.append_cases (counters_of p) m)
+takes_nth {R = R} {k = k} none m = elim m [ ]
 
-differ_nth : (k : ℕ) {m n : ℕ} {r q : Request} {p o : Place} {rs : List Request} {ps : List Place} → Pairwise ◌≢◌ (counters ps) → Nth r p m rs ps → Nth q o n rs ps
+differ_nth : (k : ℕ) {r : Request} {p : Place} {m n : ℕ} {q : Request} {o : Place} {rs : List Request} {ps : List Place} → Pairwise ◌≢◌ (counters ps) → Nth r p m rs ps → Nth q o n rs ps
     → Takes p k → Takes o k → m ≡ n
 unfolding counters flat_map
 differ_nth k d here here t u = refl
@@ -139,7 +147,7 @@ differ_nth k {p = p} d here (later g) t u = absurd (parted (counters_of p) d (ta
 differ_nth k {o = o} d (later f) here t u = absurd (parted (counters_of o) d (takes_own o u) (nth_takes f t))
 differ_nth k d (later {y = y} f) (later g) t u = ap suc (differ_nth k (behind (counters_of y) d) f g t u)
 
-two_nth : {n j k : ℕ} {r : Request} {rs : List Request} {ps : List Place} → Pairwise ◌≢◌ (counters ps) → Nth r (Pair j k) n rs ps → j ≢ k
+two_nth : {r : Request} {k j n : ℕ} {rs : List Request} {ps : List Place} → Pairwise ◌≢◌ (counters ps) → Nth r (Pair j k) n rs ps → j ≢ k
 unfolding counters flat_map counters_of counted_of
 two_nth d here = first_two d
   where
@@ -217,13 +225,21 @@ own_asks i w (Offcore v a) (WithRsp k j) l m = go (eqb j i) refl m
   where
     go : (b : Bool) → eqb j i ≡ b → Memᴰ w (pick b (v ∷ []) []) → (j ≡ i) × (w ≡ v)
     go true e (Memᴰ.head q) = (eqb-true j i e, q)
+    go false e x4 = elim x4 [ ]
+    go true e (Memᴰ.tail x9) = elim x9 [ ]
 own_asks zero w (Latency t a b) p l (Memᴰ.head e) = inl (refl, e)
 own_asks (suc zero) w (Latency t a b) p l (Memᴰ.head e) = inr (refl, e)
 own_asks (suc (suc i)) w (Latency t a b) p l m = absurd (omega arith)
+own_asks i w (Event _ _ _) p l m = elim m [ ]
+own_asks i w (Packet _ _ _) p l m = elim m [ ]
+own_asks i w (Offcore v a) (Counter _) l m = elim m [ ]
+own_asks i w (Offcore v a) (Pair _ _) l m = elim m [ ]
+own_asks zero w (Latency t a b) p l (Memᴰ.tail x11) = elim x11 [ ]
+own_asks (suc zero) w (Latency t a b) p l (Memᴰ.tail x15) = elim x15 [ ]
 
-pub asks_word : (i : ℕ) {w n : ℕ} {r : Request} {p : Place} {rs : List Request} {ps : List Place} → Nth r p n rs ps → Asks i r p w → Memᴰ w (of_all (words_of i) rs ps)
+pub asks_word : (i : ℕ) {r : Request} {p : Place} {w n : ℕ} {rs : List Request} {ps : List Place} → Nth r p n rs ps → Asks i r p w → Memᴰ w (of_all (words_of i) rs ps)
 unfolding of_all
-asks_word i {w = w} {r = r} {p = p} (here {rs = rs} {ps = ps}) h = Memᴰ.append_left (of_all (words_of i) rs ps) (asks_own i w r p h)
+asks_word i {r = r} {p = p} {w = w} (here {rs = rs} {ps = ps}) h = Memᴰ.append_left (of_all (words_of i) rs ps) (asks_own i w r p h)
 asks_word i (later {x = x} {y = y} g) h = Memᴰ.append_right (words_of i x y) (asks_word i g h)
 
 pub record AskedBy (i w : ℕ) (rs : List Request) (ps : List Place) : Type 0 where
@@ -239,8 +255,9 @@ word_asks {i = i} {w = w} l (and {a = r} {b = p} a es) m =
     ⊎_elim (λ h. record { number = 0; request = r; place = p; nth = here; asks = own_asks i w r p l h })
     (λ h. let t = word_asks l es h in record { number = suc t.number; request = t.request; place = t.place; nth = later t.nth; asks = t.asks })
     (Memᴰ.append_cases (words_of i r p) m)
+word_asks {R = R} {i = i} {w = w} l none m = elim m [ ]
 
-packet_word_lem : {n x y : ℕ} {a : CounterSet} {p : Place} {rs : List Request} {ps : List Place} → Nth (Packet x y a) p n rs ps → Memᴰ (x, y) (flat_map packets_of rs)
+packet_word_lem : {a : CounterSet} {p : Place} {y x n : ℕ} {rs : List Request} {ps : List Place} → Nth (Packet x y a) p n rs ps → Memᴰ (x, y) (flat_map packets_of rs)
 unfolding flat_map packets_of
 packet_word_lem here = Memᴰ.head refl
 packet_word_lem (later {x = r} g) = Memᴰ.append_right (packets_of r) (packet_word_lem g)
@@ -255,6 +272,10 @@ own_packet : {w : ℕ × ℕ} (r : Request) (p : Place) (rs : List Request) (ps 
 unfolding packets_of
 own_packet {w = w} (Packet x y a) p rs ps (Memᴰ.head e) =
     record { number = 0; allowed = a; place = p; nth = subst (λ (v : ℕ × ℕ). Nth (Packet w.0 w.1 a) p 0 (Packet v.0 v.1 a ∷ rs) (p ∷ ps)) e here }
+own_packet {w = w} (Event _ _ _) p rs ps x4 = elim x4 [ ]
+own_packet {w = w} (Packet x y a) p rs ps (Memᴰ.tail x7) = elim x7 [ ]
+own_packet {w = w} (Offcore _ _) p rs ps x5 = elim x5 [ ]
+own_packet {w = w} (Latency _ _ _) p rs ps x7 = elim x7 [ ]
 
 word_packet : {R : Request → Place → Type 0} {w : ℕ × ℕ} {rs : List Request} {ps : List Place} → Each R rs ps → Memᴰ w (flat_map packets_of rs) → PacketBy w rs ps
 unfolding flat_map
@@ -262,6 +283,7 @@ word_packet (and {a = r} {b = p} {s = rs} {t = ps} a es) m =
     ⊎_elim (λ h. own_packet r p rs ps h)
     (λ h. let t = word_packet es h in record { number = suc t.number; allowed = t.allowed; place = t.place; nth = later t.nth })
     (Memᴰ.append_cases (packets_of r) m)
+word_packet {R = R} {w = w} none m = elim m [ ]
 
 -- ---- both ways
 
@@ -354,6 +376,7 @@ module _ (s : Setup) (t j k : ℕ) (a b : CounterSet) where
     where
       not_alone : {r : Request} → Memᴰ r (Latency t a b ∷ []) → Lone s.device r → ⊥
       not_alone (Memᴰ.head e) l = latency_not_lone (subst (Lone s.device) e l)
+      not_alone {r = r} (Memᴰ.tail x5) l = elim x5 [ ]
 
 module _ (s : Setup) (w : ℕ) (g : s.device ≡ G) (full : s.usable.0 ≡ 15) where
   abbrev any : CounterSet
@@ -379,6 +402,7 @@ module _ (s : Setup) (w : ℕ) (g : s.device ≡ G) (full : s.usable.0 ≡ 15) w
       not_alone : {r : Request} → Memᴰ r (Offcore w any ∷ Offcore w any ∷ []) → Lone s.device r → ⊥
       not_alone (Memᴰ.head e) l = offcore_not_lone (subst (Lone s.device) e l)
       not_alone (Memᴰ.tail (Memᴰ.head e)) l = offcore_not_lone (subst (Lone s.device) e l)
+      not_alone {r = r} (Memᴰ.tail (Memᴰ.tail x9)) l = elim x9 [ ]
 
 pub legal_in_words : LegalInWords
 legal_in_words = record {

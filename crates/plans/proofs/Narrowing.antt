@@ -163,11 +163,14 @@ lone_any : (d : Device) (rs : List Request) (r : Request) → Memᴰ r rs → Lo
 unfolding any_lone
 lone_any d (q ∷ rs) r (Memᴰ.head e) l = either_left _ _ (ap (λ (x : Request). wants_quiet (rule_for d x)) (sym e) ∙ (ruled_events.quiet d r).1 l)
 lone_any d (q ∷ rs) r (Memᴰ.tail m) l = either_right _ _ (lone_any d rs r m l)
+lone_any d [] r x'' l = elim x'' [ ]
 
 -- the one element of a list is the whole list
 only_member : (rs : List Request) (r : Request) → length rs ≡ 1 → Memᴰ r rs → rs ≡ r ∷ []
 only_member (q ∷ []) r e (Memᴰ.head h) = ap (λ (x : Request). x ∷ []) (sym h)
 only_member (q ∷ p ∷ rs) r e m = absurd (omega arith)
+only_member [] r e m = elim m [ ]
+only_member (q ∷ []) r e (mathlib.Core.List.Memᴰ.tail x10) = elim x10 [ ]
 
 -- no request is lone but where it is alone and all counters are usable
 abbrev Quiet : Setup → List Request → Type 0

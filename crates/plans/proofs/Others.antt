@@ -19,9 +19,10 @@ away_none : (l : List ℕ) → All (Away []) l
 away_none [] = nil
 away_none (j ∷ js) = cons nil (away_none js)
 
-away_member : {ks : List ℕ} {k : ℕ} → Away ks k → Memᴰ k ks → ⊥
+away_member : {k : ℕ} {ks : List ℕ} → Away ks k → Memᴰ k ks → ⊥
 away_member (cons ne h) (Memᴰ.head e) = ne e
 away_member (cons ne h) (Memᴰ.tail m) = away_member h m
+away_member {k = k} nil x3 = elim x3 [ ]
 
 -- the numbers of l that are none of ks
 pub record Others (ks l : List ℕ) : Type 0 where

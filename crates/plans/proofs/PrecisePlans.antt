@@ -2,7 +2,7 @@
 use mathlib.Core.Path.{◌≡◌, refl, ap, sym, subst, ◌∙◌}
 use mathlib.Core.List.{List, [], ◌∷◌, ◌++◌, flat_map, Memᴰ}
 use mathlib.Core.Bool.{true}
-use Prim.Native.Nat.{ℕ, suc, ◌<◌}
+use Prim.Native.Nat.{ℕ, suc}
 use native.Mathlib.Omega.{arith}
 use lib.ListN.{length}
 use Rattle.requests.specs.declared.CounterSet.{CounterSet}
@@ -88,6 +88,7 @@ module _ (s : Setup) (on : s.device ≡ B) where
       where
         the_one : (r : Request) → Memᴰ r (Event c m a ∷ []) → r ≡ Event c m a
         the_one r (Memᴰ.head e) = e
+        the_one r (mathlib.Core.List.Memᴰ.tail x4) = elim x4 [ ]
 
         only : (r : Request) → Memᴰ r (Event c m a ∷ []) → Event c m a ∷ [] ≡ r ∷ []
         only r m = ap (λ (x : Request). x ∷ []) (sym (the_one r m))
