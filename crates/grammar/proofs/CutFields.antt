@@ -111,6 +111,8 @@ module _ {A : Type 0} (read : List ℕ → (A → Parsed) → Parsed) (t p : Lis
           let (tx, rest) = field_next (fields t) k [] x xs et in
           let (px, rest2) = field_next (fields p) k [] x ys ep in
           same x tx px (dec_lt w (length x)) (λ l. below m (omega arith) (record { more = xs; kept = ys; more_is = rest; kept_is = rest2; cut = d }))
+      go [] ys et ep h = elim h [ ]
+      go (x ∷ xs) [] et ep h = elim h [ ]
 
 -- a field is left in both
 left_over : (t : List ℕ) (closed : Bool) (k : ℕ) (f : List ℕ) (fs : List (List ℕ)) → drop k (fields t) ≡ f ∷ fs → is_whole t closed k ≡ false
@@ -123,6 +125,8 @@ cut_ends t p closed k n c = go c.more c.kept c.more_is c.kept_is c.cut
   where
     go : (xs ys : List (List ℕ)) → drop k (fields t) ≡ xs → drop k (fields p) ≡ ys → Cut n xs ys → (is_whole t closed k ≡ false) × (is_whole p closed k ≡ false)
     go (x ∷ xs) (y ∷ ys) et ep d = (left_over t closed k x xs et, left_over p closed k y ys ep)
+    go [] ys et ep d = elim d [ ]
+    go (x ∷ xs) [] et ep d = elim d [ ]
 
 -- ---- the first field: too long in both, or whole
 
@@ -140,3 +144,5 @@ first_field t p n c = go c.more c.kept c.more_is c.kept_is c.cut
         let (tx, rest) = field_next (fields t) 0 [] x xs et in
         let (px, rest2) = field_next (fields p) 0 [] x ys ep in
         whole (px ∙ sym tx) m (rw tx e) (record { more = xs; kept = ys; more_is = rest; kept_is = rest2; cut = d })
+    go [] ys et ep h = elim h [ ]
+    go (x ∷ xs) [] et ep h = elim h [ ]

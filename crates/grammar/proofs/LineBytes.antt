@@ -1,5 +1,5 @@
 -- The bytes between and behind fields, and those of every word and digit, by computation. Assumes nothing.
-use mathlib.Core.Path.{◌≡◌, refl}
+use mathlib.Core.Path.{refl}
 use Rattle.grammar.specs.Text.{bytes, tab, newline, hex_digit, hex_text, decimal_digits, decimal_text, line_of}
 use Rattle.grammar.specs.Fields.{fields, same_bytes_lem}
 use Rattle.grammar.specs.Numbers.{digit_of, core_number_of}
