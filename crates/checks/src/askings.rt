@@ -8,6 +8,7 @@ use requests::{Core, Device, Overflow, Setup};
 pub const CORE_COUNT: u64 = 8;
 
 // Whether the device's sessions may ask something.
+#[tactic(auto, unfolding(requests::specs::Askings::overflow_on))]
 pub fn overflow_on(d: Device) -> bool
     ensures { result ≡ overflow_on d }
 {
@@ -20,6 +21,7 @@ pub fn overflow_on(d: Device) -> bool
 }
 
 // Nothing is asked.
+#[tactic(auto, unfolding(requests::specs::Askings::unasked))]
 pub fn unasked() -> Overflow
     ensures { result ≡ unasked }
 {
@@ -30,6 +32,7 @@ pub fn unasked() -> Overflow
 }
 
 // Whether a core is given.
+#[tactic(auto, unfolding(requests::specs::Askings::core_given))]
 fn core_given(core: Core) -> bool
     ensures { result ≡ core_given core }
 {
@@ -40,6 +43,7 @@ fn core_given(core: Core) -> bool
 }
 
 // Whether something is asked.
+#[tactic(auto, unfolding(requests::specs::Askings::asks, requests::specs::Choice::either))]
 pub fn asks(a: Overflow) -> bool
     ensures { result ≡ asks a }
 {
@@ -51,6 +55,7 @@ pub fn asks(a: Overflow) -> bool
 }
 
 // Whether a session asks something of the U-Box.
+#[tactic(auto, unfolding(requests::specs::Askings::asked, requests::specs::Choice::both))]
 pub fn asked(setup: Setup) -> bool
     ensures { result ≡ asked setup }
 {
@@ -63,6 +68,7 @@ pub fn asked(setup: Setup) -> bool
 }
 
 // Whether something is asked that the device does not do.
+#[tactic(auto, unfolding(requests::specs::Askings::overflow_not_on, requests::specs::Choice::both))]
 pub fn overflow_not_on(d: Device, a: Overflow) -> bool
     ensures { result ≡ overflow_not_on d a }
 {
@@ -73,6 +79,7 @@ pub fn overflow_not_on(d: Device, a: Overflow) -> bool
 }
 
 // Whether a core that is given fits the field.
+#[tactic(auto, unfolding(requests::specs::Askings::core_fits, requests::specs::Askings::core_count))]
 fn core_fits(core: Core) -> bool
     ensures { result ≡ core_fits core }
 {
@@ -83,6 +90,7 @@ fn core_fits(core: Core) -> bool
 }
 
 // Whether what is asked is in range.
+#[tactic(auto, unfolding(requests::specs::Askings::overflow_fits, requests::specs::Choice::both))]
 pub fn overflow_fits(a: Overflow) -> bool
     ensures { result ≡ overflow_fits a }
 {

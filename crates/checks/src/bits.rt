@@ -44,6 +44,7 @@ pub fn only_bits(mask: u64, word: u64) -> bool
 }
 
 // The word of a latency request in an RSP register.
+#[tactic(auto, unfolding(requests::specs::Bits::latency_word, requests::specs::Bits::outstanding, requests::specs::Bits::any_response))]
 pub fn latency_word(register: u64, types: u16) -> u64
     ensures { result ≡ latency_word register types }
 {

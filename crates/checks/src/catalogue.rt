@@ -11,6 +11,7 @@ use crate::sbox_events::{S_EVENTS, row_at};
 use requests::{Device, Listing};
 
 // The look-up on S, row by row: the rows stand in any order.
+#[tactic(auto, unfolding(requests::specs::Lookup::rows_of, requests::specs::Catalogue::events_of))]
 fn row_by_row(code: u8, mask: u8) -> Listing
     ensures { result ≡ listing_of Device.S code mask }
 {
@@ -36,6 +37,7 @@ fn row_by_row(code: u8, mask: u8) -> Listing
 }
 
 // Whether the mask is one of two.
+#[tactic(auto, unfolding(requests::specs::Choice::either))]
 fn is_either(mask: u8, first: u8, second: u8) -> bool
     ensures { result ≡ either (eqb mask first) (eqb mask second) }
 {
@@ -46,6 +48,7 @@ fn is_either(mask: u8, first: u8, second: u8) -> bool
 }
 
 // The look-up on G, by the code: a host that lends its records has it made for each of them at each call.
+#[tactic(auto, unfolding(requests::specs::Lookup::listing_of, requests::specs::Catalogue::events_of, requests::specs::Catalogue::architectural_events, requests::specs::Catalogue::code_in, requests::specs::Catalogue::pair_in, requests::specs::MaskRules::allows, requests::specs::Choice::both, requests::specs::Choice::either))]
 fn on_core(code: u8, mask: u8) -> Listing
     ensures { result ≡ listing_of Device.G code mask }
 {
@@ -83,6 +86,7 @@ fn on_core(code: u8, mask: u8) -> Listing
 }
 
 // The look-up on B: the pairs of G, and the two precise events.
+#[tactic(auto, unfolding(requests::specs::Lookup::listing_of, requests::specs::Catalogue::events_of, requests::specs::Catalogue::architectural_events, requests::specs::Catalogue::precise_events, requests::specs::Catalogue::code_in, requests::specs::Catalogue::pair_in, requests::specs::MaskRules::allows, requests::specs::Choice::both, requests::specs::Choice::either))]
 fn on_precise_core(code: u8, mask: u8) -> Listing
     ensures { result ≡ listing_of Device.B code mask }
 {
@@ -120,6 +124,7 @@ fn on_cbox(code: u8, mask: u8) -> Listing
 }
 
 // What the device's catalogue lists of the code and the unit mask.
+#[tactic(auto, unfolding(requests::specs::Lookup::rows_of, requests::specs::Catalogue::events_of))]
 pub fn look_up(device: Device, code: u8, mask: u8) -> Listing
     ensures { result ≡ listing_of device code mask }
 {

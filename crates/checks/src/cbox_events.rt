@@ -5,6 +5,7 @@ ghost use Rattle.requests.specs.Lookup.{row_of};
 ghost use Rattle.requests.specs.ByCode.{table_of, found_in};
 
 // The entry of a code: the one place where the table is read. 0 where no row has the code.
+#[tactic(auto, unfolding(requests::specs::Lookup::row_of, requests::specs::CBoxEvents::cbox_events, requests::specs::Lookup::mask_rules, requests::specs::Lookup::place_of, requests::specs::Lookup::same_rule, requests::specs::Lookup::same_numbers, requests::specs::Choice::both, requests::specs::CBoxEvents::sink_masks, requests::specs::CBoxEvents::ring_masks, requests::specs::CBoxEvents::starved_masks, requests::specs::CBoxEvents::bypass_masks, requests::specs::ByCode::found_in, requests::specs::ByCode::table_of, requests::specs::ByCode::put_at))]
 pub fn row_of(code: u8) -> u16
     ensures { result ≡ (found_in (table_of (map row_of cbox_events)) code).row }
 {

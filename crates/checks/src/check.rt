@@ -22,6 +22,7 @@ const UNLISTED: Listing = Listing {
 };
 
 // 7: whether the device has no requests of this kind.
+#[tactic(auto, unfolding(requests::specs::Checks::kind_not_on))]
 fn kind_not_on(device: Device, request: Request) -> bool
     ensures { result ≡ kind_not_on device request }
 {
@@ -34,6 +35,7 @@ fn kind_not_on(device: Device, request: Request) -> bool
 }
 
 // What the device's catalogue lists of an event.
+#[tactic(auto, unfolding(requests::specs::Lookup::listing_for))]
 fn listing_for(device: Device, request: Request) -> Listing
     ensures { result ≡ listing_for device request }
 {
@@ -46,6 +48,7 @@ fn listing_for(device: Device, request: Request) -> Listing
 }
 
 // 8: whether an event is not listed: the pair, or the code where that has its own masks.
+#[tactic(auto, unfolding(requests::specs::Lookup::listing_for, requests::specs::Checks::not_listed_lem))]
 fn not_listed(device: Device, request: Request, listing: Listing) -> bool
     requires { listing ≡ listing_for device request }
     ensures { result ≡ not_listed_lem device request }
@@ -64,6 +67,7 @@ fn not_listed(device: Device, request: Request, listing: Listing) -> bool
 }
 
 // Whether the code is listed, but not with the mask.
+#[tactic(auto, unfolding(requests::specs::Catalogue::mask_not_listed, requests::specs::Choice::both))]
 fn mask_not_listed(device: Device, code: u8, mask: u8, listing: Listing) -> bool
     requires { listing ≡ listing_of device code mask }
     ensures { result ≡ mask_not_listed device code mask }
@@ -86,6 +90,7 @@ pub fn mask_unlisted(device: Device, code: u8, mask: u8) -> bool
 }
 
 // Whether an allowed set has a counter that the device has not.
+#[tactic(auto, unfolding(requests::specs::Checks::too_wide))]
 pub fn too_wide(device: Device, allowed: CounterSet) -> bool
     ensures { result ≡ too_wide device allowed }
 {
@@ -94,6 +99,7 @@ pub fn too_wide(device: Device, allowed: CounterSet) -> bool
 }
 
 // A mask, not 0, that is not listed for its code, or an allowed set above all counters.
+#[tactic(auto, unfolding(requests::specs::Checks::out_of_range, requests::specs::Choice::either, requests::specs::Choice::both))]
 fn event_out_of_range(
     device: Device,
     code: u8,
@@ -114,6 +120,7 @@ fn event_out_of_range(
 }
 
 // A bit outside the fields of match or mask, or an allowed set above all counters.
+#[tactic(auto, unfolding(requests::specs::Checks::out_of_range, requests::specs::Choice::either))]
 fn packet_out_of_range(device: Device, matching: u64, masking: u64, allowed: CounterSet) -> bool
     ensures { result ≡ out_of_range device (Request.Packet matching masking allowed) }
 {
@@ -126,6 +133,7 @@ fn packet_out_of_range(device: Device, matching: u64, masking: u64, allowed: Cou
 }
 
 // A reserved bit, or an allowed set above all counters.
+#[tactic(auto, unfolding(requests::specs::Checks::out_of_range, requests::specs::Choice::either))]
 fn offcore_out_of_range(device: Device, word: u64, allowed: CounterSet) -> bool
     ensures { result ≡ out_of_range device (Request.Offcore word allowed) }
 {
@@ -136,6 +144,7 @@ fn offcore_out_of_range(device: Device, word: u64, allowed: CounterSet) -> bool
 }
 
 // A reserved type bit, or an allowed set above all counters.
+#[tactic(auto, unfolding(requests::specs::Checks::out_of_range, requests::specs::Choice::either))]
 fn latency_out_of_range(device: Device, types: u16, first: CounterSet, second: CounterSet) -> bool
     ensures { result ≡ out_of_range device (Request.Latency types first second) }
 {
@@ -149,6 +158,7 @@ fn latency_out_of_range(device: Device, types: u16, first: CounterSet, second: C
 }
 
 // 10: whether a mask, a bit or an allowed set is out of range.
+#[tactic(auto, unfolding(requests::specs::Lookup::listing_for))]
 fn out_of_range(device: Device, request: Request, listing: Listing) -> bool
     requires { listing ≡ listing_for device request }
     ensures { result ≡ out_of_range device request }
@@ -174,6 +184,7 @@ fn out_of_range(device: Device, request: Request, listing: Listing) -> bool
 }
 
 // 9: whether a mask, a request type or a response is missing.
+#[tactic(auto, unfolding(requests::specs::Lookup::listing_for, requests::specs::Checks::incomplete, requests::specs::Choice::both, requests::specs::Choice::either))]
 fn incomplete(device: Device, request: Request, listing: Listing) -> bool
     requires { listing ≡ listing_for device request }
     ensures { result ≡ incomplete device request }
@@ -197,6 +208,7 @@ fn incomplete(device: Device, request: Request, listing: Listing) -> bool
 }
 
 // Whether the word has bit 38, or bit 16 with an answer.
+#[tactic(auto, unfolding(requests::specs::Choice::either, requests::specs::Choice::both))]
 fn offcore_conflicting(word: u64) -> bool
     ensures { result ≡ either (any_bit (outstanding ∷ []) word) (both (any_bit (any_response ∷ []) word) (any_bit answer_bits word)) }
 {
@@ -210,6 +222,7 @@ fn offcore_conflicting(word: u64) -> bool
 }
 
 // 11: whether an offcore word asks for what does not go together.
+#[tactic(auto, unfolding(requests::specs::Checks::conflicting))]
 fn conflicting(device: Device, request: Request) -> bool
     ensures { result ≡ conflicting device request }
 {
@@ -222,6 +235,7 @@ fn conflicting(device: Device, request: Request) -> bool
 }
 
 // The first of the rows 7, 8, 10, 9, 11 that applies.
+#[tactic(auto, unfolding(requests::specs::Checks::request_rows, requests::specs::Checks::request_refusal, requests::specs::Refusals::answer_for))]
 pub fn request_refusal(setup: Setup, request: Request) -> Answer
     ensures { result ≡ answer_for (request_refusal setup request) }
 {

@@ -8,6 +8,7 @@ use crate::askings::{overflow_fits, overflow_not_on};
 use requests::{Answer, CounterSet, Device, Opened, Opening, Refusal, Setup};
 
 // How many counters the device has.
+#[tactic(auto, unfolding(requests::specs::Devices::counter_count))]
 pub fn counter_count(d: Device) -> u64
     ensures { result ≡ counter_count d }
 {
@@ -20,6 +21,7 @@ pub fn counter_count(d: Device) -> u64
 }
 
 // The set of all counters of the device.
+#[tactic(auto, unfolding(requests::specs::Devices::all_counters))]
 pub fn all_counters(d: Device) -> CounterSet
     ensures { result ≡ record { 0 = all_counters d } }
 {
@@ -28,6 +30,7 @@ pub fn all_counters(d: Device) -> CounterSet
 }
 
 // How many fixed counters the device has.
+#[tactic(auto, unfolding(requests::specs::Devices::fixed_count))]
 pub fn fixed_count(d: Device) -> u64
     ensures { result ≡ fixed_count d }
 {
@@ -40,6 +43,7 @@ pub fn fixed_count(d: Device) -> u64
 }
 
 // The enables of all fixed counters of the device.
+#[tactic(auto, unfolding(requests::specs::Devices::all_fixed))]
 pub fn all_fixed(d: Device) -> u64
     ensures { result ≡ all_fixed d }
 {
@@ -48,6 +52,7 @@ pub fn all_fixed(d: Device) -> u64
 }
 
 // The code of the device's letter.
+#[tactic(auto, unfolding(requests::specs::Devices::letter_of))]
 pub fn letter_of(d: Device) -> u64
     ensures { result ≡ letter_of d }
 {
@@ -60,6 +65,7 @@ pub fn letter_of(d: Device) -> u64
 }
 
 // How many boxes the device has.
+#[tactic(auto, unfolding(requests::specs::Devices::box_count))]
 pub fn box_count(d: Device) -> u64
     ensures { result ≡ box_count d }
 {
@@ -72,6 +78,7 @@ pub fn box_count(d: Device) -> u64
 }
 
 // The number of the box: 0 on a device without boxes.
+#[tactic(auto, unfolding(requests::specs::Devices::box_of))]
 pub fn box_of(d: Device) -> u64
     ensures { result ≡ box_of d }
 {
@@ -84,6 +91,7 @@ pub fn box_of(d: Device) -> u64
 }
 
 // A device of each letter, where the box has the number.
+#[tactic(auto, unfolding(requests::specs::Devices::devices))]
 pub fn devices(cbox: u64) -> [Device; 4]
     ensures { result ≡ devices cbox }
 {
@@ -91,6 +99,7 @@ pub fn devices(cbox: u64) -> [Device; 4]
 }
 
 // Whether the device has packet requests.
+#[tactic(auto, unfolding(requests::specs::Devices::packets_on))]
 pub fn packets_on(d: Device) -> bool
     ensures { result ≡ packets_on d }
 {
@@ -103,6 +112,7 @@ pub fn packets_on(d: Device) -> bool
 }
 
 // Whether the device has offcore and latency requests.
+#[tactic(auto, unfolding(requests::specs::Devices::offcore_on))]
 pub fn offcore_on(d: Device) -> bool
     ensures { result ≡ offcore_on d }
 {
@@ -115,6 +125,7 @@ pub fn offcore_on(d: Device) -> bool
 }
 
 // Whether an event is judged as a pair of code and mask.
+#[tactic(auto, unfolding(requests::specs::Devices::pairs_judged))]
 pub fn pairs_judged(d: Device) -> bool
     ensures { result ≡ pairs_judged d }
 {
@@ -127,6 +138,7 @@ pub fn pairs_judged(d: Device) -> bool
 }
 
 // Whether a usable set has a counter, and none past the device's.
+#[tactic(auto, unfolding(requests::specs::Devices::usable_set, requests::specs::Choice::both))]
 pub fn usable_set(d: Device, usable: CounterSet) -> bool
     ensures { result ≡ usable_set d usable }
 {
@@ -139,6 +151,7 @@ pub fn usable_set(d: Device, usable: CounterSet) -> bool
 }
 
 // Whether the device has the counters, the fixed enables and the box that are given beside its letter.
+#[tactic(auto, unfolding(requests::specs::Devices::opens, requests::specs::Choice::both))]
 fn opens(d: Device, o: Opening) -> bool
     ensures { result ≡ opens d o }
 {
@@ -152,6 +165,7 @@ fn opens(d: Device, o: Opening) -> bool
 }
 
 // How the device answers an opening.
+#[tactic(auto, unfolding(requests::specs::Devices::rows_where, requests::specs::Devices::opening_rows, requests::specs::Refusals::answer_for))]
 fn opening_answer(d: Device, o: Opening) -> Answer
     ensures { result ≡ answer_for (first_holding (opening_rows d o)) }
 {
@@ -169,6 +183,7 @@ fn opening_answer(d: Device, o: Opening) -> Answer
 }
 
 // What a device opens with what is given beside its letter.
+#[tactic(auto, unfolding(requests::specs::Devices::opened_on, requests::specs::Devices::setup_on))]
 fn opened_on(d: Device, o: Opening) -> Opened
     ensures { result ≡ opened_on d o (first_holding (opening_rows d o)) }
 {
@@ -189,6 +204,7 @@ fn opened_on(d: Device, o: Opening) -> Opened
 }
 
 // What the opening opens, or why none.
+#[tactic(auto, unfolding(requests::specs::Devices::device_of))]
 pub fn setup_of(o: Opening) -> Opened
     ensures { result ≡ opened_by o }
 {
@@ -206,6 +222,7 @@ pub fn setup_of(o: Opening) -> Opened
 }
 
 // The opening that a setup is of: its device by its letter, and the rest as it stands.
+#[tactic(auto, unfolding(requests::specs::Devices::opening_of))]
 pub fn opening_of(s: Setup) -> Opening
     ensures { result ≡ opening_of s }
 {

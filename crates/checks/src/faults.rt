@@ -8,6 +8,7 @@ use crate::fields::{opening_fields, request_fields};
 use requests::{Answer, Checked, Fault, Fields, Opened, Opening, Refusal, Request, Setup};
 
 // The field at fault under a refusal of a call with these fields.
+#[tactic(auto, unfolding(requests::specs::Faults::field_of))]
 pub fn field_of(x: Refusal, fields: Fields) -> usize
     ensures { result ≡ field_of x fields }
 {
@@ -31,6 +32,7 @@ pub fn field_of(x: Refusal, fields: Fields) -> usize
 }
 
 // The field at fault of an answer, 0 where the call is accepted.
+#[tactic(auto, unfolding(requests::specs::Faults::answer_field))]
 pub fn answer_field(answer: Answer, fields: Fields) -> usize
     ensures { result ≡ answer_field answer fields }
 {

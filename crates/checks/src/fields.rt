@@ -8,6 +8,7 @@ use crate::devices::{all_fixed, box_count, devices, letter_of, usable_set};
 use requests::{CounterSet, Device, Fields, Opening, Request};
 
 // Where an event is refused with 10: the mask, or the allowed set.
+#[tactic(auto, unfolding(requests::specs::Faults::range_field, requests::specs::Choice::both))]
 fn event_range_field(device: Device, code: u8, mask: u8, allowed: CounterSet) -> usize
     ensures { result ≡ range_field device (Request.Event code mask allowed) }
 {
@@ -21,6 +22,7 @@ fn event_range_field(device: Device, code: u8, mask: u8, allowed: CounterSet) ->
 }
 
 // Where a packet request is refused with 10: the match word, the mask word, or the allowed set.
+#[tactic(auto, unfolding(requests::specs::Faults::range_field))]
 fn packet_range_field(device: Device, matching: u64, masking: u64, allowed: CounterSet) -> usize
     ensures { result ≡ range_field device (Request.Packet matching masking allowed) }
 {
@@ -34,6 +36,7 @@ fn packet_range_field(device: Device, matching: u64, masking: u64, allowed: Coun
 }
 
 // Where an offcore request is refused with 10: the word, or the allowed set.
+#[tactic(auto, unfolding(requests::specs::Faults::range_field))]
 fn offcore_range_field(device: Device, word: u64, allowed: CounterSet) -> usize
     ensures { result ≡ range_field device (Request.Offcore word allowed) }
 {
@@ -44,6 +47,7 @@ fn offcore_range_field(device: Device, word: u64, allowed: CounterSet) -> usize
 }
 
 // Where a latency request is refused with 10: the type, or the first of the allowed sets that is too wide.
+#[tactic(auto, unfolding(requests::specs::Faults::range_field))]
 fn latency_range_field(device: Device, types: u16, first: CounterSet, second: CounterSet) -> usize
     ensures { result ≡ range_field device (Request.Latency types first second) }
 {
@@ -81,6 +85,7 @@ fn range_field(device: Device, request: Request) -> usize
 }
 
 // Where a request is refused with 9.
+#[tactic(auto, unfolding(requests::specs::Faults::lack_field))]
 fn lack_field(request: Request) -> usize
     ensures { result ≡ lack_field request }
 {
@@ -93,6 +98,7 @@ fn lack_field(request: Request) -> usize
 }
 
 // The fields of a request that is added.
+#[tactic(auto, unfolding(requests::specs::Faults::request_fields))]
 pub fn request_fields(device: Device, request: Request) -> Fields
     ensures { result ≡ request_fields device request }
 {
@@ -104,6 +110,7 @@ pub fn request_fields(device: Device, request: Request) -> Fields
 }
 
 // The field of the freeze: behind the box, where the device has several.
+#[tactic(auto, unfolding(requests::specs::Faults::freeze_field))]
 fn freeze_field(d: Device) -> usize
     ensures { result ≡ freeze_field d }
 {
@@ -114,6 +121,7 @@ fn freeze_field(d: Device) -> usize
 }
 
 // Where the device refuses an opening with 3: the usable set, the fixed enables, or the box.
+#[tactic(auto, unfolding(requests::specs::Faults::opening_field))]
 fn opening_field(d: Device, o: Opening) -> usize
     ensures { result ≡ opening_field d o }
 {
@@ -128,6 +136,7 @@ fn opening_field(d: Device, o: Opening) -> usize
 }
 
 // Where the device refuses an opening with 10: the freeze, or the core behind it.
+#[tactic(auto, unfolding(requests::specs::Faults::asking_field))]
 fn asking_field(d: Device, o: Opening) -> usize
     ensures { result ≡ asking_field d o }
 {
@@ -140,6 +149,7 @@ fn asking_field(d: Device, o: Opening) -> usize
 }
 
 // The fields of an open with the device's letter.
+#[tactic(auto, unfolding(requests::specs::Faults::fields_on))]
 fn fields_on(d: Device, o: Opening) -> Fields
     ensures { result ≡ fields_on d o }
 {
@@ -151,6 +161,7 @@ fn fields_on(d: Device, o: Opening) -> Fields
 }
 
 // The fields of an open: the letter, where no device has it.
+#[tactic(auto, unfolding(requests::specs::Devices::device_of))]
 pub fn opening_fields(o: Opening) -> Fields
     ensures { result ≡ opening_fields o }
 {
@@ -172,6 +183,7 @@ pub fn opening_fields(o: Opening) -> Fields
 }
 
 // The fields of several turns at once: their number.
+#[tactic(auto, unfolding(requests::specs::Faults::turns_fields))]
 pub fn turns_fields() -> Fields
     ensures { result ≡ turns_fields }
 {
@@ -183,6 +195,7 @@ pub fn turns_fields() -> Fields
 }
 
 // The fields of a drop or a turn.
+#[tactic(auto, unfolding(requests::specs::Faults::no_fields))]
 pub fn no_fields() -> Fields
     ensures { result ≡ no_fields }
 {

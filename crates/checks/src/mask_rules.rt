@@ -69,6 +69,7 @@ fn is_among(masks: &[u8], mask: u8) -> bool
 }
 
 // Whether the unit mask is in the range.
+#[tactic(auto, unfolding(requests::specs::MaskRules::allows, requests::specs::Choice::both))]
 fn in_range(low: u8, high: u8, mask: u8) -> bool
     ensures { result ≡ allows (range low high) mask }
 {
@@ -79,6 +80,7 @@ fn in_range(low: u8, high: u8, mask: u8) -> bool
 }
 
 // Whether the row lists the unit mask.
+#[tactic(auto, unfolding(requests::specs::Lookup::row_allows, requests::specs::MaskRules::allows, requests::specs::Bits::in_list, requests::specs::Lookup::rule_at, requests::specs::Lookup::mask_rules, requests::specs::CBoxEvents::sink_masks, requests::specs::CBoxEvents::ring_masks, requests::specs::CBoxEvents::starved_masks, requests::specs::CBoxEvents::bypass_masks))]
 pub fn lists(row: u16, mask: u8) -> bool
     ensures { result ≡ row_allows row mask }
 {

@@ -5,6 +5,7 @@ ghost use Rattle.requests.specs.EventRules.{rule_on_b, has_rules, rule_of, rule_
 use requests::{Device, EventRule, Request};
 
 // The rule of an event on B: C0/01 is INST_RETIRED.ALL in its PDIR use, CD/02 MEM_TRANS_RETIRED.PRECISE_STORE.
+#[tactic(auto, unfolding(requests::specs::EventRules::rule_on_b, requests::specs::Choice::both))]
 fn rule_on_b(code: u8, mask: u8) -> EventRule
     ensures { result ≡ rule_on_b code mask }
 {
@@ -23,6 +24,7 @@ fn rule_on_b(code: u8, mask: u8) -> EventRule
 }
 
 // Whether some event of the device has a rule.
+#[tactic(auto, unfolding(requests::specs::EventRules::has_rules))]
 pub fn has_rules(device: Device) -> bool
     ensures { result ≡ has_rules device }
 {
@@ -35,6 +37,7 @@ pub fn has_rules(device: Device) -> bool
 }
 
 // The rule of an event.
+#[tactic(auto, unfolding(requests::specs::EventRules::rule_of))]
 pub fn rule_of(device: Device, code: u8, mask: u8) -> EventRule
     ensures { result ≡ rule_of device code mask }
 {
@@ -45,6 +48,7 @@ pub fn rule_of(device: Device, code: u8, mask: u8) -> EventRule
 }
 
 // The rule of a request.
+#[tactic(auto, unfolding(requests::specs::EventRules::rule_for))]
 pub fn rule_for(device: Device, request: Request) -> EventRule
     ensures { result ≡ rule_for device request }
 {

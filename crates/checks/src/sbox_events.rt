@@ -14,6 +14,7 @@ pub const S_EVENTS: [u16; 6] = [
 ];
 
 // A row: the one place where the table is read.
+#[tactic(auto, unfolding(requests::specs::Lookup::rows_of, requests::specs::Catalogue::events_of, requests::specs::Lookup::row_of, requests::specs::Lookup::mask_rules, requests::specs::Lookup::place_of, requests::specs::Lookup::same_rule, requests::specs::Lookup::same_numbers, requests::specs::Choice::both, requests::specs::CBoxEvents::sink_masks, requests::specs::CBoxEvents::ring_masks, requests::specs::CBoxEvents::starved_masks, requests::specs::CBoxEvents::bypass_masks))]
 pub fn row_at(at: usize) -> u16
     requires { at < length (rows_of Device.S) }
     ensures { result ≡ get_or (rows_of Device.S) at 0 }

@@ -5,6 +5,7 @@ ghost use Rattle.requests.specs.Devices.{has, size};
 use requests::CounterSet;
 
 // Whether the set has the counter. No set of 64 bits has a counter above 63.
+#[tactic(auto, unfolding(requests::specs::Devices::has, requests::specs::Bits::bit))]
 pub fn has(set: CounterSet, counter: u64) -> bool
     ensures { result ≡ has set counter }
 {
@@ -15,6 +16,7 @@ pub fn has(set: CounterSet, counter: u64) -> bool
 }
 
 // How many counters below count the set has.
+#[tactic(auto, unfolding(requests::specs::Devices::size))]
 pub fn size_of(count: u64, set: CounterSet) -> usize
     ensures { result ≡ size count set }
 {
