@@ -1,5 +1,5 @@
 -- The counters that a plan leaves free, one place after another, and the least of them that an event allows. Assumes nothing.
-use mathlib.Core.Path.{◌≡◌, refl, sym, ap, ◌∙◌, subst}
+use mathlib.Core.Path.{◌≡◌, refl, sym, ◌∙◌, subst}
 use mathlib.Core.Logic.{◌≢◌}
 use mathlib.Core.List.{List, [], ◌∷◌, ◌++◌, flat_map, Memᴰ}
 use mathlib.Core.Bool.{Bool, true, false, not, false≢true}
@@ -25,7 +25,7 @@ use Rattle.plans.specs.declared.Place.{Place}
 use Rattle.plans.specs.Lists.{All, nil, cons, empty, add, OneValue, none, and}
 use Rattle.plans.specs.declared.Place.TheVariants.{Counter, WithRsp}
 use Rattle.plans.specs.Places.{counted_of, counters_of}
-use Rattle.plans.specs.Legal.{event, packet, offcore, Usable, words_of, packets_of, of_all, counters, Legal, HasPlan}
+use Rattle.plans.specs.Legal.{event, packet, offcore, words_of, packets_of, of_all, counters, Legal, HasPlan}
 use Rattle.plans.specs.Narrowed.{any_lone}
 use Rattle.search.specs.Rows.{set_of}
 use Rattle.search.specs.Counters.{available, NextIn, without}
@@ -185,6 +185,7 @@ module _ (s : Setup) where
     where
       lone : (q : Request) → Memᴰ q (r ∷ []) → ¬ Lone s.device q
       lone q (Memᴰ.head e) l = let c = ruled_events.counted s.device r (subst (Lone s.device) e l) in free c.0 c.1
+      lone q (mathlib.Core.List.Memᴰ.tail x5) l = elim x5 [ ]
 
   pub event_alone : (c m : ℕ) (a : CounterSet) → is_anywhere (rule_of s.device c m) ≡ true → AnyUsable s a → HasPlan s (Event c m a ∷ [])
   unfolding counters counters_of counted_of of_all words_of packets_of flat_map

@@ -1,7 +1,7 @@
 -- The places of a request tried in order give the plan of the requests that remain. Assumes nothing.
 use mathlib.Core.Path.{◌≡◌, refl, sym, ◌∙◌}
 use mathlib.Core.Bool.{Bool, true, false}
-use mathlib.Core.List.{List, [], ◌∷◌}
+use mathlib.Core.List.{List}
 use mathlib.Core.Option.{Option, none, some}
 use Prim.Native.Nat.{ℕ, zero, suc, ◌+◌, ◌-◌, ◌*◌, ◌/◌, ◌%◌, ◌<◌, ◌≤◌}
 use native.Mathlib.Nat.{mul-le-mul, sub-zero, suc-mul, mul-one, le_refl, le-div_iff_mul-le, div-lt_iff_lt-mul}
@@ -11,7 +11,7 @@ use lib.Arith.{digits_lt, digits_div, digits_mod}
 use Rattle.requests.specs.declared.CounterSet.{CounterSet}
 use Rattle.requests.specs.declared.Setup.{Setup}
 use Rattle.requests.specs.declared.Request.{Request}
-use Rattle.requests.specs.declared.Request.TheVariants.{Event, Packet, Offcore, Latency}
+use Rattle.requests.specs.declared.Request.TheVariants.{Event, Packet}
 use Rattle.requests.specs.Choice.{both, pick}
 use Rattle.requests.specs.Devices.{has, counter_count}
 use Rattle.plans.specs.declared.Place.{Place}

@@ -6,6 +6,7 @@ ghost use Rattle.search.specs.Counters.{available, NextIn, without};
 use requests::CounterSet;
 
 // The counters that are allowed and free.
+#[tactic(auto, unfolding(crate::specs::Counters::available, requests::specs::Devices::has))]
 pub fn available(allowed: CounterSet, free: CounterSet) -> CounterSet
     ensures { (k : ℕ) → has result k ≡ available allowed free k }
 {

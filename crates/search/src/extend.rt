@@ -27,6 +27,7 @@ fn except(set: CounterSet, k: u64) -> CounterSet
 }
 
 // The counters that a place leaves of a set.
+#[tactic(auto, unfolding(plans::specs::Places::counters_of, plans::specs::Places::counted_of))]
 fn except_place(set: CounterSet, place: Place) -> CounterSet
     ensures { Without set (counters_of place) result }
 {
@@ -48,6 +49,7 @@ fn own_counters(setup: Setup) -> CounterSet
 }
 
 // The counters that a packed plan of the first `count` rows leaves free.
+#[tactic(auto, unfolding(crate::specs::Rows::rows_from, plans::specs::Packed::places_from))]
 fn free_beside(setup: Setup, code: u64, rows: &[u64; ROW_NUMBERS], count: usize) -> CounterSet
     requires { count ≤ 8 }
     ensures { LeftFree setup (places_from code 0 (rows_from rows.now 0 count)) result }

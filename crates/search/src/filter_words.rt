@@ -20,6 +20,7 @@ fn holds(register: Register, word: u64) -> bool
 }
 
 // Whether the match/mask register can hold the words.
+#[tactic(auto, unfolding(requests::specs::Choice::both))]
 fn holds_both(filter: Filter, x: u64, y: u64) -> bool
     ensures { result ≡ holds_packet filter x y }
 {
@@ -35,6 +36,7 @@ fn holds_both(filter: Filter, x: u64, y: u64) -> bool
 }
 
 // Nothing is asked for.
+#[tactic(auto, unfolding(plans::specs::FilterWords::none_asked))]
 fn none_asked() -> Asked
     ensures { result ≡ none_asked }
 {
@@ -47,6 +49,7 @@ fn none_asked() -> Asked
 }
 
 // One word more, in the first of both registers that can hold it.
+#[tactic(auto, unfolding(plans::specs::FilterWords::ask_word))]
 fn ask_word(word: u64, asked: Asked) -> Asked
     ensures { result ≡ ask_word word asked }
 {
@@ -78,6 +81,7 @@ fn ask_word(word: u64, asked: Asked) -> Asked
 }
 
 // One match and mask more.
+#[tactic(auto, unfolding(plans::specs::FilterWords::ask_packet))]
 fn ask_packet(x: u64, y: u64, asked: Asked) -> Asked
     ensures { result ≡ ask_packet x y asked }
 {
@@ -101,6 +105,7 @@ fn ask_packet(x: u64, y: u64, asked: Asked) -> Asked
 }
 
 // What one request more asks for.
+#[tactic(auto, unfolding(plans::specs::FilterWords::asked_by))]
 fn asked_by(request: Request, asked: Asked) -> Asked
     ensures { result ≡ asked_by request asked }
 {
@@ -120,6 +125,7 @@ fn asked_by(request: Request, asked: Asked) -> Asked
 }
 
 // Whether the requests in the first `count` rows ask for more words than the registers hold.
+#[tactic(auto, unfolding(plans::specs::FilterWords::crowded, crate::specs::Rows::rows_from, plans::specs::FilterWords::asked_from))]
 fn crowded(rows: &[u64; ROW_NUMBERS], count: usize) -> bool
     requires { count ≤ 8 }
     ensures { result ≡ crowded (rows_from rows.now 0 count) }

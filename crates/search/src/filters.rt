@@ -8,6 +8,7 @@ use checks::bits::latency_word;
 use requests::Request;
 
 // The word that the offcore or latency request in row `at` asks of an RSP register.
+#[tactic(auto, unfolding(crate::specs::Filters::word_at))]
 fn word_at(rows: &[u64; ROW_NUMBERS], rsp: u64, at: usize) -> u64
     requires { at < 8 }
     ensures { result ≡ word_at rows.now rsp at }
@@ -21,6 +22,7 @@ fn word_at(rows: &[u64; ROW_NUMBERS], rsp: u64, at: usize) -> u64
 }
 
 // Whether the match and the mask that a request asks for, if any, are these.
+#[tactic(auto, unfolding(requests::specs::Choice::both))]
 fn same_packet(request: Request, x: u64, y: u64) -> bool
     ensures { result ≡ holds_packet (asked_packet request) x y }
 {

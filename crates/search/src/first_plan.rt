@@ -11,6 +11,7 @@ use crate::rows::{ROW_NUMBERS, put_request};
 use requests::{CAPACITY, Request, Setup};
 
 // The rows become the first `count` requests.
+#[tactic(auto, unfolding(crate::specs::Rows::rows_from))]
 fn put_requests(rows: &mut [u64; ROW_NUMBERS], requests: [Request; CAPACITY], count: usize)
     requires { (count ≤ 8) × (length rows.old ≡ 32) }
     ensures { rows_from rows.new 0 count ≡ take count requests }

@@ -17,7 +17,7 @@ use requests::CounterSet;
 
 // The plan from row `at` on, where a latency request stands: each first counter that is allowed and free is tried in order, and the second
 // is placed behind it like that of a request which takes one counter.
-#[cycle(place_latency_place_offcore_place_counter_place_from)]
+#[cycle(placing)]
 pub fn place_latency(
     n: u64,
     rows: &[u64; ROW_NUMBERS],

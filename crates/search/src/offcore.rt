@@ -16,7 +16,7 @@ use requests::CounterSet;
 
 // The plan from row `at` on, where an offcore request stands: each counter that is allowed and free is tried in order, with RSP0 and then
 // with RSP1.
-#[cycle(place_latency_place_offcore_place_counter_place_from)]
+#[cycle(placing)]
 pub fn place_offcore(
     n: u64,
     rows: &[u64; ROW_NUMBERS],

@@ -11,6 +11,7 @@ use plans::Place;
 use requests::{CAPACITY, Request};
 
 // The place of a request at counter k with register or second counter j.
+#[tactic(auto, unfolding(plans::specs::Search::place_of))]
 fn place_of(request: Request, k: u64, j: u64) -> Place
     ensures { result ≡ place_of request k j }
 {
@@ -38,6 +39,7 @@ fn place_of(request: Request, k: u64, j: u64) -> Place
 }
 
 // The place of the request whose number in the packed plan is i.
+#[tactic(auto, unfolding(plans::specs::Packed::place_at_lem))]
 pub fn place_at(code: u64, i: usize, request: Request) -> Place
     requires { i < 8 }
     ensures { result ≡ place_at_lem code i request }
@@ -47,6 +49,7 @@ pub fn place_at(code: u64, i: usize, request: Request) -> Place
 }
 
 // The places of the requests in the first `count` rows, in their array.
+#[tactic(auto, unfolding(crate::specs::Rows::rows_from, plans::specs::Packed::places_from, crate::specs::Found::given, crate::specs::Found::nothing, requests::specs::Devices::capacity))]
 pub fn places_of(code: u64, rows: &[u64; ROW_NUMBERS], count: usize) -> [Given; CAPACITY]
     requires { count ≤ 8 }
     ensures { result ≡ given (places_from code 0 (rows_from rows.now 0 count)) }

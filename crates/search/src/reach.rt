@@ -6,6 +6,7 @@ use checks::set::has;
 use requests::{CounterSet, Request};
 
 // The sets that have counter k.
+#[tactic(auto, unfolding(plans::specs::Reach::sets_with))]
 fn sets_with(k: u64) -> u64
     requires { k < 6 }
     ensures { result ≡ sets_with k }
@@ -21,6 +22,7 @@ fn sets_with(k: u64) -> u64
 }
 
 // The sets that are left when counter k is taken from those that have it: the set f becomes f - 2^k.
+#[tactic(auto, unfolding(plans::specs::Reach::taking))]
 fn taking(k: u64, sets: u64) -> u64
     requires { k < 6 }
     ensures { result ≡ taking k sets }
@@ -30,6 +32,7 @@ fn taking(k: u64, sets: u64) -> u64
 }
 
 // The sets that are left when one of the allowed counters below n is taken.
+#[tactic(auto, unfolding(plans::specs::Reach::taking_one))]
 fn taking_one(n: u64, allowed: CounterSet, sets: u64) -> u64
     requires { n ≤ 6 }
     ensures { result ≡ taking_one n allowed sets }
@@ -48,6 +51,7 @@ fn taking_one(n: u64, allowed: CounterSet, sets: u64) -> u64
 }
 
 // The sets that a request leaves, on n counters.
+#[tactic(auto, unfolding(plans::specs::Reach::left_by))]
 pub fn left_by(n: u64, request: Request, sets: u64) -> u64
     requires { n ≤ 6 }
     ensures { result ≡ left_by n request sets }

@@ -16,7 +16,7 @@ use requests::{CounterSet, Request};
 
 // The plan of a request that takes one counter, and of the rest from row `next` on: each counter that is allowed and free is tried in
 // order.
-#[cycle(place_latency_place_offcore_place_counter_place_from)]
+#[cycle(placing)]
 pub fn place_counter(
     n: u64,
     rows: &[u64; ROW_NUMBERS],
@@ -42,7 +42,7 @@ pub fn place_counter(
 }
 
 // The plan from row `at` on: that row's request is given each of its places in order, and the rest is planned in the room that is left.
-#[cycle(place_latency_place_offcore_place_counter_place_from)]
+#[cycle(placing)]
 pub fn place_from(n: u64, rows: &[u64; ROW_NUMBERS], count: usize, at: usize, left: Left) -> u64
     requires { (count ≤ 8) × (at ≤ count) × InRows left × OnCounters n left }
     ensures { result ≡ packed (plan_from n rows.now at count (room_of rows.now left)) }

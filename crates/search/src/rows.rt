@@ -18,6 +18,7 @@ pub const OFFCORE: u64 = 2;
 const LATENCY: u64 = 3;
 
 // The request of four numbers.
+#[tactic(auto, unfolding(crate::specs::Rows::request_of))]
 pub fn request_of(kind: u64, a: u64, b: u64, c: u64) -> Request
     ensures { result ≡ request_of kind a b c }
 {
@@ -49,6 +50,7 @@ pub fn request_of(kind: u64, a: u64, b: u64, c: u64) -> Request
 }
 
 // The request of row `at`.
+#[tactic(auto, unfolding(crate::specs::Rows::request_at))]
 pub fn request_at(rows: &[u64; ROW_NUMBERS], at: usize) -> Request
     requires { at < 8 }
     ensures { result ≡ request_at rows.now at }
@@ -68,6 +70,7 @@ fn row(kind: u64, a: u64, b: u64, c: u64) -> Row
 }
 
 // The row of a request, which reads back as it.
+#[tactic(auto, unfolding(crate::specs::Rows::set_request, crate::specs::Rows::request_of))]
 pub fn row_of(request: Request) -> Row
     ensures c_value { request_of result.kind result.a result.b result.c ≡ request }
     ensures by_index { (rows : List ℕ) (at : ℕ) → set_row rows at result.kind result.a result.b result.c ≡ set_request rows at request }
@@ -93,6 +96,7 @@ pub fn row_of(request: Request) -> Row
 }
 
 // Row `at` becomes the request, and reads back as it.
+#[tactic(auto, unfolding(crate::specs::Rows::set_row))]
 pub fn put_request(rows: &mut [u64; ROW_NUMBERS], at: usize, request: Request)
     requires { (at < 8) × (length rows.old ≡ 32) }
     ensures rows_after { rows.new ≡ set_request rows.old at request }

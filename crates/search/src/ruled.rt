@@ -13,6 +13,7 @@ use checks::set::has;
 use requests::{CounterSet, Device, EventRule, Request};
 
 // Counter k alone, where the set has it.
+#[tactic(auto, unfolding(plans::specs::Narrowed::only_counter))]
 fn only_counter(k: u64, set: CounterSet) -> CounterSet
     ensures { result ≡ only_counter k set }
 {
@@ -23,6 +24,7 @@ fn only_counter(k: u64, set: CounterSet) -> CounterSet
 }
 
 // The allowed counters on which the rule lets an event run.
+#[tactic(auto, unfolding(plans::specs::Narrowed::allowed_by))]
 fn allowed_by(rule: EventRule, allowed: CounterSet) -> CounterSet
     ensures { result ≡ allowed_by rule allowed }
 {
@@ -34,6 +36,7 @@ fn allowed_by(rule: EventRule, allowed: CounterSet) -> CounterSet
 }
 
 // The request with those.
+#[tactic(auto, unfolding(plans::specs::Narrowed::narrowed))]
 fn narrowed(device: Device, request: Request) -> Request
     ensures { result ≡ narrowed device request }
 {
@@ -54,6 +57,7 @@ fn narrowed(device: Device, request: Request) -> Request
 }
 
 // The other rows become the narrowed requests of the first `count` rows.
+#[tactic(auto, unfolding(crate::specs::Rows::rows_from))]
 pub fn narrow_rows(
     device: Device,
     rows: &[u64; ROW_NUMBERS],
@@ -72,6 +76,7 @@ pub fn narrow_rows(
 }
 
 // Whether the rule wants every other counter quiet.
+#[tactic(auto, unfolding(requests::specs::EventRules::wants_quiet))]
 fn wants_quiet(rule: EventRule) -> bool
     ensures { result ≡ wants_quiet rule }
 {
@@ -83,6 +88,7 @@ fn wants_quiet(rule: EventRule) -> bool
 }
 
 // Whether a request in the first `count` rows wants every other counter quiet.
+#[tactic(auto, unfolding(plans::specs::Narrowed::any_lone, crate::specs::Rows::rows_from))]
 fn any_lone(device: Device, rows: &[u64; ROW_NUMBERS], count: usize) -> bool
     requires { count ≤ 8 }
     ensures { result ≡ any_lone device (rows_from rows.now 0 count) }
@@ -99,6 +105,7 @@ fn any_lone(device: Device, rows: &[u64; ROW_NUMBERS], count: usize) -> bool
 }
 
 // Whether the rule lets an event run on every counter.
+#[tactic(auto, unfolding(crate::specs::Beside::is_anywhere))]
 pub fn runs_anywhere(rule: EventRule) -> bool
     ensures { result ≡ is_anywhere rule }
 {
@@ -110,6 +117,7 @@ pub fn runs_anywhere(rule: EventRule) -> bool
 }
 
 // Whether an event may run on every counter, and beside each of the requests in the first `count` rows.
+#[tactic(auto, unfolding(crate::specs::Beside::may_follow, requests::specs::Choice::both))]
 pub fn may_follow(
     device: Device,
     rows: &[u64; ROW_NUMBERS],
