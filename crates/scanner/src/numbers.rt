@@ -7,6 +7,7 @@ use grammar::Number;
 use requests::Core;
 
 // The value of a digit 0 to 9 or A to F, and 16 for any other byte.
+#[tactic(auto, unfolding(grammar::specs::Numbers::digit_of))]
 fn digit(b: u8) -> u64
     ensures is { result ≡ digit_of b }
     ensures bounded { result ≤ 16 }
@@ -45,6 +46,7 @@ fn digits(field: &[u8], base: u64) -> Number
 }
 
 // A decimal of 1 to 5 digits, with no leading zero.
+#[tactic(auto, unfolding(grammar::specs::Numbers::decimal_of, requests::specs::Choice::both))]
 pub fn decimal(field: &[u8]) -> Number
     ensures { result ≡ decimal_of field.now }
 {
@@ -64,6 +66,7 @@ pub fn decimal(field: &[u8]) -> Number
 }
 
 // A core as a number: 0 for `-`, and one more than a decimal.
+#[tactic(auto, unfolding(grammar::specs::Numbers::core_number_of, grammar::specs::Text::bytes))]
 pub fn core_number(field: &[u8]) -> Number
     ensures { result ≡ core_number_of field.now }
 {
@@ -77,6 +80,7 @@ pub fn core_number(field: &[u8]) -> Number
 }
 
 // The core that the number stands for.
+#[tactic(auto, unfolding(grammar::specs::Numbers::core_of))]
 pub fn core_of(number: u64) -> Core
     ensures { result ≡ core_of number }
 {
@@ -87,6 +91,7 @@ pub fn core_of(number: u64) -> Core
 }
 
 // A hex number of exactly `width` digits, at most 16.
+#[tactic(auto, unfolding(grammar::specs::Numbers::hex_of))]
 pub fn hex(field: &[u8], width: usize) -> Number
     requires { width ≤ 16 }
     ensures { result ≡ hex_of width field.now }

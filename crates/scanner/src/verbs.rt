@@ -13,6 +13,7 @@ use grammar::{Lettered, Number, Parsed, Record};
 use requests::{CounterSet, Device, Overflow, Request, Setup};
 
 // Whether a line is closed by a newline after n fields.
+#[tactic(auto, unfolding(requests::specs::Choice::both))]
 pub fn is_whole(count: usize, closed: bool, n: usize) -> bool
     ensures { result ≡ both closed (eqb count n) }
 {
@@ -60,6 +61,7 @@ fn numbers_of(
 }
 
 // The numbers behind a device's letter.
+#[tactic(auto, unfolding(grammar::specs::Verbs::open_formats))]
 fn open_numbers(text: &[u8], parts: Parts, closed: bool, device: Device) -> LineNumbers
     requires { Parted text.now parts }
     ensures { Numbered 2 (open_formats device) text.now closed result }
@@ -79,6 +81,7 @@ fn open_numbers(text: &[u8], parts: Parts, closed: bool, device: Device) -> Line
 }
 
 // The record that opens a device with these numbers.
+#[tactic(auto, unfolding(grammar::specs::Verbs::open_as))]
 fn open_as(device: Device, usable: u64, fixed: u64, freeze: u64, core: u64) -> Record
     ensures { result ≡ open_as device usable fixed freeze core }
 {
@@ -95,6 +98,7 @@ fn open_as(device: Device, usable: u64, fixed: u64, freeze: u64, core: u64) -> R
 }
 
 // The record that a device and the numbers behind its letter make: on C the box stands before the last two.
+#[tactic(auto, unfolding(grammar::specs::Verbs::open_with))]
 fn open_with(device: Device, usable: u64, fixed: u64, third: u64, fourth: u64, fifth: u64) -> Record
     ensures { result ≡ open_with device usable fixed third fourth fifth }
 {
@@ -107,6 +111,7 @@ fn open_with(device: Device, usable: u64, fixed: u64, third: u64, fourth: u64, f
 }
 
 // `open` with a device that is known.
+#[tactic(auto, unfolding(grammar::specs::Verbs::open_on))]
 fn open_on(text: &[u8], parts: Parts, closed: bool, device: Device) -> Parsed
     requires { Parted text.now parts }
     ensures { result ≡ open_on text.now closed device }
@@ -120,6 +125,7 @@ fn open_on(text: &[u8], parts: Parts, closed: bool, device: Device) -> Parsed
 }
 
 // `open` letter usable fixed, box on C, freeze core
+#[tactic(auto, unfolding(grammar::specs::Verbs::open_line))]
 pub fn open_line(text: &[u8], parts: Parts, closed: bool) -> Parsed
     requires { Parted text.now parts }
     ensures { result ≡ open_line text.now closed }
@@ -202,6 +208,7 @@ pub fn latency_line(text: &[u8], parts: Parts, closed: bool) -> Parsed
 }
 
 // `drop` id
+#[tactic(auto, unfolding(grammar::specs::Verbs::drop_line))]
 pub fn drop_line(text: &[u8], parts: Parts, closed: bool) -> Parsed
     requires { Parted text.now parts }
     ensures { result ≡ drop_line text.now closed }
@@ -213,6 +220,7 @@ pub fn drop_line(text: &[u8], parts: Parts, closed: bool) -> Parsed
 }
 
 // `turn`
+#[tactic(auto, unfolding(grammar::specs::Verbs::turn_line))]
 pub fn turn_line(text: &[u8], parts: Parts, closed: bool) -> Parsed
     requires { Parted text.now parts }
     ensures { result ≡ turn_line text.now closed }

@@ -1,0 +1,8 @@
+use Rattle.scanner.proofs.NumberLines.{offcore_line_lem}
+use Rattle.scanner.proofs.verbs.offcore_line.Goals as goal
+
+pub returns-in-Fault : goal.returns-in-Fault
+returns-in-Fault c = rw (offcore_line_lem c.numbers_of.ensures, c.in-Fault.is)
+
+pub returns-in-Read : goal.returns-in-Read
+returns-in-Read c = rw (offcore_line_lem c.numbers_of.ensures, c.in-Read.is)
