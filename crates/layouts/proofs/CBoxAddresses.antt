@@ -1,6 +1,6 @@
 -- The addresses of the C-Boxes, by computation over the eight of them. Assumes nothing.
 use mathlib.Core.Path.{◌≡◌, refl}
-use mathlib.Core.Bool.{Bool, true, false, not}
+use mathlib.Core.Bool.{Bool, true, not}
 use mathlib.Core.List.{List, [], ◌∷◌, Memᴰ}
 use Prim.Native.Nat.{ℕ, ◌+◌, ◌*◌, ◌/◌, ◌%◌, ◌<◌}
 use lib.Dec.{eqb}
@@ -47,6 +47,7 @@ not_both : (xs ys : List ℕ) → disjoint xs ys ≡ true → (a : ℕ) → Mem�
 unfolding disjoint
 not_both (x ∷ xs) ys h a (Memᴰ.head e) m = both_ways (member_in ys x (rw (← e) m)) (not-true _ (both_parts _ _ h).0)
 not_both (x ∷ xs) ys h a (Memᴰ.tail r) m = not_both xs ys (both_parts _ _ h).1 a r m
+not_both [] ys h a x3 m = elim x3 [ ]
 
 all_apart : every 8 (λ b. every 8 (λ c. either (eqb b c) (disjoint (cbox_registers b) (cbox_registers c)))) ≡ true
 unfolding every both either disjoint in_list cbox_registers counter_count tabulate cbox_globals cbox_global layout_of control_at counter_at_lem

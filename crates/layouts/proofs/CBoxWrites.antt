@@ -17,7 +17,7 @@ use Rattle.requests.specs.Askings.{overflow_on, asked}
 use Rattle.requests.specs.Devices.{has, counter_count, all_counters, fixed_count, capacity}
 use Rattle.plans.specs.declared.Place.{Place}
 use Rattle.plans.specs.Lists.{Each, none, and}
-use Rattle.plans.specs.Legal.{of_all, counters}
+use Rattle.plans.specs.Legal.{of_all}
 use Rattle.layouts.specs.Layout.{tabulate, cbox_global, layout_of, mm_cfg_at, match_at, mask_at, ubox_at, pebs_on, enabled, enabled_on, event_word, rsp_word, packet_word}
 use Rattle.layouts.specs.Settings.{uses_of, word_at, set_from, settings_of}
 use Rattle.layouts.specs.Writes.{Write, row, rows, zeros, fixed_enables, fixed_at, unusable, first_global, last_global, packet_writes, filter_writes, precise_writes, ubox_value, box_writes, writes_for, writes}
@@ -74,12 +74,14 @@ module _ (g : ℕ) where
   below_filters a l (Memᴰ.head e) = omega arith
   below_filters a l (Memᴰ.tail (Memᴰ.head e)) = omega arith
   below_filters a l (Memᴰ.tail (Memᴰ.tail (Memᴰ.head e))) = omega arith
+  below_filters a l (mathlib.Core.List.Memᴰ.tail (mathlib.Core.List.Memᴰ.tail (mathlib.Core.List.Memᴰ.tail x12))) = elim x12 [ ]
 
   below_four : (a : ℕ) → a < g + 0x18 → ¬ Memᴰ a (four_and_five g)
   below_four a l (Memᴰ.head e) = omega arith
   below_four a l (Memᴰ.tail (Memᴰ.head e)) = omega arith
   below_four a l (Memᴰ.tail (Memᴰ.tail (Memᴰ.head e))) = omega arith
   below_four a l (Memᴰ.tail (Memᴰ.tail (Memᴰ.tail (Memᴰ.head e)))) = omega arith
+  below_four a l (mathlib.Core.List.Memᴰ.tail (mathlib.Core.List.Memᴰ.tail (mathlib.Core.List.Memᴰ.tail (mathlib.Core.List.Memᴰ.tail x16)))) = elim x16 [ ]
 
   -- one write or none, on both sides
   as_row : (b : Bool) (a c v : ℕ) → a < 0x0E48 → c < g + 0x18 → InBox g (a, v) (c, v) → AsOnS g (row b a v) (row b c v)

@@ -2,11 +2,9 @@
 use mathlib.Core.Path.{◌≡◌, refl, sym, ap, subst, ◌∙◌}
 use mathlib.Core.Logic.{◌≢◌}
 use mathlib.Core.Bool.{Bool, true, false}
-use mathlib.Core.Option.{some}
-use Prim.Native.Nat.{ℕ, ◌+◌, ◌*◌, ◌%◌, ◌<◌}
+use Prim.Native.Nat.{ℕ, ◌+◌, ◌*◌, ◌<◌}
 use native.Mathlib.Omega.{arith}
-use borrow.Author.Tests.{eqb-true, eq-eqb, ne_eqb}
-use lib.Dec.{eqb}
+use borrow.Author.Tests.{eq-eqb, ne_eqb}
 use lib.ListN.{get_or}
 use Rattle.requests.specs.declared.Device.{Device}
 use Rattle.requests.specs.declared.Device.TheVariants.{G, S, C, B}
@@ -16,15 +14,13 @@ use Rattle.requests.specs.Choice.{pick}
 use Rattle.requests.specs.Devices.{has, capacity}
 use Rattle.plans.specs.LegalInWords.{InSet}
 use Rattle.plans.proofs.LegalInWordsHolds.{has_in, in_has}
-use Rattle.layouts.specs.Layout.{event_word, code_of, mask_of, offcore_code, rsp_mask, rsp_word, packet_word}
-use Rattle.layouts.specs.Read.{ours, filter_of, tell, cell, reading_of, read_of}
+use Rattle.layouts.specs.Layout.{event_word, code_of, offcore_code, rsp_mask, rsp_word, packet_word}
+use Rattle.layouts.specs.Read.{ours, filter_of, tell, cell, reading_of}
 use Rattle.layouts.specs.EventWords.{enabling_of}
 use Rattle.layouts.specs.CounterReadings.{Accepts, state_at, word_in, CounterReadings}
 use Rattle.layouts.specs.declared.FilterValues.{FilterValues}
 use Rattle.layouts.specs.declared.RegisterValues.{RegisterValues}
-use Rattle.layouts.specs.declared.FilterRead.{FilterRead}
 use Rattle.layouts.specs.declared.FilterRead.TheVariants.{NoFilter, Rsp, MatchMask}
-use Rattle.layouts.specs.declared.CounterState.{CounterState}
 use Rattle.layouts.specs.declared.CounterState.TheVariants.{NotOurs, Off, Counts}
 use Rattle.layouts.specs.declared.CounterRead.{CounterRead}
 use Rattle.layouts.specs.declared.Reading.{Reading}

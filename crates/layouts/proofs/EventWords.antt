@@ -1,13 +1,12 @@
 -- The words in the control registers, as numbers: a use of the plan is at its counter (`word-of`), and counters differ. Assumes nothing.
 --     enabling-is   the bits that every event word of a session has, in numbers
 use mathlib.Core.Path.{◌≡◌, refl, sym, ap, subst, ◌∙◌}
-use mathlib.Core.Logic.{◌≢◌, ◌⊎◌, inl, inr, ⊎_elim}
+use mathlib.Core.Logic.{◌≢◌, ⊎_elim}
 use mathlib.Core.Bool.{Bool, true, false}
 use mathlib.Core.List.{List, [], ◌∷◌, ◌++◌, map, Memᴰ}
 use Prim.Native.Nat.{ℕ, zero, suc, ◌+◌, ◌*◌, ◌<◌}
 use native.Mathlib.Omega.{arith}
-use borrow.Author.Tests.{eqb-true, eq-eqb, ne_eqb}
-use lib.Dec.{eqb}
+use borrow.Author.Tests.{eq-eqb, ne_eqb}
 use Rattle.requests.specs.declared.Core.{Core}
 use Rattle.requests.specs.declared.Core.TheVariants.{NoCore, At}
 use Rattle.requests.specs.declared.Device.{Device}
@@ -17,12 +16,11 @@ use Rattle.requests.specs.declared.Request.{Request}
 use Rattle.requests.specs.declared.Request.TheVariants.{Event, Packet, Offcore, Latency}
 use Rattle.requests.specs.Askings.{overflow_on, core_given, asks, asked}
 use Rattle.requests.specs.Choice.{both, either, pick}
-use Rattle.requests.specs.Bits.{bit, in_list}
-use Rattle.requests.specs.Devices.{has, counter_count}
+use Rattle.requests.specs.Bits.{in_list}
 use Rattle.requests.proofs.BitMembers.{in_member, member_in}
 use Rattle.plans.specs.declared.Place.{Place}
 use Rattle.plans.specs.declared.Place.TheVariants.{Counter, WithRsp, Pair}
-use Rattle.plans.specs.Lists.{All, Pairwise, add}
+use Rattle.plans.specs.Lists.{Pairwise, add}
 use Rattle.plans.specs.Places.{first, second}
 use Rattle.plans.specs.Legal.{Legal, of_all, counters}
 use Rattle.plans.specs.LegalInWords.{Nth, here, later, Takes, InSet, counters_on}
@@ -75,8 +73,16 @@ module _ (s : Setup) where
       (λ e. mathlib.Core.List.Memᴰ.head (λ x. (sym e.0 x, event_word s (h.0 x) (e.1 x))))
       (λ e. mathlib.Core.List.Memᴰ.tail (mathlib.Core.List.Memᴰ.head (λ x. (sym e.0 x, event_word s (h.0 x) (e.1 x)))))
       h.1
+  own_uses (Event d n a) (WithRsp j i) k c m h = elim h [ ]
+  own_uses (Event d n a) (Pair i j) k c m h = elim h [ ]
+  own_uses (Packet x y a) (WithRsp j i) k c m h = elim h [ ]
+  own_uses (Packet x y a) (Pair i j) k c m h = elim h [ ]
+  own_uses (Offcore w a) (Counter j) k c m h = elim h [ ]
+  own_uses (Offcore w a) (Pair i j) k c m h = elim h [ ]
+  own_uses (Latency t a b) (Counter j) k c m h = elim h [ ]
+  own_uses (Latency t a b) (WithRsp j i) k c m h = elim h [ ]
 
-  uses_at : {n : ℕ} {r : Request} {p : Place} {rs : List Request} {ps : List Place} (k c m : ℕ) → Nth r p n rs ps → Counting r p k c m → Memᴰ (k, event_word s c m) (uses_in s rs ps)
+  uses_at : {r : Request} {p : Place} {n : ℕ} {rs : List Request} {ps : List Place} (k c m : ℕ) → Nth r p n rs ps → Counting r p k c m → Memᴰ (k, event_word s c m) (uses_in s rs ps)
   unfolding of_all
   uses_at {r = r} {p = p} k c m (here {rs = rs} {ps = ps}) h = mathlib.Core.List.Memᴰ.append_left (uses_in s rs ps) (own_uses r p k c m h)
   uses_at k c m (later {x = x} {y = y} g) h = mathlib.Core.List.Memᴰ.append_right (uses_of s x y) (uses_at k c m g h)
@@ -87,6 +93,7 @@ unfolding word_at
 word_of (u ∷ us) k w d (mathlib.Core.List.Memᴰ.head e) = rw (eq-eqb u.0 k (sym (ap (λ (x : ℕ × ℕ). x.0) e))) (sym (ap (λ (x : ℕ × ℕ). x.1) e))
 word_of (u ∷ us) k w (add h hs) (mathlib.Core.List.Memᴰ.tail m) =
     rw (ne_eqb u.0 k (all_member {P = λ (j : ℕ). u.0 ≢ j} h (mathlib.Core.List.Memᴰ.map counter_of m))) (word_of us k w hs m)
+word_of [] k w d x'' = elim x'' [ ]
 
 module _ (s : Setup) (rs : List Request) (ps : List Place) (legal : Legal s rs ps) (registers : ℕ → ℕ) where
   used : (n k c m : ℕ) (r : Request) (p : Place) → Nth r p n rs ps → Counting r p k c m

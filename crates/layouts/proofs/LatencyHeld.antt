@@ -37,6 +37,7 @@ unfolding of_all words_of
 word_asked i t a b (and {b = p} {s = rs} {t = ps} h es) (Memᴰ.head e) =
     subst (λ (r : Request). Memᴰ (latency_word i t) (words_of i r p ++ of_all (words_of i) rs ps)) e (Memᴰ.head refl)
 word_asked i t a b (and {a = r} {b = p} h es) (Memᴰ.tail m) = Memᴰ.append_right (words_of i r p) (word_asked i t a b es m)
+word_asked i t a b Rattle.plans.specs.Lists.none x4 = elim x4 [ ]
 
 module _ (u : Setup) (rs : List Request) (ps : List Place) (t : ℕ) (a b : CounterSet) (m : Memᴰ (Latency t a b) rs) (registers : ℕ → ℕ) where
   first_on : All (Described (on G u)) rs → Legal (on G u) rs ps → TypeWith 38 t (apply (writes (on G u) rs ps) registers 0x01A6)

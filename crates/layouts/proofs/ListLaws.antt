@@ -21,6 +21,7 @@ module _ {A : Type 0} {P : A → Type 0} where
   pub all_member : {a : A} {l : List A} → All P l → Memᴰ a l → P a
   all_member (cons h hs) (Memᴰ.head e) = subst P (sym e) h
   all_member (cons h hs) (Memᴰ.tail m) = all_member hs m
+  all_member {a = a} nil x3 = elim x3 [ ]
 
   -- the front of a list
   pub all_left : (xs ys : List A) → All P (xs ++ ys) → All P xs

@@ -11,6 +11,8 @@ use mathlib.Core.List.{List, [], ◌∷◌, ◌++◌, flat_map, Memᴰ}
 use Prim.Native.Nat.{ℕ}
 use native.Mathlib.Decide.{ℕ_discrete}
 use borrow.Author.Tests.{eq-eqb, ne_eqb}
+use native.Mathlib.Omega.{arith}
+use lib.ListN.{length}
 use Rattle.requests.specs.declared.CounterSet.{CounterSet}
 use Rattle.requests.specs.declared.Device.TheVariants.{G, S}
 use Rattle.requests.specs.declared.Setup.{Setup}
@@ -40,18 +42,30 @@ given_member (later g) = Memᴰ.tail (given_member g)
 pub member_given : {R : Request → Place → Type 0} {r : Request} {rs : List Request} {ps : List Place} → Each R rs ps → Memᴰ r rs → (p : Place) × Given r p rs ps
 member_given {r = r} (and {b = p} {s = rs} {t = ps} a es) (Memᴰ.head e) = (p, subst (λ (x : Request). Given r p (x ∷ rs) (p ∷ ps)) e (here {rs = rs}))
 member_given (and a es) (Memᴰ.tail m) = let g = member_given es m in (g.0, later g.1)
+member_given {R = R} {r = r} none x4 = elim x4 [ ]
 
 pub each_given : {R : Request → Place → Type 0} {r : Request} {p : Place} {rs : List Request} {ps : List Place} → Each R rs ps → Given r p rs ps → R r p
 each_given (and a es) here = a
 each_given (and a es) (later g) = each_given es g
+each_given {R = R} {r = r} {p = p} none x4 = elim x4 [ ]
 
 pub each_of : {R : Request → Place → Type 0} (Q : Request → Place → Type 0) {rs : List Request} {ps : List Place} → Each R rs ps → ((r : Request) (p : Place) → Given r p rs ps → Q r p) → Each Q rs ps
 each_of Q none h = none
 each_of Q (and {a = r} {b = p} a es) h = and (h r p here) (each_of Q es (λ x y g. h x y (later g)))
 
+-- no request of an empty list has a place
+not_given : {r : Request} {p : Place} {rs : List Request} {ps : List Place} → Given r p rs ps → length rs ≡ 0 → ⊥
+not_given here l = omega (arith, l)
+not_given (later g) l = omega (arith, l)
+
 -- the only request of a plan has one place
+one_given : {r x : Request} {p q : Place} {rs : List Request} {ps : List Place} → Given r p rs ps → Given x q rs ps → length rs ≡ 1 → p ≡ q
+one_given here here l = refl
+one_given here (later g) l = absurd (not_given g (omega (arith, l)))
+one_given (later f) g l = absurd (not_given f (omega (arith, l)))
+
 pub one_place : {r x : Request} {p q : Place} {ps : List Place} → Given r p (r ∷ []) ps → Given x q (r ∷ []) ps → p ≡ q
-one_place here here = refl
+one_place f g = one_given f g refl
 
 -- the counter of a place is one of the plan's
 pub given_counter : {r : Request} {k : ℕ} {rs : List Request} {ps : List Place} → Given r (Counter k) rs ps → Memᴰ k (counters ps)
@@ -98,3 +112,4 @@ module _ (s : Setup) (no-g : s.device ≡ G → ⊥) (no-s : s.device ≡ S → 
   given_word (cons (packet g x y a) fs) (and (plans.packet b) es) d (later q) = absurd (no-s g)
   given_word (cons (offcore g h t o a) fs) (and (plans.offcore b l) es) d (later q) = absurd (no-g g)
   given_word (cons (latency g h t a b) fs) (and (plans.latency c x) es) d (later q) = absurd (no-g g)
+  given_word {ps = ps} {c = c} {m = m} {k = k} {a = a} nil _ d x8 = elim x8 [ ]

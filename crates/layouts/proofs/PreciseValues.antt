@@ -39,8 +39,9 @@ use Rattle.layouts.proofs.RuledWords.{counter_path}
 single : {r : Request} {p : Place} {rs : List Request} {ps : List Place} → Each Allowed rs ps → rs ≡ r ∷ [] → Given r p rs ps → ps ≡ p ∷ []
 single {r} {p} {rs} {ps} es e g = go (subst (λ (l : List Request). Each Allowed l ps) e es) (subst (λ (l : List Request). Given r p l ps) e g)
   where
-    go : {r : Request} {p : Place} {ps : List Place} → Each Allowed (r ∷ []) ps → Given r p (r ∷ []) ps → ps ≡ p ∷ []
+    go : {r q : Request} {p : Place} {ps : List Place} → Each Allowed (q ∷ []) ps → Given r p (q ∷ []) ps → ps ≡ p ∷ []
     go (and a none) here = refl
+    go {q = q} (and {b = b} a none) (Rattle.layouts.proofs.PlacedEvents.later x19) = elim x19 [ ]
 
 -- a counter that is off counts neither
 pub pdir_off : is_event 0xC0 0x01 0 ≡ false

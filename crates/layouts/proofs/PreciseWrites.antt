@@ -148,7 +148,7 @@ module _ (addresses : List ℕ) where
   without_none nil = refl
   without_none (cons {a = w} h hs) = rw h (ap (λ (l : List Write). w ∷ l) (without_none hs))
 
-not_in : {l : List ℕ} (a : ℕ) → All (λ (x : ℕ). x ≡ a → ⊥) l → in_list l a ≡ false
+not_in : (a : ℕ) {l : List ℕ} → All (λ (x : ℕ). x ≡ a → ⊥) l → in_list l a ≡ false
 unfolding in_list either
 not_in a nil = refl
 not_in a (cons {a = x} h hs) = rw (ne_eqb x a h) (not_in a hs)

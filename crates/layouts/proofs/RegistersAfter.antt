@@ -44,7 +44,7 @@ after_append [] ys a x = refl
 after_append (w ∷ xs) ys a x = after_append xs ys a (pick (eqb w.0 a) w.1 x)
 
 -- an address that is not written keeps its value
-pub after_other : {ws : List Write} (a x : ℕ) → All (λ (w : Write). w.0 ≡ a → ⊥) ws → after ws a x ≡ x
+pub after_other : (a : ℕ) {ws : List Write} (x : ℕ) → All (λ (w : Write). w.0 ≡ a → ⊥) ws → after ws a x ≡ x
 unfolding after
 after_other a x nil = refl
 after_other a x (cons {a = w} h hs) = rw (ne_eqb w.0 a h) (after_other a x hs)

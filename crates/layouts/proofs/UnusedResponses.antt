@@ -1,6 +1,5 @@
 -- What an RSP register holds, by itself: the first word that is asked of it, or 0 (`rsp0-left`, `rsp1-left`). Assumes nothing.
 use mathlib.Core.Path.{◌≡◌, refl, sym, ap, subst, ◌∙◌}
-use mathlib.Core.Logic.{◌≢◌, ◌⊎◌, inl, inr, ⊎_elim}
 use mathlib.Core.Bool.{Bool, true, false}
 use mathlib.Core.List.{List, [], ◌∷◌, Memᴰ}
 use Prim.Native.Nat.{ℕ, zero, suc, ◌+◌, ◌<◌}
@@ -11,27 +10,24 @@ use lib.Dec.{eqb}
 use lib.ListN.{get_or}
 use Rattle.requests.specs.declared.Device.{Device}
 use Rattle.requests.specs.declared.Device.TheVariants.{G}
-use Rattle.requests.specs.declared.Opening.{Opening}
 use Rattle.requests.specs.declared.Setup.{Setup}
 use Rattle.requests.specs.declared.Request.{Request}
 use Rattle.requests.specs.Askings.{overflow_on, asked}
 use Rattle.requests.specs.Choice.{both, pick}
-use Rattle.requests.specs.Refusals.{answer_number}
-use Rattle.requests.specs.Devices.{has, counter_count, setup_of}
+use Rattle.requests.specs.Devices.{has, counter_count}
 use Rattle.requests.proofs.Tests.{both_parts}
 use Rattle.plans.specs.declared.Place.{Place}
-use Rattle.plans.specs.Lists.{All}
 use Rattle.plans.specs.Legal.{Legal, words_of, of_all}
-use Rattle.plans.specs.LegalInWords.{Nth, Asks, InSet}
+use Rattle.plans.specs.LegalInWords.{Nth, Asks}
 use Rattle.plans.proofs.LegalInWordsHolds.{asks_word, word_asks, has_in}
 use Rattle.layouts.specs.Layout.{rsp0_at, rsp1_at, enabled_on, pmi_enable, enabled, event_word, offcore_code, rsp_mask, rsp_word}
 use Rattle.layouts.specs.Settings.{head_or}
 use Rattle.layouts.specs.Writes.{writes, apply}
-use Rattle.layouts.specs.Read.{ours, count, rsp0_fits, rsp1_fits, filters_fit, accepts, read_of}
-use Rattle.layouts.specs.UnusedResponses.{AcceptedOnG, NoCounterHas, UnusedResponses}
+use Rattle.layouts.specs.Read.{ours, count, rsp0_fits, rsp1_fits, filters_fit, accepts}
+use Rattle.layouts.specs.UnusedResponses.{NoCounterHas, UnusedResponses}
 use Rattle.layouts.specs.declared.RegisterValues.{RegisterValues}
 use Rattle.layouts.proofs.UsableSets.{on}
-use Rattle.layouts.proofs.Counts.{Found, find}
+use Rattle.layouts.proofs.Counts.{find}
 use Rattle.layouts.proofs.ListLaws.{all_member, one_value}
 use Rattle.layouts.proofs.LeftValues.{rsp0_left, rsp1_left}
 use Rattle.layouts.proofs.ExactReader.{accepted_test}

@@ -2,7 +2,7 @@
 -- the addresses of MM_CFG, MATCH and MASK, which our extract of 004 lacks: they are the kernel driver's (docs/DECISIONS.md, 1).
 -- C: document 004, section 2.3, where our extract has GLOBAL_CTL and EVT_SEL0 of box 0; the rest is the kernel driver's.
 -- U-Box, which S and C share: document 004, section 2.1, and for the places of en_all and pmi_core_sel the kernel driver.
-use Rattle.std.specs.Prelude.{List, [], ◌∷◌, ◌++◌, Bool, true, false, ℕ, zero, suc, ◌+◌, ◌*◌, ◌-◌, ◌/◌, ◌%◌, ◌^◌, eqb, get_or}
+use Rattle.std.specs.Prelude.{List, [], ◌∷◌, ◌++◌, Bool, true, false, ℕ, zero, suc, ◌+◌, ◌*◌, ◌/◌, ◌%◌, ◌^◌, eqb, get_or}
 use Rattle.requests.specs.Choice.{both, pick}
 use Rattle.requests.specs.declared.Device.{Device}
 use Rattle.requests.specs.declared.Device.TheVariants.{G, S, C, B}
