@@ -6,16 +6,17 @@ mod tally;
 
 use crate::tally::tally_of;
 use requests::Device;
+use std::io;
 
 // The device's letter, and its tally.
-fn line(letter: &[u8], device: Device) {
-    prints::text(letter);
-    print::tally(tally_of(device));
+fn line(rt: &impl Print, letter: &[u8], device: Device) -> io::Result<()> {
+    prints::text(rt, letter)?;
+    print::tally(rt, tally_of(device))
 }
 
-fn main() {
-    line(b"G", Device::G);
-    line(b"S", Device::S);
-    line(b"C", Device::C(0));
-    line(b"B", Device::B);
+fn main(rt: HostRuntime) -> io::Result<()> {
+    line(&rt, b"G", Device::G)?;
+    line(&rt, b"S", Device::S)?;
+    line(&rt, b"C", Device::C(0))?;
+    line(&rt, b"B", Device::B)
 }
