@@ -82,6 +82,7 @@ assign_gives (x ∷ es) (p ∷ ps) e (and a each) (add h d) m = go (Memᴰ.cases
           only = λ other k. later_only n g other (Memᴰ.cases_cons k);
           allowed = g.allowed;
         }
+assign_gives (x ∷ es) [] e each d m = elim each [ ]
 
 -- the ids taken are distinct
 pub taken_distinct : (limit : ℕ) (s : Setup) (q : List Entry) → Sound limit s q → Distinct (taken s q)

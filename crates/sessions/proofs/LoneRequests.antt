@@ -72,12 +72,15 @@ request_among : (e : Entry) (es : List Entry) → Memᴰ e es → Memᴰ e.reque
 unfolding requests_of
 request_among e (x ∷ es) (Memᴰ.head h) = Memᴰ.head (ap (λ (y : Entry). y.request) h)
 request_among e (x ∷ es) (Memᴰ.tail m) = Memᴰ.tail (request_among e es m)
+request_among e [] x' = elim x' [ ]
 
 -- entries of one request are one entry
 one_entry : (e : Entry) (r : Request) (es : List Entry) → requests_of es ≡ r ∷ [] → Memᴰ e es → es ≡ e ∷ []
 unfolding requests_of
 one_entry e r (x ∷ []) h (Memᴰ.head is) = ap (λ (y : Entry). y ∷ []) (sym is)
 one_entry e r (x ∷ y ∷ es) h m = let z : ◌≡◌ {A = ℕ} (length (map (λ (n : Entry). n.request) (x ∷ y ∷ es))) 1 = ap length h in absurd (omega arith)
+one_entry e r [] h m = elim m [ ]
+one_entry e r (x ∷ []) h (mathlib.Core.List.Memᴰ.tail x11) = elim x11 [ ]
 
 taken_alone : (s : Setup) (q : List Entry) (e : Entry) → s.device ≡ B → AsksPdir e → Memᴰ e (taken s q) → taken s q ≡ e ∷ []
 taken_alone s q e on (a, asks) m =

@@ -14,11 +14,15 @@ ids_of : (es : List Entry) (ps : List Place) → Each Allowed (requests_of es) p
 unfolding requests_of assign
 ids_of [] [] none = refl
 ids_of (e ∷ es) (p ∷ ps) (and a each) = ap (λ (l : List ℕ). e.id ∷ l) (ids_of es ps each)
+ids_of [] (p ∷ ps) x'' = elim x'' [ ]
+ids_of (e ∷ es) [] x3 = elim x3 [ ]
 
 places_of : (es : List Entry) (ps : List Place) → Each Allowed (requests_of es) ps → map (λ (a : Assigned). a.place) (assign es ps) ≡ ps
 unfolding requests_of assign
 places_of [] [] none = refl
 places_of (e ∷ es) (p ∷ ps) (and a each) = ap (λ (l : List Place). p ∷ l) (places_of es ps each)
+places_of [] (p ∷ ps) x'' = elim x'' [ ]
+places_of (e ∷ es) [] x3 = elim x3 [ ]
 
 pub plan_order : PlanOrder
 plan_order = record { ids = λ s es ps legal. ids_of es ps legal.allowed; places = λ s es ps legal. places_of es ps legal.allowed }
