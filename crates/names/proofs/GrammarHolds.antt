@@ -15,7 +15,6 @@ use Rattle.requests.specs.Devices.{letter_of, box_of}
 use Rattle.requests.proofs.DeviceNumbers.{numbers}
 use Rattle.requests.proofs.Tests.{both_parts, true_both}
 use Rattle.grammar.specs.Text.{newline, hex_text, line_of}
-use Rattle.grammar.specs.Records.{Hex}
 use Rattle.grammar.specs.Fields.{fields, field_at}
 use Rattle.grammar.specs.Numbers.{hex_of}
 use Rattle.grammar.specs.Letters.{lettered}

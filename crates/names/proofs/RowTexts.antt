@@ -1,7 +1,6 @@
 -- The text of a row that fits: its fields are read back from it, and it is one line. Assumes nothing.
 use Prim.Native.Nat.{ℕ}
 use mathlib.Core.Path.{◌≡◌, refl, ap, sym, ◌∙◌}
-use mathlib.Core.Bool.{true}
 use mathlib.Core.List.{List, [], ◌∷◌, ◌++◌}
 use native.Mathlib.Omega.{arith}
 use lib.ListN.{length, length-append, take}
@@ -10,7 +9,7 @@ use Rattle.requests.specs.Devices.{letter_of}
 use Rattle.grammar.specs.Text.{newline, hex_text}
 use Rattle.grammar.proofs.Tabs as tabs
 use Rattle.grammar.proofs.Texts.{hex_plain, letter_plain}
-use Rattle.names.specs.RowGrammar.{NamedRow, RowFits, row_line}
+use Rattle.names.specs.RowGrammar.{NamedRow, RowFits}
 use Rattle.names.proofs.NameBytes.{name_field, names_tested}
 
 -- the fields of a row behind its name

@@ -1,5 +1,5 @@
 -- Document 02, order 9: "two lists in our line format, the site's and the house's", rows that are each closed by a newline.
-use Rattle.std.specs.Prelude.{Bool, true, false, List, [], ◌∷◌, ℕ, suc, eqb}
+use Rattle.std.specs.Prelude.{Bool, true, List, [], ◌∷◌, ℕ, suc, eqb}
 use Rattle.requests.specs.Choice.{both, pick}
 use Rattle.grammar.specs.Text.{newline}
 use Rattle.names.specs.Rows.{row_of, is_formed}

@@ -6,6 +6,7 @@ ghost use Rattle.names.specs.EventNames.{name_byte, is_name};
 const LONGEST_NAME: usize = 40;
 
 // Whether the byte is an upper-case letter, a digit or an underscore.
+#[tactic(auto, unfolding(crate::specs::EventNames::name_byte))]
 fn name_byte(b: u8) -> bool
     ensures { result ≡ name_byte b }
 {

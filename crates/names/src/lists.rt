@@ -49,8 +49,9 @@ pub fn list_formed(list: &[u8]) -> bool
 }
 
 // Whether both lists are.
+#[tactic(auto, unfolding(requests::specs::Choice::both, crate::specs::Lists::lists_formed))]
 pub fn lists_formed(site: &[u8], house: &[u8]) -> bool
-    ensures { result ≡ lists_formed (record { site = site.entry.now; house = house.now }) }
+    ensures { result ≡ lists_formed (record { site = site.now; house = house.now }) }
 {
     if list_formed(site) {
         return list_formed(house);

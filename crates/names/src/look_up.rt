@@ -24,7 +24,7 @@ fn row_in<'a>(name: &[u8], list: &'a [u8]) -> &'a [u8]
 // The row of a name in lists that are well-formed; an empty part where there is none.
 pub fn row_named<'a>(name: &[u8], site: &'a [u8], house: &'a [u8]) -> &'a [u8]
     requires { lists_formed (record { site = site.now; house = house.now }) ≡ true }
-    ensures { result.now ≡ shown (row_named (record { site = site.entry.now; house = house.now }) name.now) }
+    ensures { result.now ≡ shown (row_named (record { site = site.now; house = house.now }) name.now) }
 {
     let row = row_in(name, site);
     if 0 < row.len() {
@@ -36,7 +36,7 @@ pub fn row_named<'a>(name: &[u8], site: &'a [u8], house: &'a [u8]) -> &'a [u8]
 // The row of a name, without its newline: the topmost of the site's list, or else of the house's. An empty part where neither
 // has one, or where one of them is ill-formed.
 pub fn look_up<'a>(name: &[u8], site: &'a [u8], house: &'a [u8]) -> &'a [u8]
-    ensures { result.now ≡ shown (row_named (record { site = site.entry.now; house = house.now }) name.now) }
+    ensures { result.now ≡ shown (row_named (record { site = site.now; house = house.now }) name.now) }
 {
     if lists_formed(site, house) {
         return row_named(name, site, house);

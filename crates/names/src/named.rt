@@ -10,6 +10,7 @@ use checks::devices::{letter_of, packets_on};
 use requests::{CounterSet, Device, Request};
 
 // An event that no device lists.
+#[tactic(auto, unfolding(crate::specs::Named::unlisted))]
 fn unlisted(allowed: CounterSet) -> Request
     ensures { result ≡ unlisted allowed }
 {
@@ -21,6 +22,7 @@ fn unlisted(allowed: CounterSet) -> Request
 }
 
 // A request of a kind that the device does not have.
+#[tactic(auto, unfolding(crate::specs::Named::foreign))]
 fn foreign(device: Device, allowed: CounterSet) -> Request
     ensures { result ≡ foreign device allowed }
 {
@@ -35,6 +37,7 @@ fn foreign(device: Device, allowed: CounterSet) -> Request
 }
 
 // The request of a row on a device.
+#[tactic(auto, unfolding(crate::specs::Named::request_for))]
 fn request_for(read: RowRead, device: Device, allowed: CounterSet) -> Request
     ensures { result ≡ request_for read device allowed }
 {
@@ -56,6 +59,7 @@ fn request_for(read: RowRead, device: Device, allowed: CounterSet) -> Request
 
 // The request of a name on a device: the event that its row says; where the row is for another device, one that is refused with
 // 7; where there is none, one that is refused with 8.
+#[tactic(auto, unfolding(crate::specs::Named::request_named))]
 pub fn request_named<'a>(
     name: &[u8],
     site: &'a [u8],
@@ -64,12 +68,13 @@ pub fn request_named<'a>(
     allowed: CounterSet,
 ) -> Request
     requires { lists_formed (record { site = site.now; house = house.now }) ≡ true }
-    ensures { result ≡ request_named (record { site = site.entry.now; house = house.now }) name.now device allowed }
+    ensures { result ≡ request_named (record { site = site.now; house = house.now }) name.now device allowed }
 {
     request_for(row_of(row_named(name, site, house)), device, allowed)
 }
 
 // The field of a named line for a field of the event that its name stands for.
+#[tactic(auto, unfolding(crate::specs::Named::named_field))]
 pub fn named_field(field: usize) -> usize
     ensures { result ≡ named_field field }
 {

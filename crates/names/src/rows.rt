@@ -15,6 +15,7 @@ use scanner::letters::device_at;
 const ROW_FIELDS: usize = 4;
 
 // What a row for a device says.
+#[tactic(auto, unfolding(crate::specs::Rows::numbers_on))]
 fn numbers_on(row: &[u8], parts: Parts, device: Device) -> RowRead
     requires { Parted row.now parts }
     ensures { result ≡ numbers_on row.now device }
@@ -60,6 +61,7 @@ pub fn is_formed(row: &[u8]) -> bool
 }
 
 // Whether a row has the name: its bytes before the first tab.
+#[tactic(auto, unfolding(crate::specs::Rows::has_name))]
 pub fn has_name(row: &[u8], name: &[u8]) -> bool
     ensures { result ≡ has_name name.now row.now }
 {
