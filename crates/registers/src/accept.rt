@@ -19,6 +19,7 @@ use layouts::{FilterValues, RegisterValues};
 use requests::{Answer, CAPACITY, CounterSet, Device, Request, Setup};
 
 // Whether none of the refusals 7 to 11 applies.
+#[tactic(auto, unfolding(requests::specs::Checks::formed))]
 fn formed(setup: Setup, request: Request) -> bool
     ensures { result ≡ formed setup request }
 {
@@ -29,6 +30,7 @@ fn formed(setup: Setup, request: Request) -> bool
 }
 
 // Whether a control word is that of a filter event.
+#[tactic(auto, unfolding(layouts::specs::Read::filter_word, requests::specs::Choice::either))]
 fn filter_word(setup: Setup, word: u64) -> bool
     ensures { result ≡ filter_word setup word }
 {
@@ -47,6 +49,7 @@ fn filter_word(setup: Setup, word: u64) -> bool
 }
 
 // Whether a control value is 0, or the word of a well-formed event or of a filter event.
+#[tactic(auto, unfolding(layouts::specs::Read::control_fits, requests::specs::Choice::either, requests::specs::Choice::both))]
 fn control_fits(setup: Setup, word: u64) -> bool
     ensures { result ≡ control_fits setup word }
 {
@@ -72,6 +75,7 @@ fn control_fits(setup: Setup, word: u64) -> bool
 }
 
 // Whether RSP1 may hold the word beside its counters.
+#[tactic(auto, unfolding(layouts::specs::Read::rsp1_fits))]
 fn rsp1_fits(setup: Setup, counters: u64, word: u64) -> bool
     ensures { result ≡ rsp1_fits setup counters word }
 {
@@ -88,6 +92,7 @@ fn rsp1_fits(setup: Setup, counters: u64, word: u64) -> bool
 }
 
 // Whether the words are those of a latency request, with enough counters on RSP1.
+#[tactic(auto, unfolding(requests::specs::Bits::outstanding, layouts::specs::Read::latency_fits, requests::specs::Choice::both))]
 fn latency_fits(setup: Setup, counters0: u64, counters1: u64, rsp0: u64, rsp1: u64) -> bool
     ensures { result ≡ latency_fits setup counters0 counters1 rsp0 rsp1 }
 {
@@ -112,6 +117,7 @@ fn latency_fits(setup: Setup, counters0: u64, counters1: u64, rsp0: u64, rsp1: u
 }
 
 // Whether RSP0 may hold the word beside the counters on both registers.
+#[tactic(auto, unfolding(layouts::specs::Read::rsp0_fits, requests::specs::Choice::either))]
 fn rsp0_fits(setup: Setup, counters0: u64, counters1: u64, rsp0: u64, rsp1: u64) -> bool
     ensures { result ≡ rsp0_fits setup counters0 counters1 rsp0 rsp1 }
 {
@@ -131,6 +137,7 @@ fn rsp0_fits(setup: Setup, counters0: u64, counters1: u64, rsp0: u64, rsp1: u64)
 }
 
 // How many of the first control words are the word.
+#[tactic(auto, unfolding(layouts::specs::Read::count, requests::specs::Devices::capacity))]
 fn count_of(limit: u64, words: [u64; CAPACITY], word: u64) -> u64
     requires { limit ≤ capacity }
     ensures { result ≡ count limit (λ k. get_or words k 0) word }
@@ -148,6 +155,7 @@ fn count_of(limit: u64, words: [u64; CAPACITY], word: u64) -> u64
 }
 
 // Whether MM_CFG, MATCH and MASK may hold their values beside the counters of packets.
+#[tactic(auto, unfolding(layouts::specs::Read::packets_fit, layouts::specs::Layout::mm_enable, requests::specs::Choice::both))]
 fn packets_fit(setup: Setup, counters: u64, filters: FilterValues) -> bool
     ensures { result ≡ packets_fit setup counters filters }
 {
@@ -168,6 +176,7 @@ fn packets_fit(setup: Setup, counters: u64, filters: FilterValues) -> bool
 }
 
 // Whether the filter registers may hold their values beside the control words.
+#[tactic(auto, unfolding(requests::specs::Choice::both, layouts::specs::Read::filters_fit))]
 fn filters_fit(setup: Setup, words: [u64; CAPACITY], filters: FilterValues) -> bool
     ensures { result ≡ filters_fit setup (λ k. get_or words k 0) filters }
 {
@@ -192,6 +201,7 @@ fn filters_fit(setup: Setup, words: [u64; CAPACITY], filters: FilterValues) -> b
 }
 
 // Whether each of the first control words is one that a plan leaves.
+#[tactic(auto, unfolding(requests::specs::Choice::every, requests::specs::Devices::capacity))]
 fn controls_fit(setup: Setup, limit: u64, words: [u64; CAPACITY]) -> bool
     requires { limit ≤ capacity }
     ensures { result ≡ every limit (λ k. control_fits setup (get_or words k 0)) }
@@ -214,6 +224,7 @@ fn flag_of(word: u64) -> u64
 }
 
 // The counters whose control words, of the first ones, are not 0.
+#[tactic(auto, unfolding(layouts::specs::Settings::set_from, requests::specs::Devices::capacity))]
 fn used_by(limit: u64, words: [u64; CAPACITY]) -> CounterSet
     requires { limit ≤ capacity }
     ensures { result.0 ≡ set_from limit 0 (λ k. not (eqb (get_or words k 0) 0)) }
@@ -235,6 +246,7 @@ fn ours_or_zero(usable: bool, control: u64) -> u64
 }
 
 // The control values that are looked at: 0 for a counter that is not usable.
+#[tactic(auto, unfolding(layouts::specs::Layout::tabulate, layouts::specs::Read::ours, requests::specs::Devices::capacity))]
 pub fn looked_at(setup: Setup, values: RegisterValues) -> [u64; CAPACITY]
     ensures { result ≡ tabulate capacity (ours setup values) }
 {
@@ -252,6 +264,7 @@ pub fn looked_at(setup: Setup, values: RegisterValues) -> [u64; CAPACITY]
 }
 
 // Whether some plan leaves the values.
+#[tactic(auto, unfolding(requests::specs::Devices::capacity))]
 pub fn accepts(setup: Setup, values: RegisterValues) -> bool
     ensures { result ≡ accepts setup values }
 {

@@ -22,6 +22,7 @@ const PRECISE_STORE_UMASK: u8 = 0x02;
 const PRECISE_STORE: u64 = 0x8000_0000_0000_0008; // document 003, page 18-57: bits 3 and 63
 
 // Whether the device has the register.
+#[tactic(auto, unfolding(layouts::specs::Layout::pebs_on))]
 pub fn pebs_on(device: Device) -> bool
     ensures { result ≡ pebs_on device }
 {
@@ -34,6 +35,7 @@ pub fn pebs_on(device: Device) -> bool
 }
 
 // The bits, where the control word has the event.
+#[tactic(auto, unfolding(layouts::specs::Layout::is_event, requests::specs::Choice::both))]
 fn bits_where(code: u8, mask: u8, word: u64, bits: u64) -> u64
     ensures { result ≡ pick (is_event code mask word) bits 0 }
 {
@@ -46,6 +48,7 @@ fn bits_where(code: u8, mask: u8, word: u64, bits: u64) -> u64
 }
 
 // The value beside the control words.
+#[tactic(auto, unfolding(layouts::specs::Writes::pebs_enable, layouts::specs::Layout::precise_store))]
 pub fn pebs_enable(words: [u64; CAPACITY]) -> u64
     ensures { result ≡ pebs_enable (λ k. get_or words k 0) }
 {

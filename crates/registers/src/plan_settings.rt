@@ -20,6 +20,7 @@ use search::packed::place_at;
 use search::rows::{ROW_NUMBERS, request_at};
 
 // The counter of a place, or the first of two.
+#[tactic(auto, unfolding(plans::specs::Places::first))]
 fn first_of(place: Place) -> u64
     ensures { result ≡ first place }
 {
@@ -31,6 +32,7 @@ fn first_of(place: Place) -> u64
 }
 
 // The RSP register of a place, or the second of two counters.
+#[tactic(auto, unfolding(plans::specs::Places::second))]
 fn second_of(place: Place) -> u64
     ensures { result ≡ second place }
 {
@@ -54,6 +56,7 @@ fn with_counter(device: Device, counter: u64, used: CounterSet) -> CounterSet
 }
 
 // The set with the counters of a place.
+#[tactic(auto, unfolding(crate::specs::Adding::with_counters, plans::specs::Places::counters_of, plans::specs::Places::counted_of))]
 fn with_counters(device: Device, place: Place, used: CounterSet) -> CounterSet
     ensures { result ≡ with_counters device (counters_of place) used }
 {
@@ -80,6 +83,7 @@ fn put_word(words: &mut [u64; CAPACITY], counter: u64, word: u64)
 }
 
 // Stores the control words of a request at its place.
+#[tactic(auto, unfolding(crate::specs::Adding::with_uses, layouts::specs::Settings::uses_of))]
 fn put_uses(setup: Setup, request: Request, place: Place, words: &mut [u64; CAPACITY])
     requires { length words.old ≡ 8 }
     ensures { words.new ≡ with_uses (uses_of setup request place) words.old }
@@ -101,6 +105,7 @@ fn put_uses(setup: Setup, request: Request, place: Place, words: &mut [u64; CAPA
 }
 
 // The word of an RSP register with what an offcore word at its place asks of it.
+#[tactic(auto, unfolding(plans::specs::Legal::words_of))]
 fn with_offcore(register: u64, word: u64, place: Place, held: u64) -> u64
     ensures { (a : CounterSet) → result ≡ head_or held (words_of register (Request.Offcore word a) place) }
 {
@@ -112,6 +117,7 @@ fn with_offcore(register: u64, word: u64, place: Place, held: u64) -> u64
 }
 
 // The word of an RSP register with what a request at its place asks of it.
+#[tactic(auto, unfolding(plans::specs::Legal::words_of))]
 fn with_rsp(register: u64, request: Request, place: Place, held: u64) -> u64
     ensures { result ≡ head_or held (words_of register request place) }
 {
@@ -124,6 +130,7 @@ fn with_rsp(register: u64, request: Request, place: Place, held: u64) -> u64
 }
 
 // The match/mask register with what a request asks of it.
+#[tactic(auto, unfolding(crate::specs::Adding::with_packets, plans::specs::Legal::packets_of, requests::specs::Choice::either))]
 fn with_packets(request: Request, settings: Settings) -> Settings
     ensures { result ≡ with_packets request settings }
 {
@@ -147,6 +154,7 @@ fn with_packets(request: Request, settings: Settings) -> Settings
 
 // The used counters and the filter registers with one more request in front. The control words stay: they are stored in place, since a
 // struct by value is copied with all of them.
+#[tactic(auto, unfolding(crate::specs::Adding::others_with))]
 fn others_with(setup: Setup, request: Request, place: Place, settings: Settings) -> Settings
     ensures { result ≡ others_with setup request place settings }
 {
@@ -167,6 +175,7 @@ fn others_with(setup: Setup, request: Request, place: Place, settings: Settings)
 }
 
 // The register values with one more request in front.
+#[tactic(auto, unfolding(crate::specs::Adding::settings_with))]
 fn settings_with(setup: Setup, request: Request, place: Place, settings: Settings) -> Settings
     ensures { result ≡ settings_with setup request place settings }
 {
@@ -178,6 +187,7 @@ fn settings_with(setup: Setup, request: Request, place: Place, settings: Setting
 }
 
 // How many of the places of an array are in use.
+#[tactic(auto, unfolding(requests::specs::Devices::capacity))]
 fn bounded(count: usize) -> usize
     ensures { result ≡ min count capacity }
 {
@@ -200,6 +210,7 @@ fn no_settings() -> Settings
 }
 
 // The register values of the first requests of the array, each at the place with its number.
+#[tactic(auto, unfolding(requests::specs::Devices::capacity))]
 pub fn settings_of(
     setup: Setup,
     requests: [Request; CAPACITY],
@@ -221,6 +232,7 @@ pub fn settings_of(
 }
 
 // The register values of the requests in the first rows, each at its place in a packed plan.
+#[tactic(auto, unfolding(layouts::specs::Settings::settings_of, requests::specs::Devices::capacity, crate::specs::Adding::settings_with, crate::specs::Adding::others_with, crate::specs::Adding::with_packets))]
 pub fn settings_in(setup: Setup, code: u64, rows: &[u64; ROW_NUMBERS], count: usize) -> Settings
     ensures { result ≡ settings_of setup (rows_from rows.now 0 (min count capacity)) (places_from code 0 (rows_from rows.now 0 (min count capacity))) }
 {

@@ -11,6 +11,7 @@ use checks::rules::{has_rules, rule_of};
 use requests::{CAPACITY, Device, EventRule, Setup};
 
 // Whether the control word is 0, or its counter the one that may have an event.
+#[tactic(auto, unfolding(requests::specs::Choice::either))]
 fn off_or_at(counter: u64, allowed: u64, word: u64) -> bool
     ensures { result ≡ either (eqb counter allowed) (eqb word 0) }
 {
@@ -21,6 +22,7 @@ fn off_or_at(counter: u64, allowed: u64, word: u64) -> bool
 }
 
 // Whether every one of the first control words but that of a counter is 0.
+#[tactic(auto, unfolding(requests::specs::Choice::every, requests::specs::Devices::capacity))]
 fn others_off(limit: u64, words: [u64; CAPACITY], allowed: u64) -> bool
     requires { limit ≤ capacity }
     ensures { result ≡ every limit (λ k. either (eqb k allowed) (eqb (get_or words k 0) 0)) }
@@ -36,6 +38,7 @@ fn others_off(limit: u64, words: [u64; CAPACITY], allowed: u64) -> bool
 }
 
 // Whether an event that runs alone may run on a counter.
+#[tactic(auto, unfolding(layouts::specs::Read::may_run, layouts::specs::Read::others_off, requests::specs::Choice::both))]
 fn may_run_alone(setup: Setup, words: [u64; CAPACITY], counter: u64, wanted: u64) -> bool
     ensures { result ≡ may_run setup (λ k. get_or words k 0) counter (EventRule.AloneOn wanted) }
 {
@@ -50,6 +53,7 @@ fn may_run_alone(setup: Setup, words: [u64; CAPACITY], counter: u64, wanted: u64
 }
 
 // Whether an event with the rule may run on a counter.
+#[tactic(auto, unfolding(layouts::specs::Read::may_run))]
 fn may_run(setup: Setup, words: [u64; CAPACITY], counter: u64, rule: EventRule) -> bool
     ensures { result ≡ may_run setup (λ k. get_or words k 0) counter rule }
 {
@@ -61,6 +65,7 @@ fn may_run(setup: Setup, words: [u64; CAPACITY], counter: u64, rule: EventRule) 
 }
 
 // Whether a counter's event keeps its rule.
+#[tactic(auto, unfolding(requests::specs::Devices::capacity, layouts::specs::Read::rule_fits))]
 fn rule_fits(setup: Setup, words: [u64; CAPACITY], counter: u64) -> bool
     requires { counter < capacity }
     ensures { result ≡ rule_fits setup (λ k. get_or words k 0) counter }
@@ -72,6 +77,7 @@ fn rule_fits(setup: Setup, words: [u64; CAPACITY], counter: u64) -> bool
 }
 
 // Whether every counter's event keeps its rule.
+#[tactic(auto, unfolding(requests::specs::Choice::every))]
 fn rules_fit(setup: Setup, words: [u64; CAPACITY]) -> bool
     ensures { result ≡ every (counter_count setup.device) (rule_fits setup (λ k. get_or words k 0)) }
 {
@@ -88,6 +94,7 @@ fn rules_fit(setup: Setup, words: [u64; CAPACITY]) -> bool
 }
 
 // Whether IA32_PEBS_ENABLE may hold the value beside the control words.
+#[tactic(auto, unfolding(layouts::specs::Read::pebs_fits, requests::specs::Choice::either))]
 fn pebs_fits(device: Device, words: [u64; CAPACITY], value: u64) -> bool
     ensures { result ≡ pebs_fits device (λ k. get_or words k 0) value }
 {
@@ -98,6 +105,7 @@ fn pebs_fits(device: Device, words: [u64; CAPACITY], value: u64) -> bool
 }
 
 // Both, on a device that has such events.
+#[tactic(auto, unfolding(requests::specs::Choice::both))]
 pub fn precise_fits(setup: Setup, words: [u64; CAPACITY], value: u64) -> bool
     ensures { result ≡ both (pebs_fits setup.device (λ k. get_or words k 0) value) (every (counter_count setup.device) (rule_fits setup (λ k. get_or words k 0))) }
 {

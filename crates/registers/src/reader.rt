@@ -11,6 +11,7 @@ use layouts::{CounterRead, CounterState, FilterRead, FilterValues, Reading, Regi
 use requests::{Answer, CAPACITY, Device, Opened, Opening, Refusal, Setup};
 
 // The filter of a control word.
+#[tactic(auto, unfolding(layouts::specs::Read::filter_of))]
 fn filter_of(setup: Setup, filters: FilterValues, word: u64) -> FilterRead
     ensures { result ≡ filter_of setup filters word }
 {
@@ -37,6 +38,7 @@ fn filter_of(setup: Setup, filters: FilterValues, word: u64) -> FilterRead
 }
 
 // What a usable counter with the control word does.
+#[tactic(auto, unfolding(layouts::specs::Read::tell))]
 fn tell_word(setup: Setup, filters: FilterValues, word: u64) -> CounterState
     ensures { result ≡ tell setup filters word }
 {
@@ -65,6 +67,7 @@ fn tell_counter(usable: bool, setup: Setup, filters: FilterValues, word: u64) ->
 }
 
 // An accepted reading.
+#[tactic(auto, unfolding(requests::specs::Devices::capacity, layouts::specs::Layout::tabulate, layouts::specs::Read::reading_of))]
 fn reading_of(setup: Setup, values: RegisterValues) -> Reading
     ensures { result ≡ reading_of setup values }
 {
@@ -92,6 +95,7 @@ fn reading_of(setup: Setup, values: RegisterValues) -> Reading
 }
 
 // A refused reading tells nothing of any counter.
+#[tactic(auto, unfolding(layouts::specs::Read::refused_reading, requests::specs::Devices::capacity))]
 fn refused_reading(refusal: Refusal) -> Reading
     ensures { result ≡ refused_reading refusal }
 {

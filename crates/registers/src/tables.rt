@@ -85,6 +85,7 @@ const PACKET_UMASK: u8 = 0x00; // S, document 01: its unit mask
 pub const MM_CFG_ENABLE: u64 = 0x8000_0000_0000_0000; // S, 2.5.3.4, S_MSR_MM_CFG: bit 63
 
 // The global control register of a C-Box; open takes none above 7, for which the row of box 0 stands.
+#[tactic(auto, unfolding(layouts::specs::Layout::cbox_globals))]
 fn cbox_global(cbox: u64) -> u64
     ensures { result ≡ cbox_global cbox }
 {
@@ -95,6 +96,7 @@ fn cbox_global(cbox: u64) -> u64
 }
 
 // Where the registers of a C-Box's counters are.
+#[tactic(auto, unfolding(layouts::specs::Layout::layout_of))]
 fn cbox_layout(cbox: u64) -> Layout
     ensures { result ≡ layout_of (Device.C cbox) }
 {
@@ -108,6 +110,7 @@ fn cbox_layout(cbox: u64) -> Layout
 }
 
 // Where the registers of the device's counters are.
+#[tactic(auto, unfolding(layouts::specs::Layout::layout_of))]
 pub fn layout_of(device: Device) -> Layout
     ensures { result ≡ layout_of device }
 {
@@ -135,6 +138,7 @@ pub fn layout_of(device: Device) -> Layout
 }
 
 // The bits that every event word of the device has.
+#[tactic(auto, unfolding(layouts::specs::Layout::enabled_on))]
 fn enabled_on(device: Device) -> u64
     ensures { result ≡ enabled_on device }
 {
@@ -147,6 +151,7 @@ fn enabled_on(device: Device) -> u64
 }
 
 // The bits that every event word of the session has.
+#[tactic(auto, unfolding(layouts::specs::Layout::enabled, layouts::specs::Layout::pmi_enable))]
 fn enabled_bits(setup: Setup) -> u64
     ensures { result ≡ enabled setup }
 {
@@ -159,6 +164,7 @@ fn enabled_bits(setup: Setup) -> u64
 }
 
 // The control word of an event.
+#[tactic(auto, unfolding(layouts::specs::Layout::event_word))]
 pub fn event_word(setup: Setup, code: u8, mask: u8) -> u64
     ensures { result ≡ event_word setup code mask }
 {
@@ -166,6 +172,7 @@ pub fn event_word(setup: Setup, code: u8, mask: u8) -> u64
 }
 
 // The control word of a counter on an RSP register.
+#[tactic(auto, unfolding(layouts::specs::Layout::rsp_word, layouts::specs::Layout::rsp_mask, layouts::specs::Layout::offcore_code))]
 pub fn rsp_word(setup: Setup, register: u64) -> u64
     ensures { result ≡ rsp_word setup register }
 {
@@ -176,6 +183,7 @@ pub fn rsp_word(setup: Setup, register: u64) -> u64
 }
 
 // The control word of a counter on the match/mask register.
+#[tactic(auto, unfolding(layouts::specs::Layout::packet_word))]
 pub fn packet_word(setup: Setup) -> u64
     ensures { result ≡ packet_word setup }
 {
@@ -183,6 +191,7 @@ pub fn packet_word(setup: Setup) -> u64
 }
 
 // The event code in a control word.
+#[tactic(auto, unfolding(layouts::specs::Layout::code_of))]
 pub fn code_of(word: u64) -> u8
     ensures { result ≡ code_of word }
 {
@@ -190,6 +199,7 @@ pub fn code_of(word: u64) -> u8
 }
 
 // The unit mask in a control word.
+#[tactic(auto, unfolding(layouts::specs::Layout::mask_of))]
 pub fn mask_of(word: u64) -> u8
     ensures { result ≡ mask_of word }
 {

@@ -17,6 +17,7 @@ const EN_ALL: u64 = 0x1000_0000; // kernel driver, uncore_nhmex.c: en_all 28
 const CORE_SEL: u64 = 1; // kernel driver: the lowest bit of pmi_core_sel, which is that of core 0
 
 // The bit of frz_all, where a freeze is asked.
+#[tactic(auto, unfolding(layouts::specs::Layout::frz_all))]
 fn freeze_bit(freeze: u64) -> u64
     ensures { result ≡ pick (eqb freeze 0) 0 (2 ^ frz_all) }
 {
@@ -24,6 +25,7 @@ fn freeze_bit(freeze: u64) -> u64
 }
 
 // The bit of a core in pmi_core_sel.
+#[tactic(auto, unfolding(layouts::specs::Writes::core_bit))]
 fn core_bit(core: Core) -> u64
     ensures { result ≡ core_bit core }
 {
@@ -39,6 +41,7 @@ fn core_bit(core: Core) -> u64
 }
 
 // The last value: en_all and what is asked.
+#[tactic(auto, unfolding(layouts::specs::Writes::ubox_value, layouts::specs::Layout::en_all))]
 pub fn ubox_value(setup: Setup) -> u64
     ensures { result ≡ ubox_value setup }
 {
@@ -48,6 +51,7 @@ pub fn ubox_value(setup: Setup) -> u64
 }
 
 // Whether the register may hold the value.
+#[tactic(auto, unfolding(layouts::specs::Read::ubox_fits, requests::specs::Choice::either))]
 pub fn ubox_fits(setup: Setup, value: u64) -> bool
     ensures { result ≡ ubox_fits setup value }
 {

@@ -17,6 +17,7 @@ use layouts::{Settings, WriteAnswer};
 use requests::{CAPACITY, CounterSet, Device, Setup};
 
 // How many writes the filter registers and IA32_PEBS_ENABLE take.
+#[tactic(auto, unfolding(layouts::specs::Writes::filter_writes, layouts::specs::Writes::offcore_writes, layouts::specs::Writes::precise_writes, layouts::specs::Layout::pebs_on, layouts::specs::Writes::packet_writes))]
 fn extra_count(device: Device, settings: Settings) -> usize
     ensures { result ≡ length (filter_writes device settings) + length (precise_writes device settings) }
 {
@@ -50,6 +51,7 @@ pub fn write_count(setup: Setup, settings: Settings) -> usize
 }
 
 // One write at a place of the slice, if it is wanted; the place past it.
+#[tactic(auto, unfolding(layouts::specs::Writes::flat))]
 fn put(out: &mut [u64], at: usize, wanted: bool, address: u64, value: u64) -> usize
     requires { at + 2 * length (row wanted address value) ≤ length out.old }
     ensures { Appended out.old at (row wanted address value) out.new result }
@@ -63,6 +65,7 @@ fn put(out: &mut [u64], at: usize, wanted: bool, address: u64, value: u64) -> us
 }
 
 // The writes of values to base + step * k for the counters k below count of the set, rising.
+#[tactic(auto, unfolding(layouts::specs::Writes::rows, requests::specs::Devices::capacity))]
 fn put_rows(
     out: &mut [u64],
     at: usize,
@@ -93,6 +96,7 @@ fn put_rows(
 }
 
 // The RSP registers.
+#[tactic(auto, unfolding(layouts::specs::Writes::offcore_writes, layouts::specs::Layout::rsp0_at, layouts::specs::Layout::rsp1_at))]
 fn put_offcore(out: &mut [u64], at: usize, rsp0: u64, rsp1: u64) -> usize
     requires { at + 2 * length (offcore_writes rsp0 rsp1) ≤ length out.old }
     ensures { Appended out.old at (offcore_writes rsp0 rsp1) out.new result }
@@ -102,6 +106,7 @@ fn put_offcore(out: &mut [u64], at: usize, rsp0: u64, rsp1: u64) -> usize
 }
 
 // The match/mask register: off, and where packets are counted then set and on again.
+#[tactic(auto, unfolding(layouts::specs::Writes::packet_writes, layouts::specs::Layout::mm_cfg_at, layouts::specs::Layout::match_at, layouts::specs::Layout::mask_at, layouts::specs::Layout::mm_enable))]
 fn put_packets(out: &mut [u64], at: usize, packets: bool, match_word: u64, mask_word: u64) -> usize
     requires { at + 2 * length (packet_writes packets match_word mask_word) ≤ length out.old }
     ensures { Appended out.old at (packet_writes packets match_word mask_word) out.new result }
@@ -116,6 +121,7 @@ fn put_packets(out: &mut [u64], at: usize, packets: bool, match_word: u64, mask_
 }
 
 // The filter registers of the device.
+#[tactic(auto, unfolding(layouts::specs::Writes::filter_writes))]
 fn put_filters(out: &mut [u64], at: usize, device: Device, settings: Settings) -> usize
     requires { at + 2 * length (filter_writes device settings) ≤ length out.old }
     ensures { Appended out.old at (filter_writes device settings) out.new result }
@@ -135,6 +141,7 @@ fn put_filters(out: &mut [u64], at: usize, device: Device, settings: Settings) -
 }
 
 // IA32_PEBS_ENABLE where the device has it, and the global control register with its last value.
+#[tactic(auto, unfolding(layouts::specs::Writes::precise_writes, layouts::specs::Layout::pebs_at))]
 fn put_last(
     out: &mut [u64],
     at: usize,
@@ -155,6 +162,7 @@ fn put_last(
 }
 
 // The list of the device's own registers.
+#[tactic(auto, unfolding(layouts::specs::Writes::zeros, requests::specs::Devices::capacity))]
 fn put_box(out: &mut [u64], at: usize, setup: Setup, settings: Settings) -> usize
     requires { at + 2 * length (box_writes setup settings) ≤ length out.old }
     ensures { Appended out.old at (box_writes setup settings) out.new result }
@@ -185,6 +193,7 @@ fn put_box(out: &mut [u64], at: usize, setup: Setup, settings: Settings) -> usiz
 }
 
 // The whole list, where it has room: between two writes of the U-Box where something is asked.
+#[tactic(auto, unfolding(layouts::specs::Layout::ubox_at))]
 pub fn put_list(out: &mut [u64], setup: Setup, settings: Settings) -> usize
     requires { 2 * length (writes_for setup settings) ≤ length out.old }
     ensures { Appended out.old 0 (writes_for setup settings) out.new result }
