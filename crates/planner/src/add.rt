@@ -33,6 +33,7 @@ pub fn plans_alone(setup: Setup, request: Request) -> bool
 }
 
 // The answer to an add of an id, by the refusal table, told whether it is waiting.
+#[tactic(auto, unfolding(requests::specs::Refusals::answer_for, sessions::specs::Sessions::queue_limit, sessions::specs::Sessions::queued))]
 pub fn add_answer(
     opened: bool,
     setup: Setup,
@@ -65,6 +66,7 @@ pub fn add_answer(
 // Places a request with its id at the back of the queue.
 // The queue is looked through and changed here, in one copy: a call that indexes it makes a copy of its own.
 // The setup is read before the loops: behind them it costs a call by itself some 100 instructions more.
+#[tactic(auto, unfolding(sessions::specs::Sessions::add_of, sessions::specs::Sessions::queued))]
 pub fn add(session: Session, id: u64, request: Request) -> Answered
     ensures { result ≡ add_of session id request }
 {

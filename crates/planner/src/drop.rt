@@ -9,6 +9,7 @@ use requests::{Answer, Refusal};
 use sessions::{Answered, QUEUE_LIMIT, Session};
 
 // The answer to a drop of an id, by the refusal table, told whether it is waiting.
+#[tactic(auto, unfolding(requests::specs::Refusals::answer_for))]
 pub fn drop_answer(opened: bool, waiting: bool, id: u64) -> Answer
     ensures { AnswersDrop opened waiting id result }
 {
@@ -22,6 +23,7 @@ pub fn drop_answer(opened: bool, waiting: bool, id: u64) -> Answer
 }
 
 // Takes the id out of the queue. The others keep their order: they close up in place, from where the id is found on.
+#[tactic(auto, unfolding(sessions::specs::Sessions::drop_of, sessions::specs::Sessions::queued))]
 pub fn drop_request(session: Session, id: u64) -> Answered
     ensures { result ≡ drop_of session id }
 {

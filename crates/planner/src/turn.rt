@@ -17,6 +17,7 @@ use search::rows::ROW_NUMBERS;
 use sessions::{Assigned, QUEUE_LIMIT, Session, TurnAnswered};
 
 // What stands in a place of the plan that is not used.
+#[tactic(auto, unfolding(sessions::specs::Sessions::unassigned))]
 pub fn unassigned() -> Assigned
     ensures { result ≡ unassigned }
 {
@@ -27,6 +28,7 @@ pub fn unassigned() -> Assigned
 }
 
 // A turn that is refused: nothing is chosen.
+#[tactic(auto, unfolding(crate::specs::Selections::refused_with))]
 fn refused(refusal: Refusal) -> Outcome
     ensures { result ≡ refused_with refusal }
 {
@@ -43,6 +45,7 @@ fn refused(refusal: Refusal) -> Outcome
 }
 
 // What a turn does: it chooses from the front of the queue, and writes the write list of what is chosen into the slice.
+#[tactic(auto, unfolding(requests::specs::Devices::capacity))]
 fn outcome_of(
     session: Session,
     taken: &mut [usize; CAPACITY],
@@ -100,6 +103,7 @@ fn turn_answered(outcome: Outcome, session: Session, plan: [Assigned; CAPACITY])
 
 // Takes the requests that have a plan together, from the front of the queue, and writes their write list into the slice.
 // The queue is made anew here, beside the session: a call that is handed the session makes a copy of it.
+#[tactic(auto, unfolding(crate::specs::Selections::entries_at, sessions::specs::Sessions::vacant, crate::specs::Selections::planned, sessions::specs::Turns::assign, plans::specs::Packed::places_from, sessions::specs::Turns::requests_of, requests::specs::Devices::capacity, sessions::specs::Sessions::turn_answer, crate::specs::Selections::refused_with))]
 pub fn turn(session: Session, out: &mut [u64]) -> TurnAnswered
     ensures value { result ≡ turn_of session (length out.old) }
     ensures out_after { out.new ≡ turn_slice session out.old }
