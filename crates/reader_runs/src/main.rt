@@ -12,6 +12,7 @@ mod values;
 use crate::asked::{cbox_event, event, four, latency, offcore, packet, six};
 use crate::run::run;
 use requests::{Core, CounterSet, Device, Overflow, Setup};
+use std::io;
 
 // An overflow that does nothing.
 fn unasked() -> Overflow {
@@ -76,7 +77,7 @@ fn asking(setup: Setup, freeze: u64, core: Core) -> Setup {
     }
 }
 
-fn on_g() {
+fn on_g(rt: &impl Print) -> io::Result<()> {
     let halted = event(0x3C, 0x00);
     let retired = event(0xC0, 0x00);
     let events = four(
@@ -89,18 +90,18 @@ fn on_g() {
     let pairs = four(latency(0x8001), latency(0x8001), halted, halted);
     let words = four(offcore(0x12_0000_0002), offcore(0x1_0002), halted, halted);
     let hits = four(offcore(0x4_0001), offcore(0x2_0004_0001), halted, halted);
-    run(g(15, 0), events, 0);
-    run(g(15, 0), events, 4);
-    run(g(15, 0), shared, 2);
-    run(g(15, 0), pairs, 2);
-    run(g(14, 0), words, 3);
-    run(g(15, 0), hits, 3);
-    run(g(15, 5), events, 0);
-    run(g(15, 5), events, 4);
-    run(g(14, 7), words, 3);
+    run(rt, g(15, 0), events, 0)?;
+    run(rt, g(15, 0), events, 4)?;
+    run(rt, g(15, 0), shared, 2)?;
+    run(rt, g(15, 0), pairs, 2)?;
+    run(rt, g(14, 0), words, 3)?;
+    run(rt, g(15, 0), hits, 3)?;
+    run(rt, g(15, 5), events, 0)?;
+    run(rt, g(15, 5), events, 4)?;
+    run(rt, g(14, 7), words, 3)
 }
 
-fn on_s() {
+fn on_s(rt: &impl Print) -> io::Result<()> {
     let bypass = event(0x51, 0x03);
     let events = four(
         event(0x51, 0x01),
@@ -110,16 +111,16 @@ fn on_s() {
     );
     let packets = four(packet(), packet(), bypass, bypass);
     let one = four(packet(), bypass, bypass, bypass);
-    run(s(9), events, 0);
-    run(s(15), events, 4);
-    run(s(15), packets, 3);
-    run(s(14), one, 2);
-    run(asking(s(9), 1, Core::NoCore), events, 0);
-    run(asking(s(15), 0, Core::At(0)), events, 4);
-    run(asking(s(14), 1, Core::At(7)), one, 2);
+    run(rt, s(9), events, 0)?;
+    run(rt, s(15), events, 4)?;
+    run(rt, s(15), packets, 3)?;
+    run(rt, s(14), one, 2)?;
+    run(rt, asking(s(9), 1, Core::NoCore), events, 0)?;
+    run(rt, asking(s(15), 0, Core::At(0)), events, 4)?;
+    run(rt, asking(s(14), 1, Core::At(7)), one, 2)
 }
 
-fn on_c() {
+fn on_c(rt: &impl Print) -> io::Result<()> {
     let maf = cbox_event(0x1F, 0x00);
     let listed = six(
         cbox_event(0x19, 0x00),
@@ -135,20 +136,21 @@ fn on_c() {
         cbox_event(0x09, 0x7F),
         maf,
     );
-    run(c(63, 0), listed, 0);
-    run(c(63, 0), listed, 6);
-    run(c(48, 1), four(maf, maf, maf, maf), 1);
-    run(c(62, 7), masked, 3);
-    run(asking(c(63, 0), 1, Core::At(2)), listed, 6);
+    run(rt, c(63, 0), listed, 0)?;
+    run(rt, c(63, 0), listed, 6)?;
+    run(rt, c(48, 1), four(maf, maf, maf, maf), 1)?;
+    run(rt, c(62, 7), masked, 3)?;
+    run(rt, asking(c(63, 0), 1, Core::At(2)), listed, 6)?;
     run(
+        rt,
         asking(c(48, 1), 0, Core::At(5)),
         four(maf, maf, maf, maf),
         1,
-    );
-    run(asking(c(62, 7), 1, Core::NoCore), masked, 0);
+    )?;
+    run(rt, asking(c(62, 7), 1, Core::NoCore), masked, 0)
 }
 
-fn on_b() {
+fn on_b(rt: &impl Print) -> io::Result<()> {
     let halted = event(0x3C, 0x00);
     let retired = event(0xC0, 0x00);
     let store = event(0xCD, 0x02);
@@ -160,19 +162,24 @@ fn on_b() {
     );
     let lone = four(event(0xC0, 0x01), halted, halted, halted);
     let stores = four(store, halted, event(0x2E, 0x4F), halted);
-    run(b(15, 0), events, 0);
-    run(b(15, 0), events, 4);
-    run(b(15, 0), lone, 1);
-    run(b(15, 5), lone, 1);
-    run(b(15, 0), four(retired, store, halted, halted), 2);
-    run(b(14, 7), stores, 3);
-    run(b(8, 0), stores, 1);
-    run(b(7, 1), four(event(0xC4, 0x00), halted, halted, halted), 1);
+    run(rt, b(15, 0), events, 0)?;
+    run(rt, b(15, 0), events, 4)?;
+    run(rt, b(15, 0), lone, 1)?;
+    run(rt, b(15, 5), lone, 1)?;
+    run(rt, b(15, 0), four(retired, store, halted, halted), 2)?;
+    run(rt, b(14, 7), stores, 3)?;
+    run(rt, b(8, 0), stores, 1)?;
+    run(
+        rt,
+        b(7, 1),
+        four(event(0xC4, 0x00), halted, halted, halted),
+        1,
+    )
 }
 
-fn main() {
-    on_g();
-    on_s();
-    on_c();
-    on_b();
+fn main(rt: HostRuntime) -> io::Result<()> {
+    on_g(&rt)?;
+    on_s(&rt)?;
+    on_c(&rt)?;
+    on_b(&rt)
 }
