@@ -22,7 +22,7 @@ fn add_named<'a>(
     site: &'a [u8],
     house: &'a [u8],
 ) -> Parsed
-    ensures { result ≡ add_named (record { site = site.entry.now; house = house.now }) device name.now id allowed }
+    ensures { result ≡ add_named (record { site = site.now; house = house.now }) device name.now id allowed }
 {
     if lists_formed(site, house) {
         let request = request_named(name, site, house, device, allowed);
@@ -32,6 +32,7 @@ fn add_named<'a>(
 }
 
 // `named` id name allowed
+#[tactic(auto, unfolding(crate::specs::ParseWith::named_line))]
 pub fn named_line<'a>(
     text: &[u8],
     parts: Parts,
@@ -41,7 +42,7 @@ pub fn named_line<'a>(
     house: &'a [u8],
 ) -> Parsed
     requires { Parted text.now parts }
-    ensures { result ≡ named_line (record { site = site.entry.now; house = house.now }) device text.now closed }
+    ensures { result ≡ named_line (record { site = site.now; house = house.now }) device text.now closed }
 {
     let Number::Value(id) = number_at(text, parts, 1, DECIMAL) else {
         return Parsed::Fault(1);

@@ -10,6 +10,7 @@ use requests::Device;
 use scanner::fields::parts_of;
 
 // A record is none where the line is too long, nor is a request by name; at fault is then field n.
+#[tactic(auto, unfolding(grammar::specs::Parse::too_long_lem))]
 fn too_long(parsed: Parsed, n: usize) -> Parsed
     ensures { result ≡ too_long_lem parsed n }
 {
@@ -21,6 +22,7 @@ fn too_long(parsed: Parsed, n: usize) -> Parsed
 }
 
 // What a text asks for on a device, closed by a newline or not, whole or the first bytes of a longer one.
+#[tactic(auto, unfolding(crate::specs::ParseWith::parse_text_with))]
 pub fn parse_text<'a>(
     text: &[u8],
     closed: bool,
@@ -29,7 +31,7 @@ pub fn parse_text<'a>(
     site: &'a [u8],
     house: &'a [u8],
 ) -> Parsed
-    ensures { result ≡ parse_text_with (record { site = site.entry.now; house = house.now }) device text.now closed long }
+    ensures { result ≡ parse_text_with (record { site = site.now; house = house.now }) device text.now closed long }
 {
     let parts = parts_of(text);
     let parsed = record_with(text, parts, closed, device, site, house);
@@ -40,6 +42,7 @@ pub fn parse_text<'a>(
 }
 
 // Whether the line ends with a newline.
+#[tactic(auto, unfolding(grammar::specs::Parse::is_closed, grammar::specs::Text::newline))]
 fn is_closed(line: &[u8]) -> bool
     ensures { result ≡ is_closed line.now }
 {
@@ -51,6 +54,7 @@ fn is_closed(line: &[u8]) -> bool
 }
 
 // The number of its bytes without it.
+#[tactic(auto, unfolding(grammar::specs::Parse::text_length))]
 fn text_length(line: &[u8], closed: bool) -> usize
     requires { closed ≡ is_closed line.now }
     ensures { result ≡ text_length line.now }
@@ -63,7 +67,7 @@ fn text_length(line: &[u8], closed: bool) -> usize
 
 // What a line asks for on a device.
 pub fn parse_line<'a>(line: &[u8], device: Device, site: &'a [u8], house: &'a [u8]) -> Parsed
-    ensures { result ≡ parse_line_with (record { site = site.entry.now; house = house.now }) device line.now }
+    ensures { result ≡ parse_line_with (record { site = site.now; house = house.now }) device line.now }
 {
     let closed = is_closed(line);
     let n = text_length(line, closed);

@@ -14,6 +14,7 @@ use scanner::verbs::{
 };
 
 // What a text asks for on a device. Only a request by name looks at the lists.
+#[tactic(auto, unfolding(grammar::specs::Verbs::verbs, grammar::specs::Verbs::has_verb, grammar::specs::Text::bytes, grammar::specs::Fields::same_bytes_lem))]
 pub fn record_with<'a>(
     text: &[u8],
     parts: Parts,
@@ -23,7 +24,7 @@ pub fn record_with<'a>(
     house: &'a [u8],
 ) -> Parsed
     requires { Parted text.now parts }
-    ensures { result ≡ record_with (record { site = site.entry.now; house = house.now }) device text.now closed }
+    ensures { result ≡ record_with (record { site = site.now; house = house.now }) device text.now closed }
 {
     if is_word(text, parts, 0, b"open") {
         return open_line(text, parts, closed);
