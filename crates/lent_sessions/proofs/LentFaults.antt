@@ -19,7 +19,7 @@ use Rattle.requests.specs.Choice.{pick}
 use Rattle.requests.specs.Faults.{at, refusal_in, opening_fields, request_fields, turns_fields, no_fields, field_of, with_field}
 use Rattle.requests.proofs.Tests.{both_ways}
 use Rattle.requests.proofs.FaultRows.{field_dropped}
-use Rattle.sessions.specs.Calls.{Call, Open, Add, Drop, Turn, Turns, opened}
+use Rattle.sessions.specs.Calls.{Call, Open, Add, Drop, Turn, Turns}
 use Rattle.sessions.specs.Table.{refusal}
 use Rattle.sessions.specs.FaultTable.{fault, fields_of, On}
 use Rattle.sessions.specs.FaultRows.{AppliesAt}

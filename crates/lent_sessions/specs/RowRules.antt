@@ -1,6 +1,5 @@
 -- The rules of a row set in the order's own words, and that the test of them is exact.
 use Rattle.std.specs.Prelude.{◌≡◌, true, List, [], ◌∷◌, ◌++◌, ℕ, ◌≤◌, length, replicate}
-use Rattle.requests.specs.declared.CounterSet.{CounterSet}
 use Rattle.requests.specs.declared.Setup.{Setup}
 use Rattle.requests.specs.declared.Request.TheVariants.{Event}
 use Rattle.requests.specs.declared.Entry.{Entry}

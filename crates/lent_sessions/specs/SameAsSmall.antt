@@ -1,6 +1,6 @@
 -- "Each call does what a small session with that limit would on the same queue": with any number of records by the table and the plain queue
 -- with that limit, and by `LentTurnPlan`; with 16 records by the small session itself.
-use Rattle.std.specs.Prelude.{◌≡◌, List, true, ℕ, length}
+use Rattle.std.specs.Prelude.{◌≡◌, List, ℕ, length}
 use Rattle.requests.specs.declared.Entry.{Entry}
 use Rattle.requests.specs.declared.Answer.TheVariants.{Accepted}
 use Rattle.requests.specs.Refusals.{answer_for}
