@@ -6,7 +6,7 @@ use mathlib.Core.Path.{◌≡◌, refl, ap, subst, ◌∙◌}
 use mathlib.Core.Logic.{◌≢◌, ◌⊎◌, inl, inr}
 use mathlib.Core.Bool.{false}
 use mathlib.Core.List.Memᴰ
-use mathlib.Core.List.{List, [], ◌∷◌, ◌++◌, map, map-append, append_assoc, append-nil, Memᴰ}
+use mathlib.Core.List.{List, [], ◌∷◌, ◌++◌, append_assoc, append-nil, Memᴰ}
 use mathlib.Core.Option.{Option, none, some}
 use Prim.Native.Nat.{ℕ, zero, suc, ◌+◌, ◌≤◌}
 use native.Mathlib.Omega.{arith}
@@ -21,18 +21,17 @@ use Rattle.plans.specs.Places.{counters_of}
 use Rattle.plans.specs.Legal.{counters}
 use Rattle.layouts.specs.Writes.{writes}
 use Rattle.sessions.specs.declared.Session.{Session}
-use Rattle.sessions.specs.Turns.{requests_of, taken, passed, turned, assign}
+use Rattle.sessions.specs.Turns.{requests_of, taken, assign}
 use Rattle.sessions.specs.Calls.{Call, Plain, not_open_lem, opened}
 use Rattle.sessions.specs.Calls as calls
 use Rattle.sessions.specs.Table.{refusal}
 use Rattle.sessions.specs.Plain.{turns_asked, unless_refused, step, run, completes, completed}
 use Rattle.sessions.specs.Sessions.{queue_limit, plain_of, refused_by, turn_of, plan_of, answer_to, next_session, session_after, queue_after}
 use Rattle.sessions.specs.Completed.{small_session, CompletedTurn, turns_if, turns_by, turns_of}
-use Rattle.sessions.specs.Sound.{Sound}
 use Rattle.sessions.specs.DistinctIds.{Distinct}
 use Rattle.sessions.specs.Demand3.{InOneOf, Dropped}
 use Rattle.sessions.specs.ShorterPromise.{rounds}
-use Rattle.sessions.proofs.Lists.{all_joined, pairwise_right}
+use Rattle.sessions.proofs.Lists.{all_joined}
 use Rattle.sessions.proofs.Agreed.{answer_is, next_is}
 use Rattle.sessions.proofs.SmallSession.{agreement}
 use Rattle.sessions.proofs.Given.{taken_distinct}

@@ -4,7 +4,6 @@
 --     turn-field                                  that of a turn is 0
 use mathlib.Core.Path.{◌≡◌, refl, ap, sym, subst, ◌∙◌}
 use mathlib.Core.Bool.{Bool, true, false}
-use mathlib.Core.List.{List}
 use mathlib.Core.Option.{Option, none, some}
 use Prim.Native.Nat.{ℕ}
 use Rattle.requests.specs.declared.Refusal.{Refusal}
@@ -16,8 +15,8 @@ use Rattle.requests.specs.Refusals.{number_of, answer_for}
 use Rattle.requests.specs.Faults.{no_fields, field_of, answer_field, with_field}
 use Rattle.sessions.specs.declared.Session.{Session}
 use Rattle.sessions.specs.Calls.{Call, Plain, not_open_lem, opened, Turn}
-use Rattle.sessions.specs.FaultTable.{fault, fields_of, On}
-use Rattle.sessions.specs.Sessions.{queue_limit, queued, plain_of, refused_by, answer_to, turn_of}
+use Rattle.sessions.specs.FaultTable.{fields_of, On}
+use Rattle.sessions.specs.Sessions.{queue_limit, queued, plain_of, refused_by, answer_to}
 use Rattle.sessions.proofs.Agreed.{answer_is}
 use Rattle.sessions.proofs.FaultRows.{fault_rows}
 use Rattle.sessions.proofs.TableAnswers.{turn_closed}

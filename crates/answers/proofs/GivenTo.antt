@@ -101,3 +101,4 @@ placed (x ∷ es) (p ∷ ps) e (and a each) (add h d) m = go (Memᴰ.cases_cons 
           allowed = g.allowed;
           given = both_given ∙ rw (given_other e.id x.id apart (counted_of p)) g.given;
         }
+placed (x ∷ es) [] e each d m = elim each [ ]

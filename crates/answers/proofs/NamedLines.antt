@@ -33,7 +33,6 @@ use Rattle.grammar.proofs.GrammarHolds.{grammar}
 use Rattle.grammar.proofs.Outcomes.{fault_not_line}
 use Rattle.grammar.proofs.Settled.{Settled, asks, faulty, line_is}
 use Rattle.grammar.specs.Grammar.{IsText}
-use Rattle.grammar.specs.declared.Record.{Record}
 use Rattle.grammar.specs.declared.Record.TheVariants.{Add}
 use Rattle.grammar.specs.declared.Parsed.{Parsed}
 use Rattle.grammar.specs.declared.Parsed.TheVariants.{Line}
@@ -108,7 +107,7 @@ module _ (n : NameLists) (name : List ℕ) (l : AreLists n) where
 
   -- what the look-up finds is a row in the order's words
   row_found : (text : List ℕ) (x : RowRead) → row_of text ≡ x → is_formed x ≡ true → FoundIn n name text → (row : Row) × RowOfName n name row
-  row_found text (Bad x) e h f = absurd (false≢true h)
+  row_found text Bad e h f = absurd (false≢true h)
   row_found text (Formed row) e h f =
       let named : field_at text 0 ≡ name = ⊎_elim (λ t. t.named) (λ t. t.1.named) f in
       let only = row_grammar.only text row e in

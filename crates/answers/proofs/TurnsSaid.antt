@@ -95,6 +95,8 @@ assigned_fits s [] [] nil lists.none us = nil
 assigned_fits s (e ∷ es) (p ∷ ps) (cons f fs) (and a each) us =
     cons (id_fits e.id e.request f, place_fits s e.request p a (all_left (counters_of p) (counters ps) us))
     (assigned_fits s es ps fs each (all_right (counters_of p) us))
+assigned_fits s [] (p ∷ ps) _ h us = elim h [ ]
+assigned_fits s (e ∷ es) [] _ h us = elim h [ ]
 
 -- ---- `set` lines
 

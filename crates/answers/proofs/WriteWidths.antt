@@ -3,7 +3,7 @@
 use mathlib.Core.Path.{◌≡◌, refl}
 use mathlib.Core.Bool.{Bool, true, false}
 use mathlib.Core.List.{List, [], ◌∷◌, flat_map}
-use Prim.Native.Nat.{ℕ, ◌+◌, ◌*◌, ◌%◌, ◌^◌, ◌≤◌, ◌<◌}
+use Prim.Native.Nat.{ℕ, ◌+◌, ◌*◌, ◌^◌, ◌≤◌, ◌<◌}
 use native.Mathlib.Nat.{mod-lt}
 use native.Mathlib.Omega.{arith}
 use lib.Dec.{ltb, eqb}
@@ -30,7 +30,7 @@ use Rattle.requests.proofs.DeviceNumbers.{numbers}
 use Rattle.plans.proofs.Sets.{all_append}
 use Rattle.plans.proofs.PlanLengthHolds.{plan_length}
 use Rattle.layouts.specs.declared.Settings.{Settings}
-use Rattle.layouts.specs.Layout.{tabulate, rsp0_at, rsp1_at, mm_cfg_at, match_at, mask_at, ubox_at, pebs_at, pebs_on, mm_enable, frz_all, en_all, core_sel, precise_store, is_event, enabled_on, pmi_enable, enabled, event_word, offcore_code, rsp_mask, rsp_word, packet_word}
+use Rattle.layouts.specs.Layout.{rsp0_at, rsp1_at, mm_cfg_at, match_at, mask_at, ubox_at, pebs_at, pebs_on, mm_enable, frz_all, en_all, core_sel, precise_store, is_event, enabled_on, pmi_enable, enabled, event_word, offcore_code, rsp_mask, rsp_word, packet_word}
 use Rattle.layouts.specs.Settings.{uses_of, word_at, head_or, nonempty, settings_of}
 use Rattle.layouts.specs.Writes.{Write, unusable, fixed_at, fixed_enables, first_global, last_global, offcore_writes, packet_writes, filter_writes, row, pebs_enable, precise_writes, core_bit, ubox_value, writes}
 use Rattle.layouts.proofs.ListLaws.{all_head}

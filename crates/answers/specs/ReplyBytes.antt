@@ -1,7 +1,6 @@
 -- Document 01, 'Lines': the answers "`ok`, or `no` and the number" (order 11: and the field at fault), "`take` id counter register" and "`set` address(4)
 -- value(16)", byte by byte. Other statements and the examples quote these words, which `bytes` spells for both sides.
-use Rattle.std.specs.Prelude.{◌≡◌, [], ◌∷◌, ◌++◌, ℕ}
-use Rattle.std.proofs.Math.Option.{none, some}
+use Rattle.std.specs.Prelude.{◌≡◌, [], ◌∷◌, ℕ}
 use Rattle.requests.specs.declared.Answer.TheVariants.{Accepted, Refused}
 use Rattle.requests.specs.declared.Refusal.TheVariants.{NotLeftByPlan}
 use Rattle.plans.specs.declared.Place.TheVariants.{Counter, WithRsp, Pair}
