@@ -15,7 +15,6 @@ use Rattle.requests.specs.declared.Setup.{Setup}
 use Rattle.requests.specs.declared.Request.{Request}
 use Rattle.requests.specs.declared.Request.TheVariants.{Event}
 use Rattle.requests.specs.declared.Entry.{Entry}
-use Rattle.requests.specs.Askings.{unasked}
 use Rattle.requests.specs.Bits.{bit}
 use Rattle.requests.specs.Choice.{both, either, every}
 use Rattle.requests.specs.Devices.{has, counter_count, letter_of}

@@ -1,5 +1,5 @@
 -- Lent records, lists of calls and what comes of them, computed on the definitions.
-use Rattle.std.specs.Prelude.{◌≡◌, List, [], ◌∷◌, ◌++◌, map, true, false, ℕ, zero, suc, length, replicate}
+use Rattle.std.specs.Prelude.{◌≡◌, List, [], ◌∷◌, map, true, ℕ, zero, suc, length, replicate}
 use Rattle.std.proofs.Math.Option.{Option, none, some}
 use Rattle.requests.specs.Askings.{unasked}
 use Rattle.requests.specs.declared.CounterSet.{CounterSet}

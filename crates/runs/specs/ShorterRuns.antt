@@ -1,5 +1,5 @@
 -- Order 14, computed on the definitions: queues on which the shorter promise is tight, and such as it does not speak of.
-use Rattle.std.specs.Prelude.{◌≡◌, List, [], ◌∷◌, ◌++◌, map, Bool, true, false, ℕ, suc, eqb, length, drop, replicate}
+use Rattle.std.specs.Prelude.{◌≡◌, List, [], ◌∷◌, ◌++◌, map, Bool, false, ℕ, suc, eqb, length, drop, replicate}
 use Rattle.requests.specs.declared.Device.{Device}
 use Rattle.requests.specs.declared.Device.TheVariants.{G, S, C, B}
 use Rattle.requests.specs.declared.CounterSet.{CounterSet}
