@@ -8,6 +8,7 @@ use checks::devices::setup_of;
 use requests::{Answer, Opened, Opening, Refusal};
 
 // Opens a session, once. The arrays stay as they are: of an opened session none of their places counts.
+#[tactic(auto, unfolding(crate::specs::Heads::answered_in, crate::specs::Heads::session_in))]
 pub fn open(head: Head, opening: Opening) -> HeadAnswered
     ensures { (ids rows : List ℕ) → answered_in result ids rows ≡ open_of (session_in head ids rows) opening }
 {

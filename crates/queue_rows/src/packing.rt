@@ -10,6 +10,7 @@ use requests::Entry;
 use sessions::{QUEUE_LIMIT, Session};
 
 // Puts the queue into the arrays, whatever stands past it too.
+#[tactic(auto, unfolding(sessions::specs::Sessions::vacant))]
 pub fn pack(session: Session, ids: &mut [u64; QUEUE_LIMIT], rows: &mut [u64; QUEUE_NUMBERS]) -> Head
     requires { Sized ids.old rows.old }
     ensures rows_after { session_in result ids.new rows.new ≡ session }
@@ -33,6 +34,7 @@ pub fn pack(session: Session, ids: &mut [u64; QUEUE_LIMIT], rows: &mut [u64; QUE
 }
 
 // How many places count, of those that the arrays have.
+#[tactic(auto, unfolding(crate::specs::Heads::places))]
 fn places_of(head: Head) -> usize
     ensures { result ≡ min (places head) 16 }
 {
@@ -43,6 +45,7 @@ fn places_of(head: Head) -> usize
 }
 
 // The session of a head and the arrays.
+#[tactic(auto, unfolding(crate::specs::Rows::entry_at))]
 pub fn unpack(head: Head, ids: &[u64; QUEUE_LIMIT], rows: &[u64; QUEUE_NUMBERS]) -> Session
     ensures { result ≡ session_in head ids.now rows.now }
 {

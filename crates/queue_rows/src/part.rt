@@ -53,6 +53,7 @@ pub fn part(
 }
 
 // Puts the entries that were put aside behind the first ones.
+#[tactic(auto, unfolding(layouts::specs::Layout::tabulate, crate::specs::Rows::entry_at, search::specs::Rows::request_at))]
 pub fn put_behind(
     ids: &mut [u64; QUEUE_LIMIT],
     rows: &mut [u64; QUEUE_NUMBERS],

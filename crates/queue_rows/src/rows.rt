@@ -10,6 +10,7 @@ use search::rows::{request_of, row_of};
 use sessions::QUEUE_LIMIT;
 
 // The request of row `at`.
+#[tactic(auto, unfolding(search::specs::Rows::request_at))]
 pub fn request_in(rows: &[u64; QUEUE_NUMBERS], at: usize) -> Request
     requires { at < 16 }
     ensures { result ≡ request_at rows.now at }
@@ -22,6 +23,7 @@ pub fn request_in(rows: &[u64; QUEUE_NUMBERS], at: usize) -> Request
 }
 
 // An id and four numbers become the entry at a place.
+#[tactic(auto, unfolding(search::specs::Rows::set_row))]
 pub fn put_numbers(
     ids: &mut [u64; QUEUE_LIMIT],
     rows: &mut [u64; QUEUE_NUMBERS],
@@ -60,6 +62,7 @@ pub fn put_entry(
 }
 
 // The entry at one place stands at another too.
+#[tactic(auto, unfolding(crate::specs::Rows::entry_at, search::specs::Rows::request_at))]
 pub fn copy_entry(
     ids: &mut [u64; QUEUE_LIMIT],
     rows: &mut [u64; QUEUE_NUMBERS],

@@ -51,6 +51,7 @@ fn taken_turn(setup: Setup, n: usize, chosen: Chosen, writes: usize) -> TurnTake
 
 // Takes the requests that have a plan together, from the front of the queue, and writes their write list into the slice, which has room
 // for it: the queue is changed before the list is written.
+#[tactic(auto, unfolding(requests::specs::Devices::capacity))]
 pub fn turn(
     head: Head,
     ids: &mut [u64; QUEUE_LIMIT],
