@@ -15,7 +15,7 @@ use Rattle.requests.specs.declared.Request.{Request}
 use Rattle.requests.specs.declared.Entry.{Entry}
 use Rattle.requests.specs.declared.Refusal.{Refusal}
 use Rattle.requests.specs.declared.Refusal.TheVariants.{CallOrder, BadOpening}
-use Rattle.requests.specs.declared.Answer.TheVariants.{Accepted, Refused}
+use Rattle.requests.specs.declared.Answer.TheVariants.{Accepted}
 use Rattle.requests.specs.Refusals.{answer_for}
 use Rattle.requests.specs.Choice.{both}
 use Rattle.requests.specs.declared.Opened.{Opened}

@@ -50,16 +50,16 @@ left_word left id h = go (dec_lt (id / 64) (length left))
     go (yes l) = l
     go (no f) =
         let e : get_or left (id / 64) 0 ≡ 0 = get_or-eq_default left 0 (omega arith) in
-        absurd (false≢true (sym (bit_zero (id % 64)) ∙ ap (bit (id % 64)) (sym e) ∙ h))
+        absurd (false≢true (sym (bit_zero _) ∙ ap (bit _) (sym e) ∙ h))
 
 -- no id is left past the words
 pub left_past : (left : List ℕ) (id : ℕ) → length left ≤ id / 64 → is_left left id ≡ false
 unfolding is_left
-left_past left id l = ap (bit (id % 64)) (get_or-eq_default left 0 l) ∙ bit_zero (id % 64)
+left_past left id l = ap (bit _) (get_or-eq_default left 0 l) ∙ bit_zero _
 
 pub left_self : (left : List ℕ) (id : ℕ) → is_left left id ≡ true → is_left (taken_id left id) id ≡ false
 unfolding is_left taken_id
-left_self left id h = rw (get_or-set_same left (id / 64) (get_or left (id / 64) 0 - 2 ^ (id % 64)) 0 (left_word left id h)) (bit_self (id % 64) (get_or left (id / 64) 0) h)
+left_self left id h = rw (get_or-set_same left (id / 64) (get_or left (id / 64) 0 - 2 ^ (id % 64)) 0 (left_word left id h)) (bit_self _ (get_or left (id / 64) 0) h)
 
 pub left_other : (left : List ℕ) (id other : ℕ) → is_left left id ≡ true → (id ≡ other → ⊥) → is_left (taken_id left id) other ≡ is_left left other
 unfolding is_left taken_id

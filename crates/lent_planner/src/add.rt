@@ -15,6 +15,7 @@ use planner::ids::outside_ids;
 use requests::{Answer, Entry, Refusal, Request, Setup};
 
 // The answer to an add, by the refusal table, where the pass over the records has found t.
+#[tactic(auto, unfolding(requests::specs::Refusals::answer_for))]
 fn add_answer(setup: Setup, n: usize, t: Survey, id: u64, request: Request) -> Answer
     ensures { AnswersAdd setup n t id request result }
 {
@@ -38,6 +39,7 @@ fn add_answer(setup: Setup, n: usize, t: Survey, id: u64, request: Request) -> A
 }
 
 // What an add comes to, with n records in which the pass has found t.
+#[tactic(auto, unfolding(lent_sessions::specs::Records::most_records))]
 pub fn decide_add(session: LentSession, n: usize, t: Survey, id: u64, request: Request) -> Decision
     ensures { DecidesFor session n t id (Add id request) result }
 {

@@ -13,6 +13,7 @@ use search::reach::{left_at_first, left_by};
 use search::rows::ROW_NUMBERS;
 
 // A choice of n records that has not begun.
+#[tactic(auto, unfolding(requests::specs::Devices::capacity, crate::specs::Changes::nowhere))]
 pub fn begun(setup: Setup, n: usize) -> Choice
     ensures { HasChosen setup [] result × (result.end ≡ n) }
 {
@@ -36,6 +37,7 @@ pub fn begun(setup: Setup, n: usize) -> Choice
 }
 
 // The choice, with nothing more to be looked at.
+#[tactic(auto, unfolding(crate::specs::Choices::stopped))]
 fn stopped(t: Choice) -> Choice
     ensures { result ≡ stopped t }
 {
@@ -76,6 +78,7 @@ pub fn leaves_none(t: Choice, e: Entry) -> bool
 
 // The choice after record i: it is taken where it and those taken have a plan. Nothing more is looked at from the first vacant record on, and once
 // as many are taken as counters are usable.
+#[tactic(auto, unfolding(crate::proofs::ChoiceLaws::taking_one_lem))]
 pub fn choose(t: Choice, i: usize, e: Entry) -> Choice
     requires { Ready t }
     ensures { Chose t i e result }

@@ -7,6 +7,7 @@ use checks::fields::{no_fields, opening_fields};
 use requests::{Fields, Opening};
 
 // The fields of an open with n records. Those of the other calls are as in a small session.
+#[tactic(auto, unfolding(lent_sessions::specs::LentFaultTable::lent_opening_fields))]
 pub fn lent_opening_fields(n: usize, o: Opening) -> Fields
     ensures { result ≡ lent_opening_fields n o }
 {

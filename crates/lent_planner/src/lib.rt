@@ -16,7 +16,7 @@ pub mod turn;
 
 // What a pass over the records has found: how many wait, where the id waits, whether vacant ones have begun, and whether the rules are broken.
 #[derive(Clone, Copy)]
-struct Survey {
+pub struct Survey {
     pub setup: Setup,
     pub id: u64,
     pub len: usize,
@@ -29,7 +29,7 @@ struct Survey {
 // What a turn has taken of the records: the entries and the places where they stand, in the first `count` places, with the rows and the
 // number of their plan, and the sets of counters that are left. Nothing is looked at from `end` on.
 #[derive(Clone, Copy)]
-struct Choice {
+pub struct Choice {
     pub setup: Setup,
     pub usable: usize,
     pub counters: u64,
@@ -45,7 +45,7 @@ struct Choice {
 // How the records from `from` to `end` change: each is read `skip` places ahead and one more for each place in `at` that is passed over, and past
 // the end from the fresh ones.
 #[derive(Clone, Copy)]
-struct Change {
+pub struct Change {
     pub from: usize,
     pub end: usize,
     pub skip: usize,
@@ -55,14 +55,14 @@ struct Change {
 
 // What a call comes to: its answer, and how the records change.
 #[derive(Clone, Copy)]
-struct Decision {
+pub struct Decision {
     pub answered: LentAnswered,
     pub change: Change,
 }
 
 // What a turn comes to: its answer, and how the records change.
 #[derive(Clone, Copy)]
-struct TurnDecision {
+pub struct TurnDecision {
     pub turned: LentTurned,
     pub change: Change,
 }

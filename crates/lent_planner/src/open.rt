@@ -14,6 +14,7 @@ use planner::queue::vacant;
 use requests::{Answer, CounterSet, Device, Entry, Opened, Opening, Refusal, Setup};
 
 // The session before open.
+#[tactic(auto, unfolding(lent_sessions::specs::Lent::new_lent))]
 pub fn new_session() -> LentSession
     ensures { result ≡ new_lent }
 {
@@ -31,6 +32,7 @@ pub fn new_session() -> LentSession
 }
 
 // Whether so many records may be lent.
+#[tactic(auto, unfolding(lent_sessions::specs::Records::is_count, requests::specs::Choice::both, lent_sessions::specs::Records::most_records))]
 pub fn is_count(n: usize) -> bool
     ensures { result ≡ is_count n }
 {
@@ -41,6 +43,7 @@ pub fn is_count(n: usize) -> bool
 }
 
 // The decision to refuse.
+#[tactic(auto, unfolding(crate::specs::Decisions::refused_with))]
 pub fn refused(session: LentSession, refusal: Refusal) -> Decision
     ensures { result ≡ refused_with session refusal }
 {

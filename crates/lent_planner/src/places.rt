@@ -10,6 +10,7 @@ use requests::{CAPACITY, Entry};
 pub const NOWHERE: usize = 65536;
 
 // Each record from `from` to `end` becomes the one `skip` places ahead, and e past the end.
+#[tactic(auto, unfolding(crate::specs::Changes::shifted, crate::specs::Changes::nowhere))]
 pub fn shifted(from: usize, end: usize, skip: usize, e: Entry) -> Change
     ensures { result ≡ shifted from end skip e }
 {
@@ -23,6 +24,7 @@ pub fn shifted(from: usize, end: usize, skip: usize, e: Entry) -> Change
 }
 
 // No record changes.
+#[tactic(auto, unfolding(crate::specs::Changes::unchanged))]
 pub fn unchanged() -> Change
     ensures { result ≡ unchanged }
 {
@@ -30,6 +32,7 @@ pub fn unchanged() -> Change
 }
 
 // One place further, where the record that goes is not behind.
+#[tactic(auto, unfolding(crate::specs::Changes::past))]
 fn past(at: usize, k: usize) -> usize
     requires { k + 1 < 2 ^ 64 }
     ensures value { result ≡ past at k }
@@ -39,6 +42,7 @@ fn past(at: usize, k: usize) -> usize
 }
 
 // Where the record of place i is read, as if there were records past the end.
+#[tactic(auto, unfolding(crate::specs::Changes::ahead))]
 pub fn ahead(c: Change, i: usize) -> usize
     requires { i + c.skip + 8 < 2 ^ 64 }
     ensures { result ≡ ahead c i }
@@ -56,6 +60,7 @@ pub fn ahead(c: Change, i: usize) -> usize
 }
 
 // Of the places from k on, at most `room`, those that stand before the record that goes; all of them, where it is behind.
+#[tactic(auto, unfolding(crate::specs::Changes::clear))]
 fn clear(at: usize, k: usize, room: usize) -> usize
     ensures value { result ≡ clear at k room }
     ensures upper_bound { result ≤ room }
@@ -68,6 +73,7 @@ fn clear(at: usize, k: usize, room: usize) -> usize
 }
 
 // How many places from i on are read equally far ahead.
+#[tactic(auto, unfolding(crate::specs::Changes::clear_all, crate::specs::Changes::stretch, crate::specs::Changes::nowhere))]
 fn stretch(c: Change, i: usize) -> usize
     requires { i + c.skip + 8 < 2 ^ 64 }
     ensures value { result ≡ stretch c i }
@@ -85,6 +91,7 @@ fn stretch(c: Change, i: usize) -> usize
 }
 
 // Where the record of place i is read: at k, where i is before the end of a stretch that is read so.
+#[tactic(auto, unfolding(crate::specs::Changes::read_at))]
 pub fn read_at(c: Change, i: usize, k: usize, stop: usize) -> usize
     requires { i + c.skip + 8 < 2 ^ 64 }
     ensures { result ≡ read_at c i k stop }
@@ -93,6 +100,7 @@ pub fn read_at(c: Change, i: usize, k: usize, stop: usize) -> usize
 }
 
 // The end of the stretch that place i is in, where the last one ends at `stop`.
+#[tactic(auto, unfolding(crate::specs::Changes::stretch_end))]
 pub fn stretch_end(c: Change, i: usize, stop: usize) -> usize
     requires { i + c.skip + 65536 < 2 ^ 64 }
     ensures { result ≡ stretch_end c i stop }
@@ -101,6 +109,7 @@ pub fn stretch_end(c: Change, i: usize, stop: usize) -> usize
 }
 
 // The record of place i, where what is read is past the end.
+#[tactic(auto, unfolding(crate::specs::Changes::fresh_at, sessions::specs::Sessions::vacant))]
 pub fn fresh_at(c: Change, i: usize) -> Entry
     requires { (i + c.skip + 8 < 2 ^ 64) × (c.end ≤ ahead c i) }
     ensures { result ≡ fresh_at c i }

@@ -19,6 +19,7 @@ use search::extend::counter_alone;
 const WORDS: usize = 1024;
 
 // Whether the request is an event with all numbers 0.
+#[tactic(auto, unfolding(lent_sessions::specs::Records::all_zero, requests::specs::Choice::both))]
 pub fn all_zero(request: Request) -> bool
     ensures { result ≡ all_zero request }
 {
@@ -44,6 +45,7 @@ pub fn all_zero(request: Request) -> bool
 
 // Whether the request is a listed event that asks for no counter but the device's, any of them, one of which is usable. Most requests are, and
 // nothing else has to be asked of them.
+#[tactic(auto, unfolding(requests::specs::Checks::too_wide))]
 fn fits_at_once(setup: Setup, request: Request) -> bool
     ensures { result ≡ true → (formed setup request ≡ true) × (has_plan_lem setup (request ∷ []) ≡ true) }
 {
@@ -71,6 +73,7 @@ fn fits_at_once(setup: Setup, request: Request) -> bool
 }
 
 // Whether the record may wait: an id, and a well-formed request with a plan by itself.
+#[tactic(auto, unfolding(lent_sessions::specs::Records::may_wait, requests::specs::Choice::both, requests::specs::Checks::formed))]
 pub fn may_wait(setup: Setup, e: Entry) -> bool
     ensures { result ≡ may_wait setup e }
 {
@@ -89,6 +92,7 @@ pub fn may_wait(setup: Setup, e: Entry) -> bool
 }
 
 // Whether the id is left.
+#[tactic(auto, unfolding(crate::specs::Surveys::is_left, requests::specs::Devices::has))]
 pub fn is_left(left: &[u64], id: u64) -> bool
     ensures { result ≡ is_left left.now id }
 {
@@ -101,6 +105,7 @@ pub fn is_left(left: &[u64], id: u64) -> bool
 }
 
 // Takes an id that is left.
+#[tactic(auto, unfolding(crate::specs::Surveys::is_left, crate::specs::Surveys::taken_id))]
 pub fn take_id(left: &mut [u64], id: u64)
     requires { is_left left.old id ≡ true }
     ensures { left.new ≡ taken_id left.old id }
@@ -110,6 +115,7 @@ pub fn take_id(left: &mut [u64], id: u64)
 }
 
 // All ids.
+#[tactic(auto, unfolding(crate::specs::Surveys::all_left_lem))]
 pub fn all_left() -> [u64; 1024]
     ensures { result ≡ all_left_lem }
 {
@@ -117,6 +123,7 @@ pub fn all_left() -> [u64; 1024]
 }
 
 // A pass that has not begun.
+#[tactic(auto, unfolding(crate::specs::Surveys::fresh))]
 pub fn fresh(setup: Setup, id: u64) -> Survey
     ensures { result ≡ fresh setup id }
 {
@@ -132,6 +139,7 @@ pub fn fresh(setup: Setup, id: u64) -> Survey
 }
 
 // Whether the record is the next that waits.
+#[tactic(auto, unfolding(crate::specs::Surveys::may_count, requests::specs::Choice::both))]
 pub fn may_count(left: &[u64], t: Survey, e: Entry) -> bool
     ensures { result ≡ may_count left.now t e }
 {
@@ -146,6 +154,7 @@ pub fn may_count(left: &[u64], t: Survey, e: Entry) -> bool
 }
 
 // The pass after one more record that waits.
+#[tactic(auto, unfolding(crate::specs::Surveys::counted, requests::specs::Choice::either))]
 pub fn counted(t: Survey, id: u64) -> Survey
     requires { t.len + 1 < 2 ^ 64 }
     ensures { result ≡ counted t id }
@@ -174,6 +183,7 @@ pub fn counted(t: Survey, id: u64) -> Survey
 }
 
 // The pass after a record whose id is 0.
+#[tactic(auto, unfolding(crate::specs::Surveys::ended))]
 pub fn ended(t: Survey, zero: bool) -> Survey
     ensures { result ≡ ended t zero }
 {
@@ -190,6 +200,7 @@ pub fn ended(t: Survey, zero: bool) -> Survey
 }
 
 // The pass after a record that breaks the rules.
+#[tactic(auto, unfolding(crate::specs::Surveys::spoiled))]
 pub fn spoiled(t: Survey) -> Survey
     ensures { result ≡ spoiled t }
 {

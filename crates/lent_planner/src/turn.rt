@@ -21,6 +21,7 @@ use requests::{Answer, CAPACITY, Entry, Refusal};
 use sessions::Assigned;
 
 // The plan of those chosen: each id with its place.
+#[tactic(auto, unfolding(planner::specs::Selections::planned, sessions::specs::Turns::assign, plans::specs::Packed::places_from, sessions::specs::Turns::requests_of, requests::specs::Devices::capacity, sessions::specs::Sessions::vacant))]
 fn assigned(t: Choice) -> [Assigned; CAPACITY]
     requires { t.count ≤ 8 }
     ensures { result ≡ in_array capacity unassigned (planned t.plan (take t.count t.taken)) }
@@ -34,6 +35,7 @@ fn assigned(t: Choice) -> [Assigned; CAPACITY]
 }
 
 // The decision to refuse a turn.
+#[tactic(auto, unfolding(crate::specs::Turnings::turn_refused, lent_sessions::specs::Lent::lent_turn, requests::specs::Devices::capacity))]
 fn turn_refused(session: LentSession, refusal: Refusal) -> TurnDecision
     ensures { result ≡ turn_refused session refusal }
 {
@@ -51,6 +53,7 @@ fn turn_refused(session: LentSession, refusal: Refusal) -> TurnDecision
 }
 
 // The decision to accept a turn: those passed over, then those taken.
+#[tactic(auto, unfolding(crate::specs::Turnings::turn_accepted))]
 fn turn_accepted(session: LentSession, len: usize, t: Choice, writes: usize) -> TurnDecision
     requires { t.count ≤ 8 }
     ensures { result ≡ turn_accepted session len t writes }
@@ -78,6 +81,7 @@ fn turn_accepted(session: LentSession, len: usize, t: Choice, writes: usize) -> 
 }
 
 // What a turn comes to, with n records in which the pass has found s and of which t is chosen. The write list goes into the slice.
+#[tactic(auto, unfolding(requests::specs::Devices::capacity))]
 pub fn write_turn(
     out: &mut [u64],
     session: LentSession,
