@@ -6,6 +6,7 @@ use planner::add::add;
 use planner::turn::turn;
 use requests::{CounterSet, Opening, Request};
 use sessions::Session;
+use std::io;
 
 // The letter of device G.
 pub const G: u64 = 71;
@@ -31,21 +32,21 @@ pub fn opening(device: u64, usable: u64) -> Opening {
 }
 
 // The session after an add.
-pub fn added(session: Session, id: u64, request: Request) -> Session {
+pub fn added(rt: &impl Print, session: Session, id: u64, request: Request) -> io::Result<Session> {
     let setup = session.setup;
     let device = setup.device;
     let answered = add(session, id, request);
     let answer = answered.answer;
-    print::answer(answer, request_fields(device, request));
+    print::answer(rt, answer, request_fields(device, request))?;
     let next = answered.session;
-    next
+    Ok(next)
 }
 
 // The session after a turn.
-pub fn turned(session: Session) -> Session {
+pub fn turned(rt: &impl Print, session: Session) -> io::Result<Session> {
     let mut list: [u64; 44] = [0; 44];
     let answered = turn(session, &mut list);
-    print::turn(answered, &list);
+    print::turn(rt, answered, &list)?;
     let next = answered.session;
-    next
+    Ok(next)
 }

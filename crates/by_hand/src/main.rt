@@ -5,6 +5,8 @@ mod calls;
 mod nonsense;
 mod print;
 
-fn main() {
-    nonsense::run();
+use std::io;
+
+fn main(rt: HostRuntime) -> io::Result<()> {
+    nonsense::run(&rt)
 }

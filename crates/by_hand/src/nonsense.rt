@@ -7,6 +7,7 @@ use planner::drop::drop_request;
 use planner::open::open;
 use requests::{CounterSet, Device, Entry, Request, Setup};
 use sessions::Session;
+use std::io;
 
 const ALL: u64 = 0xFFFF_FFFF_FFFF_FFFF;
 
@@ -49,20 +50,21 @@ fn nonsense() -> Session {
     }
 }
 
-pub fn run() {
+pub fn run(rt: &impl Print) -> io::Result<()> {
     let session = nonsense();
-    print::session(session);
+    print::session(rt, session)?;
     let again = opening(G, 15);
     let reopened = open(session, again);
     let answer = reopened.answer;
-    print::answer(answer, opening_fields(again));
-    let same = added(session, 8, event(0x52, 0x00, 1));
-    let after = turned(same);
-    print::session(after);
+    print::answer(rt, answer, opening_fields(again))?;
+    let same = added(rt, session, 8, event(0x52, 0x00, 1))?;
+    let after = turned(rt, same)?;
+    print::session(rt, after)?;
     let dropped = drop_request(after, 7);
     let taken_out = dropped.answer;
-    print::answer(taken_out, no_fields());
+    print::answer(rt, taken_out, no_fields())?;
     let left = dropped.session;
-    print::session(left);
-    turned(left);
+    print::session(rt, left)?;
+    turned(rt, left)?;
+    Ok(())
 }
