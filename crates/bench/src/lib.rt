@@ -18,6 +18,7 @@ use search::plan_rows::plan_rows;
 use search::rows::{ROW_NUMBERS, request_at};
 
 // The two numbers of a place, as digits to the base 8.
+#[tactic(auto, unfolding(crate::specs::Numbers::digits_of, plans::specs::Places::first, plans::specs::Places::second))]
 fn digits_of(place: Place) -> u64
     ensures { result ≡ digits_of place }
 {
