@@ -1,16 +1,13 @@
 -- What a call answers, at the field of its line, is the reply to the record that a line asks for, by name or not. Assumes nothing.
-use mathlib.Core.Path.{◌≡◌, refl, ap, ◌∙◌}
+use mathlib.Core.Path.{◌≡◌, refl}
 use mathlib.Core.Bool.{Bool, true, false}
 use mathlib.Core.List.{[], ◌∷◌, ◌++◌}
 use mathlib.Core.Option.{Option, none, some}
 use Prim.Native.Nat.{ℕ}
-use lib.Dec.{leb}
-use Rattle.requests.specs.declared.Device.{Device}
 use Rattle.requests.specs.declared.Opening.{Opening}
 use Rattle.requests.specs.declared.Setup.{Setup}
 use Rattle.requests.specs.declared.Refusal.{Refusal}
 use Rattle.requests.specs.declared.Request.{Request}
-use Rattle.requests.specs.Choice.{pick}
 use Rattle.requests.specs.Devices.{opening_of}
 use Rattle.requests.specs.Faults.{opening_fields, request_fields, no_fields, answer_field}
 use Rattle.sessions.specs.declared.Session.{Session}

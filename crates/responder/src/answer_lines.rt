@@ -9,6 +9,7 @@ use checks::refusals::number_of;
 use requests::Answer;
 
 // Puts a number as a field behind another one.
+#[tactic(auto, unfolding(grammar::specs::Text::tab))]
 fn put_field(out: &mut [u8], at: usize, number: u64) -> usize
     requires { at + 21 ≤ length out.old }
     ensures { Put out.old at (tab ∷ decimal_text number) out.new result }
@@ -18,6 +19,7 @@ fn put_field(out: &mut [u8], at: usize, number: u64) -> usize
 }
 
 // Puts the line of an answer, and of the field at fault where it is a refusal.
+#[tactic(auto, unfolding(answers::specs::Replies::answer_text, grammar::specs::Text::line_of, grammar::specs::Text::bytes, grammar::specs::Text::newline, grammar::specs::Text::tab))]
 pub fn put_answer(out: &mut [u8], at: usize, answer: Answer, field: usize) -> usize
     requires { at + 45 ≤ length out.old }
     ensures { Put out.old at (answer_text answer field) out.new result }

@@ -12,8 +12,9 @@ use queue_rows::packing::{pack, unpack};
 use sessions::{QUEUE_LIMIT, Session};
 
 // The reply to a line, its name looked up in the site's list and the house's.
+#[tactic(auto, unfolding(answers::specs::ReplyLength::reply_room, crate::specs::Written::left_in))]
 pub fn answer_line<'a>(session: Session, line: &[u8], site: &'a [u8], house: &'a [u8]) -> LineReply
-    ensures { result ≡ in_array (answer_line (record { site = site.entry.now; house = house.now }) session line.now) }
+    ensures { result ≡ in_array (answer_line (record { site = site.now; house = house.now }) session line.now) }
 {
     let mut ids: [u64; QUEUE_LIMIT] = [0; QUEUE_LIMIT];
     let mut rows: [u64; QUEUE_NUMBERS] = [0; QUEUE_NUMBERS];

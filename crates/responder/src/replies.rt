@@ -30,6 +30,7 @@ const TURN_ROOM: usize = 44;
 pub const REPLY_ROOM: usize = 2048;
 
 // The reply to an open, add or drop, or to a line that is none, given the field at fault.
+#[tactic(auto, unfolding(answers::specs::ReplyLength::reply_room, answers::specs::Replies::reply_at, queue_rows::specs::Heads::answered_in, crate::specs::Written::left_in))]
 fn call_reply(answered: HeadAnswered, field: usize, out: &mut [u8]) -> Replied
     requires { reply_room ≤ length out.old }
     ensures { (ids rows : List ℕ) → Delivered (reply_at (answered_in answered ids rows) field) out.old out.new (left_in result ids rows) }
@@ -41,6 +42,7 @@ fn call_reply(answered: HeadAnswered, field: usize, out: &mut [u8]) -> Replied
 }
 
 // The reply to a turn: its `take` lines, its `set` lines, and its answer.
+#[tactic(auto, unfolding(answers::specs::Replies::turn_room, answers::specs::ReplyLength::reply_room, crate::specs::Written::left_in))]
 fn turn_reply(
     head: Head,
     ids: &mut [u64; QUEUE_LIMIT],
@@ -66,6 +68,7 @@ fn turn_reply(
 }
 
 // The reply to a line that is neither a record nor a request by name, at the field that breaks the grammar.
+#[tactic(auto, unfolding(answers::specs::Replies::parsed_reply, answers::specs::Replies::reply_at, queue_rows::specs::Heads::answered_in, requests::specs::Refusals::answer_for, grammar::specs::Parse::parsed_refusal))]
 fn fault_reply(head: Head, k: usize, out: &mut [u8]) -> Replied
     requires { reply_room ≤ length out.old }
     ensures { (ids rows : List ℕ) → Delivered (parsed_reply (session_in head ids rows) (Parsed.Fault k)) out.old out.new (left_in result ids rows) }
@@ -78,6 +81,7 @@ fn fault_reply(head: Head, k: usize, out: &mut [u8]) -> Replied
 }
 
 // The reply to an open.
+#[tactic(auto, unfolding(queue_rows::specs::Heads::answered_in))]
 fn open_reply(head: Head, given: Setup, out: &mut [u8]) -> Replied
     requires { reply_room ≤ length out.old }
     ensures { (ids rows : List ℕ) → Delivered (record_reply (session_in head ids rows) (Record.Open given)) out.old out.new (left_in result ids rows) }
@@ -90,6 +94,7 @@ fn open_reply(head: Head, given: Setup, out: &mut [u8]) -> Replied
 }
 
 // The reply to a drop.
+#[tactic(auto, unfolding(queue_rows::specs::Heads::answered_in))]
 fn drop_reply(
     head: Head,
     ids: &mut [u64; QUEUE_LIMIT],
@@ -110,6 +115,7 @@ fn drop_reply(
 
 // The reply to what a line is, at the start of a slice that has room for any reply; in a shorter one nothing is done.
 // A request by name is made the add that it stands for. Adds are made here, since a function of their own would copy the head once more.
+#[tactic(auto, unfolding(answers::specs::ReplyLength::reply_room, crate::specs::Written::left_in, crate::specs::Written::asked_reply, answers::specs::Replies::parsed_reply, answers::specs::Replies::record_reply, queue_rows::specs::Heads::answered_in, queue_rows::specs::Heads::session_in))]
 pub fn reply(
     head: Head,
     ids: &mut [u64; QUEUE_LIMIT],

@@ -10,6 +10,7 @@ use queue_rows::HeadAnswered;
 use requests::{Answer, Opening, Request};
 
 // Of an open.
+#[tactic(auto, unfolding(requests::specs::Faults::answer_field))]
 pub fn open_field(answer: Answer, opening: Opening) -> usize
     ensures { result ≡ answer_field answer (opening_fields opening) }
 {
@@ -20,6 +21,7 @@ pub fn open_field(answer: Answer, opening: Opening) -> usize
 }
 
 // Of an add, whose line has its numbers or a name.
+#[tactic(auto, unfolding(requests::specs::Faults::answer_field, crate::specs::Written::line_field))]
 pub fn add_field(added: HeadAnswered, request: Request, named: bool) -> usize
     ensures { result ≡ line_field named (answer_field added.answer (request_fields added.head.setup.device request)) }
 {
@@ -40,6 +42,7 @@ pub fn add_field(added: HeadAnswered, request: Request, named: bool) -> usize
 }
 
 // Of a drop.
+#[tactic(auto, unfolding(requests::specs::Faults::answer_field))]
 pub fn drop_field(answer: Answer) -> usize
     ensures { result ≡ answer_field answer no_fields }
 {

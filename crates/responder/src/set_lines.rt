@@ -7,6 +7,7 @@ ghost use Rattle.responder.specs.Texts.{Put};
 use crate::texts::{put_byte, put_bytes, put_hex};
 
 // Puts a value in 16 hex digits. Most of those of a write list are 0, and few have more than 32 bits.
+#[tactic(auto, unfolding(grammar::specs::Text::hex_text, grammar::specs::Text::hex_digit, grammar::specs::Text::bytes))]
 fn put_value(out: &mut [u8], at: usize, value: u64) -> usize
     requires { at + 16 ≤ length out.old }
     ensures { Put out.old at (hex_text 16 value) out.new result }
@@ -22,6 +23,7 @@ fn put_value(out: &mut [u8], at: usize, value: u64) -> usize
 }
 
 // Puts the `set` line of a write.
+#[tactic(auto, unfolding(answers::specs::Replies::set_lines, grammar::specs::Text::line_of, grammar::specs::Text::bytes, grammar::specs::Text::tab, grammar::specs::Text::newline))]
 fn put_set(out: &mut [u8], at: usize, address: u64, value: u64) -> usize
     requires { at + 26 ≤ length out.old }
     ensures { Put out.old at (set_lines (address ∷ value ∷ [])) out.new result }
@@ -34,6 +36,7 @@ fn put_set(out: &mut [u8], at: usize, address: u64, value: u64) -> usize
 }
 
 // Puts the `set` lines of the first writes of a list that is address then value.
+#[tactic(auto, unfolding(answers::specs::Replies::set_lines))]
 pub fn put_sets(out: &mut [u8], at: usize, list: &[u64], writes: usize) -> usize
     requires { (2 * writes ≤ length list.now) × (at + 26 * writes ≤ length out.old) }
     ensures { Put out.old at (set_lines (take (2 * writes) list.now)) out.new result }

@@ -15,6 +15,7 @@ use requests::Entry;
 use sessions::{Assigned, QUEUE_LIMIT};
 
 // Puts a `take` line up to its register.
+#[tactic(auto, unfolding(crate::specs::Texts::take_start, grammar::specs::Text::bytes, grammar::specs::Text::tab))]
 fn put_start(out: &mut [u8], at: usize, id: u64, counter: u64) -> usize
     requires { at + 47 ≤ length out.old }
     ensures { Put out.old at (take_start id counter) out.new result }
@@ -27,6 +28,7 @@ fn put_start(out: &mut [u8], at: usize, id: u64, counter: u64) -> usize
 }
 
 // Puts the lines of a request taken: a pair has two, of which the first counts RSP0 and the second RSP1.
+#[tactic(auto, unfolding(grammar::specs::Text::bytes, grammar::specs::Text::newline))]
 fn put_assigned(out: &mut [u8], at: usize, assigned: Assigned) -> usize
     requires { at + 136 ≤ length out.old }
     ensures { Put out.old at (take_lines assigned) out.new result }
@@ -53,6 +55,7 @@ fn put_assigned(out: &mut [u8], at: usize, assigned: Assigned) -> usize
 }
 
 // Puts the lines of the requests taken, in the order taken: they stand in the queue from `front` on.
+#[tactic(auto, unfolding(planner::specs::Selections::planned, sessions::specs::Turns::assign, sessions::specs::Turns::requests_of, plans::specs::Packed::places_from, queue_rows::specs::Rows::entry_at))]
 pub fn put_takes(
     out: &mut [u8],
     at: usize,

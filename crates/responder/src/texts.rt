@@ -28,6 +28,7 @@ pub fn put_bytes(out: &mut [u8], at: usize, bytes: &[u8]) -> usize
 }
 
 // Puts the last `width` hex digits of n, from the last to the first.
+#[tactic(auto, unfolding(grammar::specs::Text::bytes))]
 pub fn put_hex(out: &mut [u8], at: usize, width: usize, n: u64) -> usize
     requires { at + width ≤ length out.old }
     ensures { Put out.old at (hex_text width n) out.new result }
