@@ -21,8 +21,8 @@ use Rattle.grammar.specs.declared.Parsed.TheVariants.{Line, Named, Fault}
 use Rattle.names.specs.Lists.{NameLists}
 use Rattle.parser.specs.ParseWith.{parse_text_with, parse_line_with}
 use Rattle.answers.specs.Replies.{Reply, answer_text, parsed_reply, answer_line}
-use Rattle.streams.specs.Stream.{NewlineFree, line_start, no_names, fault_at}
-use Rattle.streams.specs.LongLines.{AnsweredOnce, LongLines}
+use Rattle.streams.specs.Stream.{line_start, no_names, fault_at}
+use Rattle.streams.specs.LongLines.{LongLines}
 use Rattle.streams.proofs.LineByLine.{parsed, line_by_line}
 
 too_long : (p : Parsed) (n : ℕ) → (k : ℕ) × (too_long_lem p n ≡ Fault k)

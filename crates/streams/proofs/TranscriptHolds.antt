@@ -18,7 +18,7 @@ use Rattle.answers.specs.LineLists.{session_by}
 use Rattle.answers.proofs.LineLists.{session_by_lem}
 use Rattle.names.specs.Lists.{NameLists}
 use Rattle.streams.specs.Stream.{NewlineFree, line_start, feed_start, feed_state, feed_text, no_names, end_text, transcript}
-use Rattle.streams.specs.Transcript.{closed, replies_to, at_end, calls_of, Transcript}
+use Rattle.streams.specs.Transcript.{closed, replies_to, at_end, Transcript}
 use Rattle.streams.specs.declared.Feed.{Feed}
 use Rattle.streams.proofs.Cut.{state_append, text_append}
 use Rattle.streams.proofs.Kept.{after_run, kept_run}
