@@ -1,15 +1,11 @@
 -- The bytes that are told stand at the start. Assumes nothing.
-use mathlib.Core.Path.{◌≡◌, refl}
-use mathlib.Core.List.{List}
-use Prim.Native.Nat.{ℕ, ◌-◌}
-use lib.ListN.{length, take, drop, replicate}
+use mathlib.Core.Path.{refl}
+use Prim.Native.Nat.{◌-◌}
+use lib.ListN.{length, drop, replicate}
 use lib.Seq.{take_at, drop_at}
-use Rattle.names.specs.Lists.{NameLists}
-use Rattle.answers.specs.Replies.{Reply}
 use Rattle.answers.specs.ReplyLength.{reply_room}
 use Rattle.responder.specs.Written.{in_array, at_start}
 use Rattle.streams.specs.Stream.{feed_text}
-use Rattle.streams.specs.declared.Feed.{Feed}
 use Rattle.lines.specs.Blocks.{taken_from, fed_of, fed_out}
 use Rattle.lines.specs.OutputRead.{OutputRead}
 

@@ -17,6 +17,7 @@ use streams::{Feed, PieceAnswered, PieceFeed};
 const ANSWERS: usize = 4096;
 
 // The state before the first piece.
+#[tactic(auto, unfolding(streams::specs::Feeds::new_feed))]
 pub fn new_feed() -> PieceFeed
     ensures { result ≡ new_feed }
 {
@@ -27,6 +28,7 @@ pub fn new_feed() -> PieceFeed
 }
 
 // A refusal: nothing is changed or written.
+#[tactic(auto, unfolding(streams::specs::Feeds::refused_feed))]
 fn refused(state: PieceFeed, refusal: Refusal) -> PieceAnswered
     ensures { result ≡ refused_feed state refusal }
 {
@@ -38,8 +40,9 @@ fn refused(state: PieceFeed, refusal: Refusal) -> PieceAnswered
 }
 
 // Whether the answers to a text are longer than the room: they are made in an array of our own, and only their lengths are used.
+#[tactic(auto, unfolding(streams::specs::Stream::feed_text, answers::specs::ReplyLength::reply_room))]
 fn too_long<'a>(state: Feed, text: &[u8], site: &'a [u8], house: &'a [u8], room: usize) -> bool
-    ensures { result ≡ ltb room (length (feed_text (record { site = site.entry.now; house = house.now }) state text.now)) }
+    ensures { result ≡ ltb room (length (feed_text (record { site = site.now; house = house.now }) state text.now)) }
 {
     let mut next = state;
     let mut taken = 0;
@@ -59,6 +62,7 @@ fn too_long<'a>(state: Feed, text: &[u8], site: &'a [u8], house: &'a [u8], room:
 }
 
 // Takes all of a text, and writes the answers into an output that has room for them, from a place on.
+#[tactic(auto, unfolding(streams::specs::Stream::feed_text, answers::specs::ReplyLength::reply_room))]
 fn pass<'a>(
     state: Feed,
     text: &[u8],
@@ -68,7 +72,7 @@ fn pass<'a>(
     at: usize,
 ) -> Fed
     requires { at + length (feed_text (record { site = site.now; house = house.now }) state text.now) ≤ length out.old }
-    ensures { Passed (record { site = site.entry.now; house = house.now }) state text.now out.old at out.new result }
+    ensures { Passed (record { site = site.now; house = house.now }) state text.now out.old at out.new result }
 {
     let mut next = state;
     let mut taken = 0;
@@ -116,8 +120,8 @@ fn deliver<'a>(
     out: &mut [u8],
 ) -> PieceAnswered
     requires { state.ended ≡ false }
-    ensures answer { result ≡ feed_answer state (answers.now ++ feed_text (record { site = site.entry.now; house = house.now }) next rest.now) (record { feed = feed_state (record { site = site.entry.now; house = house.now }) next rest.now; ended = ended }) (length out.old) }
-    ensures output { out.new ≡ feed_out state (answers.now ++ feed_text (record { site = site.entry.now; house = house.now }) next rest.now) out.old }
+    ensures answer { result ≡ feed_answer state (answers.now ++ feed_text (record { site = site.now; house = house.now }) next rest.now) (record { feed = feed_state (record { site = site.now; house = house.now }) next rest.now; ended = ended }) (length out.old) }
+    ensures output { out.new ≡ feed_out state (answers.now ++ feed_text (record { site = site.now; house = house.now }) next rest.now) out.old }
 {
     if out.len() < answers.len() {
         return refused(state, Refusal::SliceTooShort);
@@ -138,6 +142,7 @@ fn deliver<'a>(
 
 // Takes a piece of the text, and writes its answers at the start of the output. Names are looked up in the site's list and the house's.
 // Where the answers fit an array of our own, they are made once; of longer ones all but the first are made twice.
+#[tactic(auto, unfolding(streams::specs::Feeds::piece_of, streams::specs::Feeds::piece_out))]
 pub fn piece<'a>(
     state: PieceFeed,
     text: &[u8],
@@ -145,8 +150,8 @@ pub fn piece<'a>(
     house: &'a [u8],
     out: &mut [u8],
 ) -> PieceAnswered
-    ensures answer { result ≡ piece_of (record { site = site.entry.now; house = house.now }) state text.now (length out.old) }
-    ensures output { out.new ≡ piece_out (record { site = site.entry.now; house = house.now }) state text.now out.old }
+    ensures answer { result ≡ piece_of (record { site = site.now; house = house.now }) state text.now (length out.old) }
+    ensures output { out.new ≡ piece_out (record { site = site.now; house = house.now }) state text.now out.old }
 {
     if state.ended {
         return refused(state, Refusal::CallOrder);
@@ -179,6 +184,7 @@ pub fn piece<'a>(
 }
 
 // Declares the end of the text, and writes the answer to an unfinished line at the start of the output.
+#[tactic(auto, unfolding(streams::specs::Feeds::end_of, streams::specs::Feeds::end_out))]
 pub fn end<'a>(state: PieceFeed, site: &'a [u8], house: &'a [u8], out: &mut [u8]) -> PieceAnswered
     ensures answer { result ≡ end_of state (length out.old) }
     ensures output { out.new ≡ end_out state out.old }

@@ -2,6 +2,7 @@
 ghost use Rattle.lines.specs.Pieces.{FirstNewline};
 
 // The place of the first newline of a block, or the block's length where there is none.
+#[tactic(auto, unfolding(grammar::specs::Text::newline))]
 pub fn newline_in(block: &[u8]) -> usize
     ensures { FirstNewline block.now result }
 {

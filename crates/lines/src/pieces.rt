@@ -12,6 +12,7 @@ use requests::Device;
 use streams::LONGEST;
 
 // Whether a line has begun.
+#[tactic(auto, unfolding(requests::specs::Choice::either))]
 pub fn begun(used: usize, long: bool) -> bool
     ensures { result ≡ either long (ltb 0 used) }
 {
@@ -22,6 +23,7 @@ pub fn begun(used: usize, long: bool) -> bool
 }
 
 // Keeps a piece of an unfinished line behind what is kept of it.
+#[tactic(auto, unfolding(grammar::specs::Parse::longest, streams::specs::Stream::feed_state))]
 pub fn keep(kept: &mut [u8; LONGEST], used: usize, long: bool, piece: &[u8]) -> Extent
     requires { NewlineFree piece.now }
     ensures { KeptOn kept.old used long piece.now kept.new result }
@@ -64,6 +66,7 @@ fn start_of<'a>(text: &'a [u8], n: usize) -> &'a [u8]
 
 // What a line asks for that ends with a piece.
 // One call of `parse_text` serves a kept line and a whole one, so that it is compiled into the caller's loop.
+#[tactic(auto, unfolding(grammar::specs::Parse::longest))]
 pub fn parse_ended<'a>(
     kept: &mut [u8; LONGEST],
     used: usize,
@@ -74,7 +77,7 @@ pub fn parse_ended<'a>(
     house: &'a [u8],
 ) -> Parsed
     requires { NewlineFree piece.now }
-    ensures { EndedLine (record { site = site.entry.now; house = house.now }) device kept.old used long piece.now result }
+    ensures { EndedLine (record { site = site.now; house = house.now }) device kept.old used long piece.now result }
 {
     let carried = begun(used, long);
     let mut ended = Extent {

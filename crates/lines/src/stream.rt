@@ -19,6 +19,7 @@ use sessions::{QUEUE_LIMIT, Session};
 use streams::{Feed, LONGEST};
 
 // The state at the beginning of a line.
+#[tactic(auto, unfolding(streams::specs::Stream::line_start, grammar::specs::Parse::longest))]
 pub fn line_start(session: Session) -> Feed
     ensures { result ≡ line_start session }
 {
@@ -31,6 +32,7 @@ pub fn line_start(session: Session) -> Feed
 }
 
 // The state at the beginning of the input.
+#[tactic(auto, unfolding(streams::specs::Stream::feed_start))]
 pub fn start() -> Feed
     ensures { result ≡ feed_start }
 {
@@ -67,9 +69,10 @@ fn fed(
 // list and the house's.
 // The parts of the state are locals, since a struct is copied whole wherever it is handed on, and the queue lies in arrays that the replies
 // change in place: it is packed once for a block.
+#[tactic(auto, unfolding(answers::specs::ReplyLength::reply_room, streams::specs::Stream::line_start, grammar::specs::Parse::longest, responder::specs::Written::left_in, queue_rows::specs::Heads::session_in))]
 pub fn feed<'a>(feed: Feed, block: &[u8], site: &'a [u8], house: &'a [u8], out: &mut [u8]) -> Fed
-    ensures answer { result ≡ fed_of (record { site = site.entry.now; house = house.now }) feed block.now (length out.old) }
-    ensures output { out.new ≡ fed_out (record { site = site.entry.now; house = house.now }) feed block.now out.old }
+    ensures answer { result ≡ fed_of (record { site = site.now; house = house.now }) feed block.now (length out.old) }
+    ensures output { out.new ≡ fed_out (record { site = site.now; house = house.now }) feed block.now out.old }
 {
     let mut ids: [u64; QUEUE_LIMIT] = [0; QUEUE_LIMIT];
     let mut rows: [u64; QUEUE_NUMBERS] = [0; QUEUE_NUMBERS];
@@ -105,6 +108,7 @@ pub fn feed<'a>(feed: Feed, block: &[u8], site: &'a [u8], house: &'a [u8], out: 
 
 // The reply to the end of the input: a line without its newline is answered as one that is too long.
 // It goes through `feed`, so that `reply` has one caller and is compiled into its loop.
+#[tactic(auto, unfolding(grammar::specs::Text::newline, answers::specs::ReplyLength::reply_room, streams::specs::Stream::unfinished))]
 pub fn end(state: Feed) -> LineReply
     ensures { result ≡ in_array (end_reply state) }
 {
