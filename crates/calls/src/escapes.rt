@@ -2,6 +2,7 @@
 ghost use Rattle.std.specs.Prelude.{◌+◌, ◌≤◌, ◌<◌, length};
 
 use crate::output::text;
+use std::io;
 
 // The most bytes of a text: as many as a line of a script.
 const LONGEST_TEXT: usize = 4096;
@@ -108,24 +109,26 @@ fn past_plain(bytes: &[u8], from: usize) -> usize
 }
 
 // Prints a tab or a newline.
-fn print_escaped(byte: u8) {
+fn print_escaped(rt: &impl Print, byte: u8) -> io::Result<()> {
     if byte == b'\t' {
-        text(b"\\t");
+        text(rt, b"\\t")
     } else {
-        text(b"\\n");
+        text(rt, b"\\n")
     }
 }
 
 // Prints a text.
-pub fn print_text(bytes: &[u8]) {
+pub fn print_text(rt: &impl Print, bytes: &[u8]) -> io::Result<()> {
     let mut at = 0;
     while at < bytes.len() {
         let end = past_plain(bytes, at);
-        text(&bytes[at..end]);
+        text(rt, &bytes[at..end])?;
         if end == bytes.len() {
-            return;
+            return Ok(());
         }
-        print_escaped(bytes[end]);
+        print_escaped(rt, bytes[end])?;
         at = end + 1;
     }
+
+    Ok(())
 }

@@ -8,6 +8,7 @@ use lines::feeds::new_feed;
 use planner::queue::vacant;
 use requests::Entry;
 use sessions::Session;
+use std::io;
 use streams::PieceFeed;
 
 // The most records of a script, more than a session takes.
@@ -90,9 +91,9 @@ pub fn with_feed(host: Host, feed: PieceFeed) -> Host {
 }
 
 // A line that is not in the notation changes nothing.
-pub fn unknown_line(host: Host) -> Host {
-    unknown();
-    host
+pub fn unknown_line(rt: &impl Print, host: Host) -> io::Result<Host> {
+    unknown(rt)?;
+    Ok(host)
 }
 
 // How many records are lent: no more than there are rows.

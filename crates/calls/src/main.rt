@@ -2,7 +2,6 @@
 // docs/MAINTAINING.md has the notation. A line that is not in it is answered `?` and changes nothing.
 #![tactic(auto)]
 
-mod answers;
 mod asked;
 mod edits;
 mod escapes;
@@ -15,6 +14,7 @@ mod lent_words;
 mod numbers;
 mod opening;
 mod output;
+mod printed;
 mod reading;
 mod rows;
 mod script;
@@ -22,6 +22,8 @@ mod session_calls;
 mod source;
 mod words;
 
-fn main() {
-    source::run();
+use std::io;
+
+fn main(rt: HostRuntime) -> io::Result<()> {
+    source::run(&rt)
 }

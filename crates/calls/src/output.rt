@@ -1,14 +1,14 @@
 // Standard output: texts, numbers, and lines of numbers.
 ghost use Rattle.std.specs.Prelude.{◌≤◌, ◌<◌, length};
 
-const OUT: i32 = 1;
+use std::io;
 
-pub fn text(bytes: &[u8]) {
-    io::write_all(OUT, bytes);
+pub fn text(rt: &impl Print, bytes: &[u8]) -> io::Result<()> {
+    rt.write_all(bytes)
 }
 
-pub fn decimal(n: u64) {
-    io::print_decimal(OUT, n);
+pub fn decimal(rt: &impl Print, n: u64) -> io::Result<()> {
+    print!(rt; "{n}")
 }
 
 // The upper-case digit.
@@ -23,7 +23,7 @@ fn digit(value: u64) -> u8
 }
 
 // A number in hex, with at least `width` digits, at most 16.
-pub fn hex(n: u64, width: usize) {
+pub fn hex(rt: &impl Print, n: u64, width: usize) -> io::Result<()> {
     let mut digits = [b'0'; 16];
     let mut rest = n;
     let mut from: usize = 16;
@@ -35,18 +35,18 @@ pub fn hex(n: u64, width: usize) {
         digits[from] = digit(rest % 16);
         rest /= 16;
     }
-    text(&digits[from..]);
+    text(rt, &digits[from..])
 }
 
 // A blank and a decimal number.
-pub fn field(n: u64) {
-    text(b" ");
-    decimal(n);
+pub fn field(rt: &impl Print, n: u64) -> io::Result<()> {
+    text(rt, b" ")?;
+    decimal(rt, n)
 }
 
 // A line that is not in the notation.
-pub fn unknown() {
-    text(b"?\n");
+pub fn unknown(rt: &impl Print) -> io::Result<()> {
+    text(rt, b"?\n")
 }
 
 // The longest slice of a script.
@@ -70,18 +70,18 @@ fn kept_from(numbers: &[u64]) -> usize
 }
 
 // A slice after a call: its name, its numbers, and how many at its end are untouched.
-pub fn slice(name: &[u8], numbers: &[u64]) {
-    text(name);
+pub fn slice(rt: &impl Print, name: &[u8], numbers: &[u64]) -> io::Result<()> {
+    text(rt, name)?;
     let end = kept_from(numbers);
     let mut i = 0;
     while i < end {
-        text(b" ");
-        hex(numbers[i], 1);
+        text(rt, b" ")?;
+        hex(rt, numbers[i], 1)?;
         i += 1;
     }
     if end < numbers.len() {
-        text(b" kept*");
-        decimal((numbers.len() - end) as u64);
+        text(rt, b" kept*")?;
+        decimal(rt, (numbers.len() - end) as u64)?;
     }
-    text(b"\n");
+    text(rt, b"\n")
 }

@@ -1,41 +1,42 @@
 // The reader's call.
-use crate::answers::answer;
 use crate::output::{decimal, hex, text};
+use crate::printed::answer;
 use checks::devices::{counter_count, setup_of};
 use layouts::{CounterState, FilterRead, FilterValues, Reading, RegisterValues};
 use registers::reader::read;
 use requests::{Answer, Opened, Opening};
+use std::io;
 
 // A counter that counts an event: the event, or its filter register with the words.
-fn counted(code: u8, mask: u8, filter: FilterRead) {
+fn counted(rt: &impl Print, code: u8, mask: u8, filter: FilterRead) -> io::Result<()> {
     match filter {
         FilterRead::NoFilter => {
-            text(b" event:");
-            hex(code as u64, 2);
-            text(b":");
-            hex(mask as u64, 2);
+            text(rt, b" event:")?;
+            hex(rt, code as u64, 2)?;
+            text(rt, b":")?;
+            hex(rt, mask as u64, 2)
         }
         FilterRead::Rsp(register, word) => {
-            text(b" rsp:");
-            decimal(register);
-            text(b":");
-            hex(word, 1);
+            text(rt, b" rsp:")?;
+            decimal(rt, register)?;
+            text(rt, b":")?;
+            hex(rt, word, 1)
         }
         FilterRead::MatchMask(match_word, mask_word) => {
-            text(b" packet:");
-            hex(match_word, 1);
-            text(b":");
-            hex(mask_word, 1);
+            text(rt, b" packet:")?;
+            hex(rt, match_word, 1)?;
+            text(rt, b":")?;
+            hex(rt, mask_word, 1)
         }
     }
 }
 
 // What a counter does.
-fn state(told: CounterState) {
+fn state(rt: &impl Print, told: CounterState) -> io::Result<()> {
     match told {
-        CounterState::NotOurs => text(b" not-ours"),
-        CounterState::Off => text(b" off"),
-        CounterState::Counts { code, mask, filter } => counted(code, mask, filter),
+        CounterState::NotOurs => text(rt, b" not-ours"),
+        CounterState::Off => text(rt, b" off"),
+        CounterState::Counts { code, mask, filter } => counted(rt, code, mask, filter),
     }
 }
 
@@ -51,16 +52,18 @@ fn count_of(given: Opening) -> u64 {
 }
 
 // The first counters of a reading.
-fn counters(reading: Reading, count: u64) {
+fn counters(rt: &impl Print, reading: Reading, count: u64) -> io::Result<()> {
     let mut k: usize = 0;
     while k < 8 {
         if (k as u64) < count {
             let counter = reading.counters[k];
             let told = counter.state;
-            state(told);
+            state(rt, told)?;
         }
         k += 1;
     }
+
+    Ok(())
 }
 
 // What the reader is given, as the line's numbers stand in their places.
@@ -90,13 +93,13 @@ fn values(numbers: [u64; 20]) -> RegisterValues {
 }
 
 // Reads the registers, and prints what is told of each of the device's counters.
-pub fn reading(given: Opening, numbers: [u64; 20]) {
+pub fn reading(rt: &impl Print, given: Opening, numbers: [u64; 20]) -> io::Result<()> {
     let told = read(given, values(numbers));
     let answered = told.answer;
-    answer(answered);
+    answer(rt, answered)?;
     match answered {
-        Answer::Accepted => counters(told, count_of(given)),
+        Answer::Accepted => counters(rt, told, count_of(given))?,
         Answer::Refused(_) => {}
     }
-    text(b"\n");
+    text(rt, b"\n")
 }

@@ -1,6 +1,6 @@
 // The calls of a session: each prints its answer and what it leaves, and answers the session afterwards.
-use crate::answers::{answer_line, plan, queue};
 use crate::output::slice;
+use crate::printed::{answer_line, plan, queue};
 use checks::fields::{no_fields, opening_fields, request_fields, turns_fields};
 use planner::add::add;
 use planner::drop::drop_request;
@@ -9,51 +9,62 @@ use planner::turn::turn;
 use planner::turns::turns;
 use requests::{Fields, Opening, Request};
 use sessions::{Answered, Session};
+use std::io;
 
 // The answer of an open, add or drop with these fields.
-fn answered(done: Answered, fields: Fields) -> Session {
+fn answered(rt: &impl Print, done: Answered, fields: Fields) -> io::Result<Session> {
     let answer = done.answer;
-    answer_line(answer, fields);
+    answer_line(rt, answer, fields)?;
     let session = done.session;
-    queue(session);
-    session
+    queue(rt, session)?;
+    Ok(session)
 }
 
-pub fn opened(session: Session, given: Opening) -> Session {
-    answered(open(session, given), opening_fields(given))
+pub fn opened(rt: &impl Print, session: Session, given: Opening) -> io::Result<Session> {
+    answered(rt, open(session, given), opening_fields(given))
 }
 
-pub fn added(session: Session, id: u64, request: Request) -> Session {
+pub fn added(rt: &impl Print, session: Session, id: u64, request: Request) -> io::Result<Session> {
     let setup = session.setup;
     let device = setup.device;
-    answered(add(session, id, request), request_fields(device, request))
+    answered(
+        rt,
+        add(session, id, request),
+        request_fields(device, request),
+    )
 }
 
-pub fn dropped(session: Session, id: u64) -> Session {
-    answered(drop_request(session, id), no_fields())
+pub fn dropped(rt: &impl Print, session: Session, id: u64) -> io::Result<Session> {
+    answered(rt, drop_request(session, id), no_fields())
 }
 
 // A turn with a slice.
-pub fn turned(session: Session, list: &mut [u64]) -> Session {
+pub fn turned(rt: &impl Print, session: Session, list: &mut [u64]) -> io::Result<Session> {
     let done = turn(session, list);
     let assigned = done.plan;
-    plan(assigned, done.taken);
+    plan(rt, assigned, done.taken)?;
     let answer = done.answer;
-    answer_line(answer, no_fields());
-    slice(b"list", list);
+    answer_line(rt, answer, no_fields())?;
+    slice(rt, b"list", list)?;
     let next = done.session;
-    queue(next);
-    next
+    queue(rt, next)?;
+    Ok(next)
 }
 
 // Turns at once, with a slice for the lists and one for their ends.
-pub fn turned_at_once(session: Session, n: usize, list: &mut [u64], ends: &mut [u64]) -> Session {
+pub fn turned_at_once(
+    rt: &impl Print,
+    session: Session,
+    n: usize,
+    list: &mut [u64],
+    ends: &mut [u64],
+) -> io::Result<Session> {
     let done = turns(session, n, list, ends);
     let answer = done.answer;
-    answer_line(answer, turns_fields());
-    slice(b"list", list);
-    slice(b"ends", ends);
+    answer_line(rt, answer, turns_fields())?;
+    slice(rt, b"list", list)?;
+    slice(rt, b"ends", ends)?;
     let next = done.session;
-    queue(next);
-    next
+    queue(rt, next)?;
+    Ok(next)
 }

@@ -3,7 +3,11 @@ ghost use Rattle.std.specs.Prelude.{◌≤◌, length};
 
 use crate::host::{Host, new_host, unknown_line};
 use crate::script::run_line;
-use libc::STDIN_FILENO;
+use std::io;
+use std::io::Read;
+
+// The room for a block of the script, and for a line.
+const ROOM: usize = 4096;
 
 // The number of bytes of a line for which there is no room.
 const TOO_LONG: usize = usize::MAX;
@@ -25,22 +29,28 @@ fn hold(text: &mut [u8], bytes: usize, byte: u8) -> usize {
 }
 
 // A line at the start of a text.
-fn run_start(host: Host, text: &[u8], bytes: usize) -> Host
+fn run_start(rt: &impl Print, host: Host, text: &[u8], bytes: usize) -> io::Result<Host>
     requires { bytes ≤ length text.now }
 {
-    run_line(host, &text[..bytes])
+    run_line(rt, host, &text[..bytes])
 }
 
 // The line that is held; a longer one is not in the notation.
-fn run_held(host: Host, text: &[u8], bytes: usize) -> Host {
+fn run_held(rt: &impl Print, host: Host, text: &[u8], bytes: usize) -> io::Result<Host> {
     if text.len() < bytes {
-        return unknown_line(host);
+        return unknown_line(rt, host);
     }
-    run_start(host, text, bytes)
+    run_start(rt, host, text, bytes)
 }
 
 // A block of the script.
-fn run_block(host: Host, text: &mut [u8], held: usize, block: &[u8]) -> Held {
+fn run_block(
+    rt: &impl Print,
+    host: Host,
+    text: &mut [u8],
+    held: usize,
+    block: &[u8],
+) -> io::Result<Held> {
     let mut next = host;
     let mut bytes = held;
     let mut i = 0;
@@ -48,36 +58,36 @@ fn run_block(host: Host, text: &mut [u8], held: usize, block: &[u8]) -> Held {
         let byte = block[i];
         i += 1;
         if byte == b'\n' {
-            next = run_held(next, text, bytes);
+            next = run_held(rt, next, text, bytes)?;
             bytes = 0;
         } else {
             bytes = hold(text, bytes, byte);
         }
     }
-    Held {
+    Ok(Held {
         host: next,
         bytes: bytes,
-    }
+    })
 }
 
-// Runs the script to its end; a last line needs no newline. A proved loop has to end, so it counts down from a number that no run uses up.
-pub fn run() {
-    let mut block = io::buffer();
-    let mut text = io::buffer();
+// Runs the script to its end; a last line needs no newline. A proved loop has to end, so it counts to a number that no run comes to.
+pub fn run(rt: &(impl Input + Print)) -> io::Result<()> {
+    let mut input = rt.reader();
+    let mut block = [0u8; ROOM];
+    let mut text = [0u8; ROOM];
     let mut host = new_host();
     let mut bytes: usize = 0;
-    let mut turns = u64::MAX;
-    while turns > 0 {
-        let n = io::read_full(STDIN_FILENO, &mut block);
+    for _ in 0..u64::MAX {
+        let n = input.read(&mut block)?;
         if n == 0 {
             break;
         }
-        let held = run_block(host, &mut text, bytes, &block[..n]);
+        let held = run_block(rt, host, &mut text, bytes, &block[..n])?;
         host = held.host;
         bytes = held.bytes;
-        turns -= 1;
     }
     if 0 < bytes {
-        run_held(host, &text, bytes);
+        run_held(rt, host, &text, bytes)?;
     }
+    Ok(())
 }

@@ -1,4 +1,0 @@
-pub mod AnsweredRowsLocal
-pub mod LendingRuns
-pub mod RowsLocal
-pub mod TurnedRowsLocal
