@@ -1,9 +1,7 @@
 -- A complete run, by the cases of its last read and its last write. Assumes nothing.
 use Rattle.std.proofs.Common.{◌≡◌, ℕ, refl, arith}
 use Rattle.descriptors.specs.declared.Reading.{Reading}
-use Rattle.descriptors.specs.declared.Reading.TheVariants as Reading
 use Rattle.descriptors.specs.declared.Next.{Next}
-use Rattle.descriptors.specs.declared.Next.TheVariants as Next
 use Rattle.relay.specs.Endings.{last_of, ending_of, status_of}
 use Rattle.relay.specs.Completed.{Completed}
 use Rattle.relay.specs.declared.Ending.{Ending}
@@ -33,3 +31,12 @@ nonzero Refused h = absurd (omega (arith, h))
 
 pub completed : Completed
 completed = record { only = ended; complete = refl; zero = refl; not_zero = nonzero }
+
+-- no write leaves a refusal
+pub not_refused : (next : Next) → ending_of next ≡ Refused → ⊥
+not_refused Next.Go e = let z : ◌≡◌ {A = ℕ} 0 1 = cc in absurd (omega arith)
+not_refused Next.Wait e = let z : ◌≡◌ {A = ℕ} 0 1 = cc in absurd (omega arith)
+not_refused Next.Complete e = let z : ◌≡◌ {A = ℕ} 0 1 = cc in absurd (omega arith)
+not_refused Next.Closed e = let z : ◌≡◌ {A = ℕ} 0 1 = cc in absurd (omega arith)
+not_refused Next.Failed e = let z : ◌≡◌ {A = ℕ} 0 1 = cc in absurd (omega arith)
+not_refused Next.Stuck e = let z : ◌≡◌ {A = ℕ} 0 1 = cc in absurd (omega arith)

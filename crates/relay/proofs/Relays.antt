@@ -1,6 +1,6 @@
 -- Block after block: what was answered before and what a block adds are one text, whose replies are counted; its end adds the last.
 -- Assumes nothing.
-use Rattle.std.proofs.Common.{◌≡◌, ℕ, ◌+◌, ◌%◌, ◌^◌, ◌≤◌, List, [], ◌++◌, length, take, sym, refl, ap, ◌∙◌, subst, arith, length-append, take_all}
+use Rattle.std.proofs.Common.{◌≡◌, ℕ, ◌+◌, ◌%◌, ◌^◌, List, [], ◌++◌, length, take, sym, refl, ap, ◌∙◌, subst, arith, length-append, take_all}
 use native.Mathlib.Nat.{mod-add-mod}
 use Rattle.responder.specs.Written.{in_array}
 use Rattle.responder.specs.declared.LineReply.{LineReply}
@@ -20,9 +20,7 @@ use Rattle.relay.specs.Passing.{Passing}
 use Rattle.relay.specs.Relayed.{Relaying, Relayed, Transcribed}
 use Rattle.relay.specs.declared.Passed.{Passed}
 use Rattle.relay.specs.declared.Run.{Run}
-use Rattle.relay.specs.declared.Answered.{Answered}
 use Rattle.relay.specs.declared.Ending.{Ending}
-use Rattle.relay.specs.declared.Ending.TheVariants as Ending
 use Rattle.relay.proofs.Completed.{completed, written}
 
 -- two counts in 64 bits, added

@@ -1,9 +1,7 @@
 -- A run is complete exactly where its input was read to the end and its last reply was written whole; its status is then 0, and else not.
 use Rattle.std.specs.Prelude.{◌≡◌}
 use Rattle.descriptors.specs.declared.Reading.{Reading}
-use Rattle.descriptors.specs.declared.Reading.TheVariants as Reading
 use Rattle.descriptors.specs.declared.Next.{Next}
-use Rattle.descriptors.specs.declared.Next.TheVariants as Next
 use Rattle.relay.specs.Endings.{last_of, ending_of, status_of}
 use Rattle.relay.specs.declared.Ending.{Ending}
 use Rattle.relay.specs.declared.Ending.TheVariants.{Complete}

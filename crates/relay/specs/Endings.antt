@@ -1,9 +1,7 @@
 -- How the lines of an input ended, and the exit status of each ending.
 use Rattle.std.specs.Prelude.{ℕ}
 use Rattle.descriptors.specs.declared.Reading.{Reading}
-use Rattle.descriptors.specs.declared.Reading.TheVariants as Reading
 use Rattle.descriptors.specs.declared.Next.{Next}
-use Rattle.descriptors.specs.declared.Next.TheVariants as Next
 use Rattle.relay.specs.declared.Ending.{Ending}
 use Rattle.relay.specs.declared.Ending.TheVariants.{Complete, Closed, Failed, Refused}
 

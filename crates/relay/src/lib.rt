@@ -1,4 +1,4 @@
-// The line program over two descriptors: lines come from one, and the replies go to the other.
+// The line program over an input and an output: lines come from one, and the replies go to the other.
 // No contract can say what is read and written there: what is read is answered by `lines`, `pass_block` says that all of a block is,
 // and `answer_all` that the blocks are one text.
 #![tactic(auto)]
@@ -15,14 +15,20 @@ ghost use Rattle.answers.specs.ReplyLength.{reply_room};
 
 use descriptors::file::read_file;
 use descriptors::read::{bytes_read, read_some};
+use descriptors::told::Tell;
 use descriptors::write::{is_complete, send};
 use descriptors::{FileRead, Next, Reading, Writing};
 pub use endings::status_of;
 use endings::{ending_of, last_of};
 use lines::stream::{end, feed, start};
 use responder::replies::REPLY_ROOM;
+use std::io::{Read, Write};
 use std::num::wrapping_add_usize;
+use std::rt::{Clock, Files};
 use streams::Feed;
+
+// The room for a list of names.
+const LIST_ROOM: usize = 65536;
 
 // What a block leaves: the state, the number of bytes answered, the number of bytes reported written, and what comes next.
 #[derive(Clone, Copy)]
@@ -73,12 +79,13 @@ fn refused() -> Answered
 }
 
 // Answers a block: what the output holds is written before more of the block is answered.
-fn pass_block<'a>(
+fn pass_block<'a, H: Clock + Tell, W: Write>(
+    rt: &H,
     state: Feed,
     block: &[u8],
     site: &'a [u8],
     house: &'a [u8],
-    output: i32,
+    output: &mut W,
     out: &mut [u8],
 ) -> Passed
     requires { reply_room ≤ length out.old }
@@ -92,7 +99,7 @@ fn pass_block<'a>(
         current = fed.feed;
         taken += fed.taken;
         let n = fed.written;
-        let written = send(output, &out[..n]);
+        let written = send(rt, output, &out[..n]);
         sent = wrapping_add_usize(sent, written.done);
         let next = written.next;
         if !is_complete(next) {
@@ -113,11 +120,11 @@ fn pass_block<'a>(
 }
 
 // Writes the first n bytes of a text.
-fn send_first(output: i32, text: &[u8], n: usize) -> Writing
+fn send_first<H: Clock + Tell, W: Write>(rt: &H, output: &mut W, text: &[u8], n: usize) -> Writing
     requires { n ≤ length text.now }
     ensures { Reached n result }
 {
-    send(output, &text[..n])
+    send(rt, output, &text[..n])
 }
 
 // A run that leaves these.
@@ -134,9 +141,10 @@ fn run_of(feed: Feed, received: usize, sent: usize, last: Reading, next: Next) -
 }
 
 // Answers what is read, block by block, until a read has nothing more or a write is not complete.
-fn answer_blocks<'a>(
-    input: i32,
-    output: i32,
+fn answer_blocks<'a, H: Clock + Tell, R: Read, W: Write>(
+    rt: &H,
+    input: &mut R,
+    output: &mut W,
     site: &'a [u8],
     house: &'a [u8],
     block: &mut [u8],
@@ -149,14 +157,13 @@ fn answer_blocks<'a>(
     let mut received = 0;
     let mut sent = 0;
     let mut last = Reading::Again;
-    let mut turns = u64::MAX;
-    while turns > 0 {
-        last = read_some(input, block);
+    for _ in 0..u64::MAX {
+        last = read_some(rt, input, block);
         let n = bytes_read(last);
         if n == 0 {
             break;
         }
-        let passed = pass_block(state, &block[..n], site, house, output, out);
+        let passed = pass_block(rt, state, &block[..n], site, house, output, out);
         state = passed.feed;
         received = wrapping_add_usize(received, n);
         sent = wrapping_add_usize(sent, passed.sent);
@@ -164,15 +171,15 @@ fn answer_blocks<'a>(
         if !is_complete(ended) {
             return run_of(state, received, sent, last, ended);
         }
-        turns -= 1;
     }
     run_of(state, received, sent, last, Next::Complete)
 }
 
 // Answers what is read, and then the end of the input.
-fn answer_all<'a>(
-    input: i32,
-    output: i32,
+fn answer_all<'a, H: Clock + Tell, R: Read, W: Write>(
+    rt: &H,
+    input: &mut R,
+    output: &mut W,
     site: &'a [u8],
     house: &'a [u8],
     block: &mut [u8],
@@ -181,7 +188,7 @@ fn answer_all<'a>(
     requires { reply_room ≤ length out.old }
     ensures { Relayed (record { site = site.entry.now; house = house.now }) result }
 {
-    let run = answer_blocks(input, output, site, house, block, out);
+    let run = answer_blocks(rt, input, output, site, house, block, out);
     let reached = run.next;
     if !is_complete(reached) {
         return run;
@@ -189,7 +196,7 @@ fn answer_all<'a>(
     let feed = run.feed;
     let reply = end(feed);
     let text = reply.text;
-    let written = send_first(output, &text, reply.length);
+    let written = send_first(rt, output, &text, reply.length);
     let ended = written.next;
     let last = run.last;
     Run {
@@ -204,9 +211,11 @@ fn answer_all<'a>(
 // Answers the lines that come from the input, a session of their own, until it ends, or a read or write fails. Names are looked
 // up in the site's list and the house's.
 // A block without a byte is refused, and so is an output without room for a reply: neither is used then.
-pub fn answer_input<'a>(
-    input: i32,
-    output: i32,
+#[tactic(auto, using(crate::proofs::Completed::not_refused), unfolding(answers::specs::ReplyLength::reply_room))]
+pub fn answer_input<'a, H: Clock + Tell, R: Read, W: Write>(
+    rt: &H,
+    input: &mut R,
+    output: &mut W,
     site: &'a [u8],
     house: &'a [u8],
     block: &mut [u8],
@@ -223,7 +232,7 @@ pub fn answer_input<'a>(
     if out.len() < REPLY_ROOM {
         return refused();
     }
-    let run = answer_all(input, output, site, house, block, out);
+    let run = answer_all(rt, input, output, site, house, block, out);
     let next = run.next;
     Answered {
         ending: ending_of(next),
@@ -234,9 +243,10 @@ pub fn answer_input<'a>(
 
 // Answers the lines that come from the input, with names from the lists of two files, once both are read: what keeps one from being
 // read is told on standard error, and then no line is answered.
-pub fn answer_with_files(
-    input: i32,
-    output: i32,
+pub fn answer_with_files<H: Files + Clock + Tell, R: Read, W: Write>(
+    rt: &H,
+    input: &mut R,
+    output: &mut W,
     site_path: &[u8],
     house_path: &[u8],
     block: &mut [u8],
@@ -244,15 +254,15 @@ pub fn answer_with_files(
 ) -> Ending
     ensures { result ≡ Ending.Refused → Unfit block.old out.old }
 {
-    let mut site = io::large_buffer();
-    let FileRead::Bytes(n) = read_file(site_path, &mut site) else {
+    let mut site = [0u8; LIST_ROOM];
+    let FileRead::Bytes(n) = read_file(rt, site_path, &mut site) else {
         return Ending::Failed;
     };
-    let mut house = io::large_buffer();
-    let FileRead::Bytes(m) = read_file(house_path, &mut house) else {
+    let mut house = [0u8; LIST_ROOM];
+    let FileRead::Bytes(m) = read_file(rt, house_path, &mut house) else {
         return Ending::Failed;
     };
-    let answered = answer_input(input, output, &site[..n], &house[..m], block, out);
+    let answered = answer_input(rt, input, output, &site[..n], &house[..m], block, out);
     let ending = answered.ending;
     ending
 }
