@@ -3,6 +3,7 @@ use crate::events::is_accepted;
 use crate::print;
 use crate::rows::is_named;
 use requests::Setup;
+use std::io;
 use std::num::wrapping_add_u64;
 
 // How many codes are accepted with some mask, and how many of these no row names; how many pairs of code and mask are accepted, and how many
@@ -49,24 +50,30 @@ fn with_pairs(start: Coverage, list: &[u8], setup: Setup, code: u8) -> Coverage 
 }
 
 // With a code, which is shown where no row names it.
-fn with_code(start: Coverage, list: &[u8], setup: Setup, code: u8) -> Coverage {
+fn with_code(
+    rt: &impl Print,
+    start: Coverage,
+    list: &[u8],
+    setup: Setup,
+    code: u8,
+) -> io::Result<Coverage> {
     let all = with_pairs(start, list, setup, code);
     if all.pairs == start.pairs {
-        return all;
+        return Ok(all);
     }
     if all.named == start.named {
-        print::unnamed(code);
+        print::unnamed(rt, code)?;
     }
-    Coverage {
+    Ok(Coverage {
         codes: wrapping_add_u64(all.codes, 1),
         unnamed: more(all.unnamed, all.named == start.named),
         pairs: all.pairs,
         named: all.named,
-    }
+    })
 }
 
 // What the rows name of the catalogue of the setup's device.
-pub fn coverage_of(list: &[u8], setup: Setup) -> Coverage {
+pub fn coverage_of(rt: &impl Print, list: &[u8], setup: Setup) -> io::Result<Coverage> {
     let mut all = Coverage {
         codes: 0,
         unnamed: 0,
@@ -75,8 +82,8 @@ pub fn coverage_of(list: &[u8], setup: Setup) -> Coverage {
     };
     let mut code: u64 = 0;
     while code < 256 {
-        all = with_code(all, list, setup, code as u8);
+        all = with_code(rt, all, list, setup, code as u8)?;
         code += 1;
     }
-    all
+    Ok(all)
 }

@@ -14,59 +14,82 @@ use crate::look_ups::look_up_each;
 use crate::transcripts::answer_named;
 use descriptors::FileRead;
 use descriptors::file::read_file;
+use descriptors::told::Tell;
 use names::lists::list_formed;
 use requests::Device;
+use std::io;
+use std::rt::{Clock, Files};
+
+// The room for a list of names.
+const LIST_ROOM: usize = 65536;
 
 // The device's letter, its rows and what they name of its catalogue.
-fn line(list: &[u8], letter: &[u8], device: Device) {
+fn line(rt: &impl Print, list: &[u8], letter: &[u8], device: Device) -> io::Result<()> {
     let setup = events::all_usable(device);
-    let rows = rows::rows_on(list, setup);
-    let coverage = coverage::coverage_of(list, setup);
-    prints::text(letter);
-    print::rows(rows);
-    print::coverage(coverage);
+    let rows = rows::rows_on(rt, list, setup)?;
+    let coverage = coverage::coverage_of(rt, list, setup)?;
+    prints::text(rt, letter)?;
+    print::rows(rt, rows)?;
+    print::coverage(rt, coverage)
 }
 
-fn report(list: &[u8]) {
+fn report(rt: &impl Print, list: &[u8]) -> io::Result<()> {
     if list_formed(list) {
-        prints::text(b"formed\n");
+        prints::text(rt, b"formed\n")?;
     } else {
-        prints::text(b"ill-formed\n");
+        prints::text(rt, b"ill-formed\n")?;
     }
-    line(list, b"G", Device::G);
-    line(list, b"S", Device::S);
-    line(list, b"C", Device::C(0));
-    line(list, b"B", Device::B);
+    line(rt, list, b"G", Device::G)?;
+    line(rt, list, b"S", Device::S)?;
+    line(rt, list, b"C", Device::C(0))?;
+    line(rt, list, b"B", Device::B)
 }
 
 // Holds the list of a file to the catalogues.
-fn hold(path: &[u8]) {
-    let mut room = io::large_buffer();
-    let FileRead::Bytes(n) = read_file(path, &mut room) else {
-        return;
+fn hold<H: Files + Clock + Tell + Print>(rt: &H, path: &[u8]) -> io::Result<()> {
+    let mut room = [0u8; LIST_ROOM];
+    let FileRead::Bytes(n) = read_file(rt, path, &mut room) else {
+        return Ok(());
     };
-    report(&room[..n]);
+    report(rt, &room[..n])
 }
 
-fn main() {
-    hold(b"house.txt");
+fn main(rt: HostRuntime) -> io::Result<()> {
+    hold(&rt, b"house.txt")?;
     look_up_each(
+        &rt,
         b"BOTH\tG\t3C\t00\nSITE\tG\tC0\t00\n",
         b"BOTH\tG\tC4\t00\nHOUSE\tG\tC5\t00\n",
-    );
+    )?;
     look_up_each(
+        &rt,
         b"BOTH\tG\tC4\t00\nHOUSE\tG\tC5\t00\n",
         b"BOTH\tG\t3C\t00\nSITE\tG\tC0\t00\n",
-    );
+    )?;
     look_up_each(
+        &rt,
         b"BOTH\tG\t3C\t00\nSITE\tG\tC0\t00\n",
         b"BOTH\tG\tC4\t00\nHOUSE\tG\tC5\t00",
+    )?;
+    let mut output = rt.stdout();
+    answer_named(
+        &rt,
+        &mut output,
+        "technician.txt",
+        b"technician.site",
+        b"house.txt",
     );
-    answer_named(b"technician.txt", b"technician.site", b"house.txt");
-    answer_named(b"g.txt", b"no_site.txt", b"house.txt");
-    answer_named(b"s.txt", b"no_site.txt", b"house.txt");
-    answer_named(b"c.txt", b"no_site.txt", b"house.txt");
-    answer_named(b"b.txt", b"no_site.txt", b"house.txt");
-    answer_named(b"names.txt", b"names.site", b"names.house");
-    answer_named(b"damaged.txt", b"damaged.site", b"damaged.house");
+    answer_named(&rt, &mut output, "g.txt", b"no_site.txt", b"house.txt");
+    answer_named(&rt, &mut output, "s.txt", b"no_site.txt", b"house.txt");
+    answer_named(&rt, &mut output, "c.txt", b"no_site.txt", b"house.txt");
+    answer_named(&rt, &mut output, "b.txt", b"no_site.txt", b"house.txt");
+    answer_named(&rt, &mut output, "names.txt", b"names.site", b"names.house");
+    answer_named(
+        &rt,
+        &mut output,
+        "damaged.txt",
+        b"damaged.site",
+        b"damaged.house",
+    );
+    Ok(())
 }

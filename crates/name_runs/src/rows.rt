@@ -9,6 +9,7 @@ use names::lists::row_end;
 use names::look_up::look_up;
 use names::rows::row_of;
 use requests::{Device, Setup};
+use std::io;
 use std::num::wrapping_add_u64;
 
 // How many rows a device has, how many of them the planner refuses, and how many have a name that stands above them in the list.
@@ -41,40 +42,58 @@ fn is_again(above: &[u8], row: &[u8]) -> bool {
 }
 
 // One more, where it counts; then the row is shown.
-fn more(count: u64, counts: bool, row: &[u8], why: &[u8]) -> u64 {
+fn more(rt: &impl Print, count: u64, counts: bool, row: &[u8], why: &[u8]) -> io::Result<u64> {
     if counts {
-        print::offender(row, why);
-        return wrapping_add_u64(count, 1);
+        print::offender(rt, row, why)?;
+        return Ok(wrapping_add_u64(count, 1));
     }
-    count
+    Ok(count)
 }
 
 // The rows with one more, for the device.
-fn with_row(rows: Rows, above: &[u8], row: &[u8], accepted: bool) -> Rows {
-    Rows {
+fn with_row(
+    rt: &impl Print,
+    rows: Rows,
+    above: &[u8],
+    row: &[u8],
+    accepted: bool,
+) -> io::Result<Rows> {
+    Ok(Rows {
         count: wrapping_add_u64(rows.count, 1),
-        refused: more(rows.refused, !accepted, row, b"refused"),
-        again: more(rows.again, is_again(above, row), row, b"again"),
-    }
+        refused: more(rt, rows.refused, !accepted, row, b"refused")?,
+        again: more(rt, rows.again, is_again(above, row), row, b"again")?,
+    })
 }
 
 // The rows with one more, if it is for the device.
-fn with_text(rows: Rows, above: &[u8], row: &[u8], setup: Setup) -> Rows {
+fn with_text(
+    rt: &impl Print,
+    rows: Rows,
+    above: &[u8],
+    row: &[u8],
+    setup: Setup,
+) -> io::Result<Rows> {
     match row_of(row) {
         RowRead::Formed(said) => {
             let on = said.device;
             let device = setup.device;
             if letter_of(on) == letter_of(device) {
-                return with_row(rows, above, row, is_accepted(setup, said.code, said.mask));
+                return with_row(
+                    rt,
+                    rows,
+                    above,
+                    row,
+                    is_accepted(setup, said.code, said.mask),
+                );
             }
-            rows
+            Ok(rows)
         }
-        RowRead::Bad => rows,
+        RowRead::Bad => Ok(rows),
     }
 }
 
 // The rows of the setup's device.
-pub fn rows_on(list: &[u8], setup: Setup) -> Rows {
+pub fn rows_on(rt: &impl Print, list: &[u8], setup: Setup) -> io::Result<Rows> {
     let mut rows = Rows {
         count: 0,
         refused: 0,
@@ -83,10 +102,10 @@ pub fn rows_on(list: &[u8], setup: Setup) -> Rows {
     let mut at = 0;
     while at < list.len() {
         let end = row_end(list, at);
-        rows = with_text(rows, &list[..at], &list[at..end], setup);
+        rows = with_text(rt, rows, &list[..at], &list[at..end], setup)?;
         at = end + 1;
     }
-    rows
+    Ok(rows)
 }
 
 // Whether a row has the event.
