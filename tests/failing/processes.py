@@ -64,17 +64,17 @@ def without_the_script():
 def proving():
     """The script with another program and another rt, in a folder of its own."""
     tree = path('tree')
-    os.makedirs(os.path.join(tree, 'crates'))
+    os.makedirs(os.path.join(tree, 'crates/tuner'))
     path('tree/crates.txt', b'')
     shutil.copy(TUNER, tree)
     os.mkdir(path('bin'))
-    rt = path('bin/rt', b'#!/bin/sh\necho "rt $*"\n[ -e good ] || exit 1\nmkdir -p target/bin && cp program target/bin/tuner\n')
+    rt = path('bin/rt', b'#!/bin/sh\necho "rt $*"\n[ -e ../../good ] || exit 1\nmkdir -p out && cp ../../program out/tuner\n')
     program = path('tree/program', b'#!/bin/sh\ncat\nprintf 0 >&3\n')
     os.chmod(rt, 0o755)
     os.chmod(program, 0o755)
     run = 'PATH=$B:$PATH; printf in | ./tree/tuner >"$O"'
     proves = 'tuner: proving and building the program, which takes some minutes\n'
-    check('not proved', shell(run, B=path('bin')), (1, proves + 'rt check tuner\n'))
+    check('not proved', shell(run, B=path('bin')), (1, proves + 'rt run\n'))
     path('tree/good', b'')
     check('proved and built first, input kept', shell(run, B=path('bin')) + (written(),), (0, proves, b'in'))
     check('and not again', shell(run, B=path('bin')) + (written(),), (0, '', b'in'))
