@@ -40,6 +40,7 @@ pub fn number_of(error: &io::Error) -> i32
 pub fn answer_of(returned: &io::Result<usize>) -> Answer
     ensures moved { MatchResult returned.now (λ n. Moved n result.got) (λ e. result.got ≡ negsuc 0) }
     ensures exact { MatchResult returned.now (λ n. n < 2 ^ 63 → result.got ≡ pos n) (λ e. result.got ≡ negsuc 0) }
+    ensures errno { MatchResult returned.now (λ n. result.error ≡ pos 0) (λ e. IfSome (raw_os_error e) (λ code. result.error ≡ code)) }
 {
     match returned {
         Ok(n) => Answer {
