@@ -2,19 +2,18 @@
 -- nothing.
 --     turn-found            a completed turn in its place among the calls
 --     dropped-by, taken-by  the lines that drop and take
+use Rattle.std.specs.Prelude.{Option, None, Some, Ok, Err}
 use mathlib.Core.Path.{◌≡◌, refl, ap, subst, ◌∙◌}
 use mathlib.Core.Logic.{◌≢◌, ◌⊎◌, inl, inr}
 use mathlib.Core.Bool.{false}
 use mathlib.Core.List.Memᴰ
 use mathlib.Core.List.{List, [], ◌∷◌, ◌++◌, append_assoc, append-nil, Memᴰ}
-use mathlib.Core.Option.{Option, none, some}
 use Prim.Native.Nat.{ℕ, zero, suc, ◌+◌, ◌≤◌}
 use native.Mathlib.Omega.{arith}
 use lib.ListN.{length, take}
 use Rattle.requests.specs.declared.Setup.{Setup}
 use Rattle.requests.specs.declared.Entry.{Entry}
 use Rattle.requests.specs.declared.Refusal.{Refusal}
-use Rattle.requests.specs.declared.Answer.TheVariants.{Accepted, Refused}
 use Rattle.requests.specs.Refusals.{answer_for}
 use Rattle.plans.specs.Lists.{All, nil, cons}
 use Rattle.plans.specs.Places.{counters_of}
@@ -65,17 +64,17 @@ unfolding turns_by completes turns_asked turns_if answer_to refused_by answer_fo
 completing_turn x q s room same = go (refusal queue_limit (opened x q) (calls.Turn room)) refl
   where
     go : (y : Option Refusal) → refusal queue_limit (opened x q) (calls.Turn room) ≡ y → Completing (opened x q) s (calls.Turn room)
-    go none e =
-        let accepted : (turn_of s room).answer ≡ Accepted = answer_is s (calls.Turn room) ∙ rw (same, e) in
+    go None e =
+        let accepted : (turn_of s room).answer ≡ (Ok tt) = answer_is s (calls.Turn room) ∙ rw (same, e) in
         one room (record { setup = x; queue = q; plan = plan_of (turn_of s room) }) refl refl (rw accepted) (rw e)
-    go (some y) e =
-        let rejected : (turn_of s room).answer ≡ Refused y = answer_is s (calls.Turn room) ∙ rw (same, e) in
+    go (Some y) e =
+        let rejected : (turn_of s room).answer ≡ Err y = answer_is s (calls.Turn room) ∙ rw (same, e) in
         nothing (rw rejected) (rw e)
 
 -- a call that asks for no turn completes none
 no_turns : (x : Option Refusal) → ◌≡◌ {A = ℕ} (unless_refused x 0 0) 0
-no_turns none = refl
-no_turns (some x) = refl
+no_turns None = refl
+no_turns (Some x) = refl
 
 completing : (p : Plain) (s : Session) (c : Call) → CallFits c → plain_of s ≡ p → Completing p s c
 unfolding turns_by completes turns_asked
@@ -203,10 +202,10 @@ module _ (n : NameLists) (start : Session) (closed : start.opened ≡ false) (be
         queue = t.queue;
         there = there;
         told = told;
-        said = plan ++ list ++ Answers none ∷ [];
+        said = plan ++ list ++ Answers None ∷ [];
         answered = told.says;
         place = g.place;
-        given = rw (append_assoc plan list (Answers none ∷ []), given_append e.id plan (list ++ Answers none ∷ []), given_end e.id, append-nil) g.given;
+        given = rw (append_assoc plan list (Answers None ∷ []), given_append e.id plan (list ++ Answers None ∷ []), given_end e.id, append-nil) g.given;
         usable = all_joined counters_of told.places {a = g.place} told.first.legal.usable_only g.among;
         allowed = g.allowed;
       }

@@ -2,13 +2,12 @@
 --     table-text, table-said, named-table-text    the last line of a reply
 --     fault-small                                 its field has one digit
 --     turn-field                                  that of a turn is 0
+use Rattle.std.specs.Prelude.{Option, None, Some, Ok, Err}
 use mathlib.Core.Path.{◌≡◌, refl, ap, sym, subst, ◌∙◌}
 use mathlib.Core.Bool.{Bool, true, false}
-use mathlib.Core.Option.{Option, none, some}
 use Prim.Native.Nat.{ℕ}
 use Rattle.requests.specs.declared.Refusal.{Refusal}
-use Rattle.requests.specs.declared.Answer.{Answer}
-use Rattle.requests.specs.declared.Answer.TheVariants.{Accepted, Refused}
+use Rattle.requests.specs.Answers.{Answer}
 use Rattle.requests.specs.declared.Fault.{Fault}
 use Rattle.requests.specs.declared.Fields.{Fields}
 use Rattle.requests.specs.Refusals.{number_of, answer_for}
@@ -29,8 +28,8 @@ use Rattle.answers.proofs.SliceFits.{turn_goes}
 
 -- what an answer at a field says
 abbrev pub answer_said : Answer → ℕ → Option Refusing
-answer_said Accepted k = none
-answer_said (Refused x) k = some (number_of x, k)
+answer_said (Ok tt) k = None
+answer_said (Err x) k = Some (number_of x, k)
 
 -- the field of a call's answer
 abbrev pub call_field : Session → Call → ℕ
@@ -40,18 +39,18 @@ call_field s c = answer_field (answer_to s c) (fields_of s.setup.device c)
 
 option_text : (f : Fields) (x : Option Refusal) → answer_text (answer_for x) (answer_field (answer_for x) f) ≡ fault_text (with_field f x)
 unfolding answer_for answer_field with_field fault_text answer_text
-option_text f none = refl
-option_text f (some x) = refl
+option_text f None = refl
+option_text f (Some x) = refl
 
 option_named : (f : Fields) (x : Option Refusal) → answer_text (answer_for x) (named_field (answer_field (answer_for x) f)) ≡ fault_text (by_name_lem (with_field f x))
 unfolding answer_for answer_field with_field fault_text by_name_lem answer_text
-option_named f none = refl
-option_named f (some x) = refl
+option_named f None = refl
+option_named f (Some x) = refl
 
 option_said : (f : Fields) (x : Option Refusal) → answer_said (answer_for x) (answer_field (answer_for x) f) ≡ fault_said (with_field f x)
 unfolding answer_for answer_field with_field fault_said
-option_said f none = refl
-option_said f (some x) = refl
+option_said f None = refl
+option_said f (Some x) = refl
 
 -- ---- in a session
 

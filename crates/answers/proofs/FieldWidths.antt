@@ -1,6 +1,6 @@
 -- The field of a refusal is 0 to 7, whatever the call was given: one digit. Assumes nothing.
+use Rattle.std.specs.Prelude.{Option, None, Some}
 use mathlib.Core.Bool.{Bool, true, false, not}
-use mathlib.Core.Option.{Option, none, some}
 use mathlib.Core.Path.{◌≡◌, refl}
 use Prim.Native.Nat.{ℕ, ◌+◌, ◌-◌, ◌≤◌}
 use native.Mathlib.Omega.{arith}
@@ -70,8 +70,8 @@ unfolding fields_on
 opening_small o = go (device_of o.device o.cbox) refl
   where
     go : (x : Option Device) → device_of o.device o.cbox ≡ x → Small (opening_fields o)
-    go none e = rw (fields_none o e) (record { opening = omega arith; range = omega arith; lack = omega arith })
-    go (some d) e = rw (fields_on_lem o d e) (record { opening = opening_field_small d o; range = asking_field_small d o; lack = omega arith })
+    go None e = rw (fields_none o e) (record { opening = omega arith; range = omega arith; lack = omega arith })
+    go (Some d) e = rw (fields_on_lem o d e) (record { opening = opening_field_small d o; range = asking_field_small d o; lack = omega arith })
 
 -- those of every call
 pub call_small : (d : Device) (c : Call) → Small (fields_of d c)
@@ -102,13 +102,13 @@ field_small NotLeftByPlan f s = omega arith
 
 -- a fault with a field of one digit
 abbrev pub OneDigit : Option Fault → Type 0
-OneDigit none = Unit {0}
-OneDigit (some f) = f.field ≤ 7
+OneDigit None = Unit {0}
+OneDigit (Some f) = f.field ≤ 7
 
 pub told_small : (f : Fields) → Small f → (x : Option Refusal) → OneDigit (with_field f x)
 unfolding with_field
-told_small f s none = tt
-told_small f s (some x) = field_small x f s
+told_small f s None = tt
+told_small f s (Some x) = field_small x f s
 
 -- in a request by name no field moves right
 pub named_small : (k : ℕ) → k ≤ 7 → named_field k ≤ 7

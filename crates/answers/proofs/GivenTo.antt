@@ -1,10 +1,10 @@
 -- What the `take` lines of a plan give an id: where ids are distinct, the place of its entry and nothing else. Assumes nothing.
+use Rattle.std.specs.Prelude.{None}
 use mathlib.Core.Path.{◌≡◌, refl, sym, ◌∙◌}
 use mathlib.Core.Logic.{◌≢◌, ◌⊎◌, inl, inr}
 use mathlib.Core.Bool.{Bool, true, false}
 use mathlib.Core.List.Memᴰ
 use mathlib.Core.List.{List, [], ◌∷◌, ◌++◌, map, flat_map, append-nil, Memᴰ}
-use mathlib.Core.Option.{none}
 use Prim.Native.Nat.{ℕ}
 use lib.Dec.{eqb}
 use borrow.Author.Tests.{eq-eqb, ne_eqb}
@@ -56,7 +56,7 @@ module _ (id : ℕ) where
   given_other other h (c ∷ cs) = rw (ne_eqb id other h) (given_other other h cs)
 
   -- `set` lines and the answer
-  pub given_end : (ws : List Write) → given_to id (sets_of ws ++ Answers none ∷ []) ≡ []
+  pub given_end : (ws : List Write) → given_to id (sets_of ws ++ Answers None ∷ []) ≡ []
   unfolding given_to sets_of
   given_end [] = refl
   given_end (w ∷ ws) = given_end ws

@@ -2,15 +2,14 @@
 --     decimal-length                  numbers
 --     take-lines-length, set-lines-length, answer-length    the lines of a reply
 --     joined-length                   texts one after another
+use Rattle.std.specs.Prelude.{Option, None, Some, Ok, Err}
 use mathlib.Core.Bool.{Bool, true, false}
 use mathlib.Core.List.{List, [], ◌∷◌, flat_map}
-use mathlib.Core.Option.{Option, none, some}
 use Prim.Native.Nat.{ℕ, zero, suc, ◌*◌, ◌/◌, ◌+◌, ◌≤◌}
 use native.Mathlib.Omega.{arith}
 use lib.Dec.{ltb}
 use lib.ListN.{length, length-append}
-use Rattle.requests.specs.declared.Answer.{Answer}
-use Rattle.requests.specs.declared.Answer.TheVariants.{Accepted, Refused}
+use Rattle.requests.specs.Answers.{Answer}
 use Rattle.requests.specs.Choice.{pick}
 use Rattle.requests.specs.Refusals.{number_of}
 use Rattle.plans.specs.declared.Place.{Place}
@@ -40,8 +39,8 @@ decimal_length n = digits_length 20 n
 
 register_length : (r : Option ℕ) → length (register_text r) ≤ 20
 unfolding register_text bytes
-register_length none = omega arith
-register_length (some i) = decimal_length i
+register_length None = omega arith
+register_length (Some i) = decimal_length i
 
 -- a `take` line
 take_length : (id : ℕ) (c : Counted) → length (line_of (bytes "take" ∷ decimal_text id ∷ decimal_text c.0 ∷ register_text c.1 ∷ [])) ≤ 68
@@ -74,5 +73,5 @@ set_lines_length (a ∷ v ∷ rest) = simp (length-append, hex_length) (omega (a
 
 pub answer_length : (a : Answer) (k : ℕ) → length (answer_text a k) ≤ 45
 unfolding answer_text line_of bytes
-answer_length Accepted k = omega arith
-answer_length (Refused x) k = simp length-append (omega (arith, decimal_length (number_of x), decimal_length k))
+answer_length (Ok tt) k = omega arith
+answer_length (Err x) k = simp length-append (omega (arith, decimal_length (number_of x), decimal_length k))

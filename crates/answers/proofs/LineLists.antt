@@ -4,10 +4,10 @@
 --     line-of          a call among those of lines that is no add, and its line
 --     calls-fit        their calls are ones that lines make
 --     askable-after    each request that lines leave waiting is one that a line can add
+use Rattle.std.specs.Prelude.{Option, None, Some, Err}
 use mathlib.Core.Path.{◌≡◌, refl, ap, sym, subst, ◌∙◌}
 use mathlib.Core.Bool.{false}
 use mathlib.Core.List.{List, [], ◌∷◌, ◌++◌, append_assoc}
-use mathlib.Core.Option.{Option, none, some}
 use Prim.Native.Nat.{ℕ}
 use native.Mathlib.Omega.{arith}
 use lib.ListN.{length, length-append}
@@ -17,7 +17,6 @@ use Rattle.requests.specs.declared.Setup.{Setup}
 use Rattle.requests.specs.declared.Request.{Request}
 use Rattle.requests.specs.declared.Refusal.{Refusal}
 use Rattle.requests.specs.declared.Refusal.TheVariants.{CallOrder}
-use Rattle.requests.specs.declared.Answer.TheVariants.{Refused}
 use Rattle.requests.specs.Refusals.{answer_for}
 use Rattle.requests.specs.Faults.{field_of, answer_field}
 use Rattle.requests.specs.Devices.{setup_of}
@@ -67,7 +66,7 @@ line_stands s (Named id r) = ap plain_of (lines_are_calls.named_session s id r) 
 line_stands s (Fault k) = refl
 
 -- before open an add is refused with 2, whatever it asks for
-add_closed_reply : (s : Session) (id : ℕ) (r : Request) → plain_of s ≡ not_open_lem → named_reply s id r ≡ reply_at (record { answer = Refused CallOrder; session = s }) 0
+add_closed_reply : (s : Session) (id : ℕ) (r : Request) → plain_of s ≡ not_open_lem → named_reply s id r ≡ reply_at (record { answer = Err CallOrder; session = s }) 0
 unfolding named_reply add_of answered refused_by answer_for answer_field field_of named_field
 add_closed_reply s id r closed = rw (closed, add_closed queue_limit id r)
 
@@ -213,10 +212,10 @@ calls_fit n p [] = nil
 calls_fit n p (line ∷ lines) =
     all_append (line_fits n (device_at p) line (parse_line_with n (device_at p) line) refl) (calls_fit n (run queue_limit p (calls_at n p line)) lines)
 
-opened_askable : (p : Plain) (x : Option Setup) → Askable (waiting p) → Askable (waiting (elim x [ none ↦ p | some s ↦ opened s [] ]))
+opened_askable : (p : Plain) (x : Option Setup) → Askable (waiting p) → Askable (waiting (elim x [ None ↦ p | Some s ↦ opened s [] ]))
 unfolding waiting
-opened_askable p none h = h
-opened_askable p (some s) h = nil
+opened_askable p None h = h
+opened_askable p (Some s) h = nil
 
 change_askable : (p : Plain) (c : Call) → CallFits c → Askable (waiting p) → Askable (waiting (change p c))
 unfolding change on_queue waiting turned taken passed
@@ -233,8 +232,8 @@ step_askable : (p : Plain) (c : Call) → CallFits c → Askable (waiting p) →
 step_askable p c f h = go (refusal queue_limit p c) refl
   where
     go : (x : Option Refusal) → refusal queue_limit p c ≡ x → Askable (waiting (step queue_limit p c))
-    go none e = rw (step_accepted queue_limit p c e) (change_askable p c f h)
-    go (some x) e = rw (step_refused queue_limit p c x e) h
+    go None e = rw (step_accepted queue_limit p c e) (change_askable p c f h)
+    go (Some x) e = rw (step_refused queue_limit p c x e) h
 
 run_askable : (p : Plain) {cs : List Call} → All CallFits cs → Askable (waiting p) → Askable (waiting (run queue_limit p cs))
 unfolding run

@@ -1,8 +1,8 @@
 -- A record is one of the four calls, by the cases of the record, and its reply says what the call answers, by the laws on reading.
+use Rattle.std.specs.Prelude.{Some}
 use mathlib.Core.Path.{◌≡◌, refl, ap, ◌∙◌}
 use mathlib.Core.Logic.{◌≢◌}
 use mathlib.Core.List.{List, [], ◌∷◌, ◌++◌, flat_map}
-use mathlib.Core.Option.{some}
 use Prim.Native.Nat.{ℕ, ◌*◌}
 use lib.ListN.{take, replicate}
 use Rattle.requests.specs.Devices.{opening_of}
@@ -50,7 +50,7 @@ text_alone s (Add id r) h = table_text s (calls.Add id r)
 text_alone s (Drop id) h = table_text s (calls.Drop id)
 text_alone s Turn h = absurd (h refl)
 
-answered_alone : (s : Session) (r : Record) → r ≢ Turn → reply_says (record_reply s r).text ≡ some (Answers (fault_said (fault_of s (call_of r))) ∷ [])
+answered_alone : (s : Session) (r : Record) → r ≢ Turn → reply_says (record_reply s r).text ≡ Some (Answers (fault_said (fault_of s (call_of r))) ∷ [])
 answered_alone s r h = rw (text_alone s r h) (fault_reads (fault_of s (call_of r)) (fault_small s (call_of r))).says
 
 -- ---- by name

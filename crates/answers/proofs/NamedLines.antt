@@ -1,10 +1,11 @@
 -- A request by name is refused as the table says of the request that it stands for, or answered as the event in numbers. Assumes nothing.
+use Rattle.std.proofs.lemmas.Option.{none-some}
+use Rattle.std.specs.Prelude.{Option, None, Some, Err}
 use mathlib.Core.Path.{◌≡◌, refl, ap, sym, ◌∙◌}
 use mathlib.Core.Logic.{◌⊎◌, inl, inr, ⊎_elim}
 use mathlib.Core.Bool.{true, false, false≢true}
 use mathlib.Mathlib.Data.Bool.Basic.{eq-false_of_not-eq-true}
 use mathlib.Core.List.{List, [], ◌∷◌, ◌++◌}
-use mathlib.Core.Option.{Option, none, some, none-ne-some}
 use Prim.Native.Nat.{ℕ}
 use Rattle.requests.specs.Choice as choice
 use Rattle.requests.specs.Choice.{first_holding}
@@ -13,7 +14,6 @@ use Rattle.requests.specs.Faults.{request_fields, field_of, answer_field}
 use Rattle.requests.specs.declared.Fields.{Fields}
 use Rattle.requests.specs.Checks.{request_rows, request_refusal}
 use Rattle.requests.specs.declared.CounterSet.{CounterSet}
-use Rattle.requests.specs.declared.Answer.TheVariants.{Refused}
 use Rattle.requests.specs.declared.Refusal.{Refusal}
 use Rattle.requests.specs.declared.Refusal.TheVariants.{NotInGrammar, CallOrder, BadId, IdWaiting, KindNotOnDevice, NotListed}
 use Rattle.requests.specs.declared.Request.{Request}
@@ -43,8 +43,6 @@ use Rattle.names.specs.NamedRequests.{Finds}
 use Rattle.names.specs.Rows.{row_of, is_formed}
 use Rattle.names.specs.RowGrammar.{AreLists}
 use Rattle.names.specs.RowsFound.{NoRow, FoundIn}
-use Rattle.names.specs.declared.RowRead.{RowRead}
-use Rattle.names.specs.declared.RowRead.TheVariants.{Formed, Bad}
 use Rattle.names.specs.declared.Row.{Row}
 use Rattle.names.proofs.GrammarHolds.{row_grammar, list_grammar}
 use Rattle.names.proofs.Requesting.{named_requests}
@@ -56,16 +54,16 @@ use Rattle.answers.specs.Replies.{Reply, answer_text, reply_at, reply_of, record
 use Rattle.answers.specs.NamedLines.{RowOfName, RefusedWith, AsEvent, NamedLines, NamesAnswered}
 
 -- a row that holds, before others
-first_before : {A : Type 0} (rows more : List (choice.Row A)) (x : A) → first_holding rows ≡ some x → first_holding (rows ++ more) ≡ some x
+first_before : {A : Type 0} (rows more : List (choice.Row A)) (x : A) → first_holding rows ≡ Some x → first_holding (rows ++ more) ≡ Some x
 unfolding first_holding
-first_before [] more x e = absurd (none-ne-some x e)
+first_before [] more x e = absurd (none-some x e)
 first_before ((true, a) ∷ rows) more x e = e
 first_before ((false, a) ∷ rows) more x e = first_before rows more x e
 
 -- ---- an add that the table refuses
 
-add_refused : (s : Session) (id : ℕ) (r : Request) (x : Refusal) → refusal queue_limit (plain_of s) (calls.Add id r) ≡ some x
-    → named_reply s id r ≡ record { text = answer_text (Refused x) (named_field (field_of x (request_fields s.setup.device r))); session = s }
+add_refused : (s : Session) (id : ℕ) (r : Request) (x : Refusal) → refusal queue_limit (plain_of s) (calls.Add id r) ≡ Some x
+    → named_reply s id r ≡ record { text = answer_text (Err x) (named_field (field_of x (request_fields s.setup.device r))); session = s }
 unfolding named_reply reply_at add_of answered refused_by answer_for answer_field
 add_refused s id r x e = rw e
 
@@ -75,7 +73,7 @@ module _ (s : Session) (id : ℕ) (r : Request) (open-now : s.opened ≡ true) w
   unfolding refusal table once_open
   rows = rw (plain_opened s open-now)
 
-  refused_id : ¬ IsId id → refusal queue_limit (plain_of s) (calls.Add id r) ≡ some BadId
+  refused_id : ¬ IsId id → refusal queue_limit (plain_of s) (calls.Add id r) ≡ Some BadId
   unfolding add_rows
   refused_id h = rows ∙ holds _ _ ((id_test id).1 h)
 
@@ -83,11 +81,11 @@ module _ (s : Session) (id : ℕ) (r : Request) (open-now : s.opened ≡ true) w
     id_passed : outside_ids id ≡ false
     id_passed = eq-false_of_not-eq-true (λ e. (id_test id).0 e good)
 
-    refused_waiting : Waits id (queued s) → refusal queue_limit (plain_of s) (calls.Add id r) ≡ some IdWaiting
+    refused_waiting : Waits id (queued s) → refusal queue_limit (plain_of s) (calls.Add id r) ≡ Some IdWaiting
     unfolding add_rows
     refused_waiting w = rows ∙ skips _ _ id_passed ∙ holds _ _ ((waits_test id (queued s)).1 w)
 
-    refused_request : ¬ Waits id (queued s) → (x : Refusal) → request_refusal s.setup r ≡ some x → refusal queue_limit (plain_of s) (calls.Add id r) ≡ some x
+    refused_request : ¬ Waits id (queued s) → (x : Refusal) → request_refusal s.setup r ≡ Some x → refusal queue_limit (plain_of s) (calls.Add id r) ≡ Some x
     unfolding add_rows request_refusal
     refused_request free x e =
         rows ∙ skips _ _ id_passed ∙ skips _ _ (eq-false_of_not-eq-true (λ h. free ((waits_test id (queued s)).0 h)))
@@ -106,9 +104,9 @@ module _ (n : NameLists) (name : List ℕ) (l : AreLists n) where
       }
 
   -- what the look-up finds is a row in the order's words
-  row_found : (text : List ℕ) (x : RowRead) → row_of text ≡ x → is_formed x ≡ true → FoundIn n name text → (row : Row) × RowOfName n name row
-  row_found text Bad e h f = absurd (false≢true h)
-  row_found text (Formed row) e h f =
+  row_found : (text : List ℕ) (x : Option Row) → row_of text ≡ x → is_formed x ≡ true → FoundIn n name text → (row : Row) × RowOfName n name row
+  row_found text None e h f = absurd (false≢true h)
+  row_found text (Some row) e h f =
       let named : field_at text 0 ≡ name = ⊎_elim (λ t. t.named) (λ t. t.1.named) f in
       let only = row_grammar.only text row e in
       (row, record { text = text; found = f; fits = rw named at only.0; says = rw named at only.1 })
@@ -117,8 +115,8 @@ module _ (n : NameLists) (name : List ℕ) (l : AreLists n) where
   settled = go (row_named n name) refl
     where
       go : (o : Option (List ℕ)) → row_named n name ≡ o → (NoRow name n.site × NoRow name n.house) ⊎ ((row : Row) × RowOfName n name row)
-      go none p = inl (rows_found.missing n name (list_grammar.formed n.site l.0) (list_grammar.formed n.house l.1) p)
-      go (some text) p = inr (row_found text (row_of text) refl (rows_found.shows n name text p) (rows_found.found n name text p))
+      go None p = inl (rows_found.missing n name (list_grammar.formed n.site l.0) (list_grammar.formed n.house l.1) p)
+      go (Some text) p = inr (row_found text (row_of text) refl (rows_found.shows n name text p) (rows_found.found n name text p))
 
 -- ---- the line
 
@@ -132,10 +130,10 @@ module _ (n : NameLists) (s : Session) (line : List ℕ) (id : ℕ) (name : List
   line_adds l = rw (parsed_lines.named_line_lem n s.setup.device line id name a is l)
 
   -- at a field that does not hang on the request
-  refused_with_lem : AreLists n → (x : Refusal) (k : ℕ) → ((f : Fields) → named_field (field_of x f) ≡ k) → refusal queue_limit (plain_of s) (calls.Add id request) ≡ some x
+  refused_with_lem : AreLists n → (x : Refusal) (k : ℕ) → ((f : Fields) → named_field (field_of x f) ≡ k) → refusal queue_limit (plain_of s) (calls.Add id request) ≡ Some x
       → RefusedWith n s line x k
   refused_with_lem l x k at e =
-      let reply : answer_line n s line ≡ record { text = answer_text (Refused x) k; session = s } =
+      let reply : answer_line n s line ≡ record { text = answer_text (Err x) k; session = s } =
       line_adds l ∙ rw (← at (request_fields s.setup.device request)) (add_refused s id request x e) in
       (ap (λ (y : Reply). y.text) reply, ap (λ (y : Reply). y.session) reply)
 
@@ -158,7 +156,7 @@ module _ (n : NameLists) (s : Session) (line : List ℕ) (id : ℕ) (name : List
   named_line_lem =
       record {
         ill_formed = λ l.
-            let reply : answer_line n s line ≡ record { text = answer_text (Refused NotInGrammar) 0; session = s } =
+            let reply : answer_line n s line ≡ record { text = answer_text (Err NotInGrammar) 0; session = s } =
             rw (parsed_lines.ill_formed n s.setup.device line id name a is l) in
             (ap (λ (y : Reply). y.text) reply, ap (λ (y : Reply). y.session) reply);
         not_open = λ l closed. refused_with_lem l CallOrder 0 (λ f. refl) (rw (plain_closed s closed) (add_closed queue_limit id request));

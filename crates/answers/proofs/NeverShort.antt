@@ -1,4 +1,5 @@
 -- A line is never answered 14: no call that it makes is, and no other answer, at any field, has the text of row 14.
+use Rattle.std.specs.Prelude.{Ok, Err}
 use mathlib.Core.Path.{◌≡◌, refl, ap}
 use mathlib.Core.Logic.{◌⊎◌, inl, inr}
 use mathlib.Core.List.{List, [], ◌∷◌, ◌++◌, flat_map}
@@ -6,8 +7,7 @@ use Prim.Native.Nat.{ℕ, ◌*◌, ◌<◌}
 use native.Mathlib.Omega.{arith}
 use lib.ListN.{length, get_or, take, replicate}
 use Rattle.requests.specs.declared.Refusal.TheVariants.{NotInGrammar, CallOrder, BadOpening, BadId, IdWaiting, IdNotWaiting, KindNotOnDevice, NotListed, Incomplete, OutOfRange, Conflicting, NoPlanAlone, QueueFull, SliceTooShort, NotLeftByPlan}
-use Rattle.requests.specs.declared.Answer.{Answer}
-use Rattle.requests.specs.declared.Answer.TheVariants.{Accepted, Refused}
+use Rattle.requests.specs.Answers.{Answer}
 use Rattle.requests.specs.Refusals.{number_of, answer_for}
 use Rattle.requests.specs.Devices.{opening_of}
 use Rattle.sessions.specs.Sessions.{open_of, add_of, drop_of, turn_of, turn_slice, plan_of}
@@ -30,31 +30,31 @@ use Rattle.answers.proofs.SliceFits.{open_fits, add_fits, drop_fits, turn_fits}
 
 -- the text that no line is answered
 fourteen : ℕ → List ℕ
-fourteen k = answer_text (Refused SliceTooShort) k
+fourteen k = answer_text (Err SliceTooShort) k
 
 -- a text of an answer alone is it where the answer is 14 alone
 module _ (j k : ℕ) where
-  byte : (a : Answer) (i : ℕ) → answer_text a j ≡ fourteen k → ¬ (get_or (answer_text a j) i 0 ≡ get_or (fourteen k) i 0) → a ≡ Refused SliceTooShort
+  byte : (a : Answer) (i : ℕ) → answer_text a j ≡ fourteen k → ¬ (get_or (answer_text a j) i 0 ≡ get_or (fourteen k) i 0) → a ≡ Err SliceTooShort
   byte a i e h = absurd (h (ap (λ (t : List ℕ). get_or t i 0) e))
 
-  is_fourteen : (a : Answer) → answer_text a j ≡ fourteen k → a ≡ Refused SliceTooShort
+  is_fourteen : (a : Answer) → answer_text a j ≡ fourteen k → a ≡ Err SliceTooShort
   unfolding fourteen answer_text line_of bytes tab newline decimal_text decimal_digits number_of
-  is_fourteen Accepted e = byte Accepted 0 e (λ d. omega arith)
-  is_fourteen (Refused NotInGrammar) e = byte (Refused NotInGrammar) 4 e (λ d. omega arith)
-  is_fourteen (Refused CallOrder) e = byte (Refused CallOrder) 3 e (λ d. omega arith)
-  is_fourteen (Refused BadOpening) e = byte (Refused BadOpening) 3 e (λ d. omega arith)
-  is_fourteen (Refused BadId) e = byte (Refused BadId) 3 e (λ d. omega arith)
-  is_fourteen (Refused IdWaiting) e = byte (Refused IdWaiting) 3 e (λ d. omega arith)
-  is_fourteen (Refused IdNotWaiting) e = byte (Refused IdNotWaiting) 3 e (λ d. omega arith)
-  is_fourteen (Refused KindNotOnDevice) e = byte (Refused KindNotOnDevice) 3 e (λ d. omega arith)
-  is_fourteen (Refused NotListed) e = byte (Refused NotListed) 3 e (λ d. omega arith)
-  is_fourteen (Refused Incomplete) e = byte (Refused Incomplete) 3 e (λ d. omega arith)
-  is_fourteen (Refused OutOfRange) e = byte (Refused OutOfRange) 4 e (λ d. omega arith)
-  is_fourteen (Refused Conflicting) e = byte (Refused Conflicting) 4 e (λ d. omega arith)
-  is_fourteen (Refused NoPlanAlone) e = byte (Refused NoPlanAlone) 4 e (λ d. omega arith)
-  is_fourteen (Refused QueueFull) e = byte (Refused QueueFull) 4 e (λ d. omega arith)
-  is_fourteen (Refused SliceTooShort) e = refl
-  is_fourteen (Refused NotLeftByPlan) e = byte (Refused NotLeftByPlan) 4 e (λ d. omega arith)
+  is_fourteen (Ok tt) e = byte (Ok tt) 0 e (λ d. omega arith)
+  is_fourteen (Err NotInGrammar) e = byte (Err NotInGrammar) 4 e (λ d. omega arith)
+  is_fourteen (Err CallOrder) e = byte (Err CallOrder) 3 e (λ d. omega arith)
+  is_fourteen (Err BadOpening) e = byte (Err BadOpening) 3 e (λ d. omega arith)
+  is_fourteen (Err BadId) e = byte (Err BadId) 3 e (λ d. omega arith)
+  is_fourteen (Err IdWaiting) e = byte (Err IdWaiting) 3 e (λ d. omega arith)
+  is_fourteen (Err IdNotWaiting) e = byte (Err IdNotWaiting) 3 e (λ d. omega arith)
+  is_fourteen (Err KindNotOnDevice) e = byte (Err KindNotOnDevice) 3 e (λ d. omega arith)
+  is_fourteen (Err NotListed) e = byte (Err NotListed) 3 e (λ d. omega arith)
+  is_fourteen (Err Incomplete) e = byte (Err Incomplete) 3 e (λ d. omega arith)
+  is_fourteen (Err OutOfRange) e = byte (Err OutOfRange) 4 e (λ d. omega arith)
+  is_fourteen (Err Conflicting) e = byte (Err Conflicting) 4 e (λ d. omega arith)
+  is_fourteen (Err NoPlanAlone) e = byte (Err NoPlanAlone) 4 e (λ d. omega arith)
+  is_fourteen (Err QueueFull) e = byte (Err QueueFull) 4 e (λ d. omega arith)
+  is_fourteen (Err SliceTooShort) e = refl
+  is_fourteen (Err NotLeftByPlan) e = byte (Err NotLeftByPlan) 4 e (λ d. omega arith)
 
 -- what a turn's reply says before its answer is nothing, or begins with another verb
 abbrev Begins : List ℕ → Type 0
@@ -80,11 +80,11 @@ after_other (b ∷ x) y k some h e = h (ap (λ (t : List ℕ). get_or t 0 0) e)
 
 -- ---- the replies
 
-turn_text : (a : TurnAnswered) (slice : List ℕ) (k : ℕ) → (turn_reply a slice).text ≡ fourteen k → a.answer ≡ Refused SliceTooShort
+turn_text : (a : TurnAnswered) (slice : List ℕ) (k : ℕ) → (turn_reply a slice).text ≡ fourteen k → a.answer ≡ Err SliceTooShort
 unfolding turn_reply
 turn_text a slice k e = go (flat_map take_lines (plan_of a) ++ set_lines (take (2 * a.writes) slice)) (begins (plan_of a) (take (2 * a.writes) slice)) e
   where
-    go : (x : List ℕ) → Begins x → x ++ answer_text a.answer 0 ≡ fourteen k → a.answer ≡ Refused SliceTooShort
+    go : (x : List ℕ) → Begins x → x ++ answer_text a.answer 0 ≡ fourteen k → a.answer ≡ Err SliceTooShort
     go x (inl empty) f = is_fourteen 0 k a.answer (rw empty at f)
     go x (inr (some, other)) f = absurd (after_other x (answer_text a.answer 0) k some other f)
 
@@ -99,7 +99,7 @@ parsed_text : (s : Session) (p : Parsed) (k : ℕ) → ¬ ((parsed_reply s p).te
 unfolding parsed_reply named_reply reply_at answer_for parsed_refusal
 parsed_text s (Line r) k e = record_text_lem s r k e
 parsed_text s (Named id r) k e = add_fits s id r (is_fourteen _ k (add_of s id r).answer e)
-parsed_text s (Fault j) k e = let same = is_fourteen j k (Refused NotInGrammar) e in let z : ◌≡◌ {A = ℕ} 0 1 = cc in omega arith
+parsed_text s (Fault j) k e = let same = is_fourteen j k (Err NotInGrammar) e in let z : ◌≡◌ {A = ℕ} 0 1 = cc in omega arith
 
 pub never_short : NeverShort
 unfolding answer_line fourteen

@@ -1,13 +1,12 @@
 -- Every reply says its answer last and only there, by what is known of the replies to records, and texts one after another say what each says.
 -- Assumes nothing.
+use Rattle.std.specs.Prelude.{Some, Err}
 use mathlib.Core.Path.{◌≡◌, refl}
 use mathlib.Core.Logic.{◌≢◌}
 use mathlib.Core.List.{List, [], ◌∷◌, ◌++◌, map, flat_map}
 use mathlib.Core.Bool.{false}
-use mathlib.Core.Option.{some}
 use Prim.Native.Nat.{ℕ, ◌≤◌}
 use native.Mathlib.Omega.{arith}
-use Rattle.requests.specs.declared.Answer.TheVariants.{Refused}
 use Rattle.requests.specs.declared.Refusal.TheVariants.{NotInGrammar}
 use Rattle.requests.specs.declared.Request.{Request}
 use Rattle.requests.specs.Refusals.{number_of, answer_for}
@@ -58,8 +57,8 @@ sets_no_answer (w ∷ ws) = cons tt (sets_no_answer ws)
 -- ---- the replies
 
 -- a line that is neither a record nor a request by name
-fault_alone : (k : ℕ) → k ≤ 7 → OneReply (answer_text (Refused NotInGrammar) k)
-fault_alone k h = record { details = []; refused = some (number_of NotInGrammar, k); says = (answer_reads (Refused NotInGrammar) k h).says; no_answer = nil }
+fault_alone : (k : ℕ) → k ≤ 7 → OneReply (answer_text (Err NotInGrammar) k)
+fault_alone k h = record { details = []; refused = Some (number_of NotInGrammar, k); says = (answer_reads (Err NotInGrammar) k h).says; no_answer = nil }
 
 -- a record that is no turn
 record_alone : (s : Session) (r : Record) → r ≢ Turn → OneReply (record_reply s r).text

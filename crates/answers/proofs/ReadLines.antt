@@ -3,17 +3,16 @@
 --     Reads, nothing-reads, then-reads, joined-reads    the same as a type
 --     take-reads, set-reads, answer-reads     the lines of a reply
 --     fault-reads, named-reads                the last one, by the fault
+use Rattle.std.specs.Prelude.{Option, None, Some, Ok, Err}
 use mathlib.Core.Path.{◌≡◌, refl}
 use mathlib.Core.Bool.{Bool, true, false}
 use mathlib.Core.List.{List, [], ◌∷◌, ◌++◌, flat_map}
-use mathlib.Core.Option.{Option, none, some}
 use Prim.Native.Nat.{ℕ, ◌≤◌}
 use native.Mathlib.Omega.{arith}
 use lib.Dec.{eqb}
 use Rattle.requests.specs.declared.Refusal.{Refusal}
 use Rattle.requests.specs.declared.Refusal.TheVariants.{NotInGrammar, CallOrder, BadOpening, BadId, IdWaiting, IdNotWaiting, KindNotOnDevice, NotListed, Incomplete, OutOfRange, Conflicting, NoPlanAlone, QueueFull, SliceTooShort, NotLeftByPlan}
-use Rattle.requests.specs.declared.Answer.{Answer}
-use Rattle.requests.specs.declared.Answer.TheVariants.{Accepted, Refused}
+use Rattle.requests.specs.Answers.{Answer}
 use Rattle.requests.specs.Choice.{pick, both}
 use Rattle.requests.specs.Refusals.{number_of}
 use Rattle.requests.specs.declared.Fault.{Fault}
@@ -82,30 +81,30 @@ some_glued (f ∷ []) g gs = (f ++ g, gs, refl)
 some_glued (f ∷ next ∷ fs) g gs = (f, glued (next ∷ fs) g gs, refl)
 
 -- what is behind the last newline, and what follows it
-end_say : (line g : List ℕ) (gs : List (List ℕ)) (xs ys : List Said) → end_says line ≡ some xs → lines_say (g ∷ gs) ≡ some ys → lines_say ((line ++ g) ∷ gs) ≡ some (xs ++ ys)
+end_say : (line g : List ℕ) (gs : List (List ℕ)) (xs ys : List Said) → end_says line ≡ Some xs → lines_say (g ∷ gs) ≡ Some ys → lines_say ((line ++ g) ∷ gs) ≡ Some (xs ++ ys)
 end_say [] g gs xs ys e f = let is : [] ≡ xs = cc in rw (← is) f
 end_say (b ∷ line) g gs xs ys e f = let z : ◌≡◌ {A = ℕ} 0 1 = cc in absurd (omega arith)
 
 -- lines that are all closed, and what follows them
 glued_say : (parts : List (List ℕ)) (g : List ℕ) (gs : List (List ℕ)) (xs ys : List Said)
-    → lines_say parts ≡ some xs → lines_say (g ∷ gs) ≡ some ys → lines_say (glued parts g gs) ≡ some (xs ++ ys)
+    → lines_say parts ≡ Some xs → lines_say (g ∷ gs) ≡ Some ys → lines_say (glued parts g gs) ≡ Some (xs ++ ys)
 unfolding lines_say glued
 glued_say [] g gs xs ys e f = let z : ◌≡◌ {A = ℕ} 0 1 = cc in absurd (omega arith)
 glued_say (line ∷ []) g gs xs ys e f = end_say line g gs xs ys e f
 glued_say (line ∷ next ∷ fs) g gs xs ys e f =
     go (fields_say (fields line)) refl (lines_say (next ∷ fs)) refl e (λ zs d. glued_say (next ∷ fs) g gs zs ys d f) (some_glued (next ∷ fs) g gs)
   where
-    go : (x : Option Said) → fields_say (fields line) ≡ x → (zs : Option (List Said)) → lines_say (next ∷ fs) ≡ zs → said_before x zs ≡ some xs
-        → ((zs : List Said) → lines_say (next ∷ fs) ≡ some zs → lines_say (glued (next ∷ fs) g gs) ≡ some (zs ++ ys))
-        → (h : List ℕ) × (hs : List (List ℕ)) × (glued (next ∷ fs) g gs ≡ h ∷ hs) → lines_say (line ∷ glued (next ∷ fs) g gs) ≡ some (xs ++ ys)
-    go (some x) p (some zs) q d below (h, hs, s) =
+    go : (x : Option Said) → fields_say (fields line) ≡ x → (zs : Option (List Said)) → lines_say (next ∷ fs) ≡ zs → said_before x zs ≡ Some xs
+        → ((zs : List Said) → lines_say (next ∷ fs) ≡ Some zs → lines_say (glued (next ∷ fs) g gs) ≡ Some (zs ++ ys))
+        → (h : List ℕ) × (hs : List (List ℕ)) × (glued (next ∷ fs) g gs ≡ h ∷ hs) → lines_say (line ∷ glued (next ∷ fs) g gs) ≡ Some (xs ++ ys)
+    go (Some x) p (Some zs) q d below (h, hs, s) =
         let is : x ∷ zs ≡ xs = cc in
-        let rest : lines_say (h ∷ hs) ≡ some (zs ++ ys) = rw s at (below zs q) in
+        let rest : lines_say (h ∷ hs) ≡ Some (zs ++ ys) = rw s at (below zs q) in
         rw (s, p, rest, ← is)
-    go (some x) p none q d below s = let z : ◌≡◌ {A = ℕ} 0 1 = cc in absurd (omega arith)
-    go none p zs q d below s = let z : ◌≡◌ {A = ℕ} 0 1 = cc in absurd (omega arith)
+    go (Some x) p None q d below s = let z : ◌≡◌ {A = ℕ} 0 1 = cc in absurd (omega arith)
+    go None p zs q d below s = let z : ◌≡◌ {A = ℕ} 0 1 = cc in absurd (omega arith)
 
-pub says_append : (a b : List ℕ) (xs ys : List Said) → reply_says a ≡ some xs → reply_says b ≡ some ys → reply_says (a ++ b) ≡ some (xs ++ ys)
+pub says_append : (a b : List ℕ) (xs ys : List Said) → reply_says a ≡ Some xs → reply_says b ≡ Some ys → reply_says (a ++ b) ≡ Some (xs ++ ys)
 unfolding reply_says
 says_append a b xs ys e f =
     let (g, gs, s) = some_line b in
@@ -113,7 +112,7 @@ says_append a b xs ys e f =
 
 -- the text says these things
 pub record Reads (text : List ℕ) (xs : List Said) : Type 0 where
-  pub says : reply_says text ≡ some xs
+  pub says : reply_says text ≡ Some xs
 
 pub nothing_reads : Reads [] []
 unfolding reply_says lines_say lines_of
@@ -130,7 +129,7 @@ joined_reads f g (cons h hs) = then_reads h (joined_reads f g hs)
 -- ---- a line
 
 -- fields that say x, written as a line
-line_reads : (n : ℕ) (f : List ℕ) (fs : List (List ℕ)) (x : Said) → one_field_lem f ≡ true → Plains n fs → fields_say (f ∷ fs) ≡ some x
+line_reads : (n : ℕ) (f : List ℕ) (fs : List (List ℕ)) (x : Said) → one_field_lem f ≡ true → Plains n fs → fields_say (f ∷ fs) ≡ Some x
     → Reads (line_of (f ∷ fs)) (x ∷ [])
 unfolding reply_says lines_say
 line_reads n f fs x one plain says =
@@ -139,18 +138,18 @@ line_reads n f fs x one plain says =
 
 -- a register that is printed
 abbrev pub RegisterFits : Option ℕ → Type 0
-RegisterFits none = Unit {0}
-RegisterFits (some i) = Decimal i
+RegisterFits None = Unit {0}
+RegisterFits (Some i) = Decimal i
 
 register_plain : (r : Option ℕ) → RegisterFits r → Plain 5 (register_text r)
 unfolding register_text bytes one_field_lem both lacks tab newline
-register_plain none h = record { field = refl; short = omega arith }
-register_plain (some i) h = decimal_plain i h
+register_plain None h = record { field = refl; short = omega arith }
+register_plain (Some i) h = decimal_plain i h
 
-take_says_lem : (id k : ℕ) (r : Option ℕ) → Decimal id → Decimal k → RegisterFits r → take_says (decimal_text id) (decimal_text k) (register_text r) ≡ some (Takes id k r)
+take_says_lem : (id k : ℕ) (r : Option ℕ) → Decimal id → Decimal k → RegisterFits r → take_says (decimal_text id) (decimal_text k) (register_text r) ≡ Some (Takes id k r)
 unfolding take_says register_text bytes same_bytes_lem decimal_of digit_of number_from both
-take_says_lem id k none a b h = rw (decimal_reads id a, decimal_reads k b)
-take_says_lem id k (some i) a b h = rw (decimal_reads id a, decimal_reads k b, decimal_reads i h)
+take_says_lem id k None a b h = rw (decimal_reads id a, decimal_reads k b)
+take_says_lem id k (Some i) a b h = rw (decimal_reads id a, decimal_reads k b, decimal_reads i h)
 
 pub take_reads : (id k : ℕ) (r : Option ℕ) → Decimal id → Decimal k → RegisterFits r
     → Reads (line_of (bytes "take" ∷ decimal_text id ∷ decimal_text k ∷ register_text r ∷ [])) (Takes id k r ∷ [])
@@ -185,17 +184,17 @@ number_fits NotLeftByPlan = omega arith
 
 pub answer_reads : (a : Answer) (k : ℕ) → k ≤ 7 → Reads (answer_text a k) (Answers (answer_said a k) ∷ [])
 unfolding answer_text fields_say no_says same_bytes_lem bytes one_field_lem both lacks tab newline
-answer_reads Accepted k h = line_reads _ _ _ _ refl none refl
-answer_reads (Refused x) k h =
+answer_reads (Ok tt) k h = line_reads _ _ _ _ refl none refl
+answer_reads (Err x) k h =
     line_reads _ _ _ _ refl (more (decimal_plain (number_of x) (number_fits x)) (more (decimal_plain k (omega arith)) none))
     (rw (decimal_reads (number_of x) (number_fits x), decimal_reads k (omega arith)))
 
 pub fault_reads : (f : Option Fault) → OneDigit f → Reads (fault_text f) (Answers (fault_said f) ∷ [])
 unfolding fault_text fault_said
-fault_reads none h = answer_reads Accepted 0 (omega arith)
-fault_reads (some f) h = answer_reads (Refused f.refusal) f.field h
+fault_reads None h = answer_reads (Ok tt) 0 (omega arith)
+fault_reads (Some f) h = answer_reads (Err f.refusal) f.field h
 
 pub named_reads : (f : Option Fault) → OneDigit f → Reads (fault_text (by_name_lem f)) (Answers (fault_said (by_name_lem f)) ∷ [])
 unfolding fault_text fault_said by_name_lem
-named_reads none h = answer_reads Accepted 0 (omega arith)
-named_reads (some f) h = answer_reads (Refused f.refusal) (named_field f.field) (named_small f.field h)
+named_reads None h = answer_reads (Ok tt) 0 (omega arith)
+named_reads (Some f) h = answer_reads (Err f.refusal) (named_field f.field) (named_small f.field h)

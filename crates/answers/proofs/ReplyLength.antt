@@ -10,7 +10,7 @@ use Rattle.sessions.specs.declared.TurnAnswered.{TurnAnswered}
 use Rattle.grammar.specs.declared.Record.{Record}
 use Rattle.grammar.specs.declared.Record.TheVariants.{Open, Add, Drop, Turn}
 use Rattle.grammar.specs.declared.Parsed.TheVariants.{Line, Named, Fault}
-use Rattle.requests.specs.declared.Answer.{Answer}
+use Rattle.requests.specs.Answers.{Answer}
 use Rattle.answers.specs.Replies.{turn_room, answer_text, take_lines, reply_at, reply_of, turn_reply, record_reply, named_reply, parsed_reply}
 use Rattle.answers.specs.ReplyLength.{reply_room, ReplyLength}
 use Rattle.answers.proofs.Lengths.{joined_length, take_lines_length, set_lines_length, answer_length}

@@ -1,7 +1,7 @@
 -- No call that a line makes is refused by row 14: it applies to no turn with room for 22 writes, by the limit of the writes, and to no other call.
+use Rattle.std.specs.Prelude.{None, Err}
 use mathlib.Core.Path.{◌≡◌, sym, ◌∙◌}
 use mathlib.Core.List.{List}
-use mathlib.Core.Option.{none}
 use Prim.Native.Nat.{ℕ, ◌*◌, ◌≤◌}
 use native.Mathlib.Omega.{arith}
 use lib.ListN.{length}
@@ -11,7 +11,6 @@ use Rattle.requests.specs.declared.Setup.{Setup}
 use Rattle.requests.specs.declared.Request.{Request}
 use Rattle.requests.specs.declared.Entry.{Entry}
 use Rattle.requests.specs.declared.Refusal.TheVariants.{SliceTooShort}
-use Rattle.requests.specs.declared.Answer.TheVariants.{Refused}
 use Rattle.requests.specs.Askings.{asked}
 use Rattle.requests.specs.Refusals.{number_of}
 use Rattle.layouts.proofs.WriteCount.{write_count}
@@ -45,7 +44,7 @@ drop_not : (p : Plain) (id : ℕ) → ¬ Applies queue_limit p (Drop id) 14
 drop_not p id a = elim a [ ]
 
 -- where the row does not apply, it is not the answer
-not_answered : (s : Session) (c : Call) → ¬ Applies queue_limit (plain_of s) c 14 → ¬ (answer_to s c ≡ Refused SliceTooShort)
+not_answered : (s : Session) (c : Call) → ¬ Applies queue_limit (plain_of s) c 14 → ¬ (answer_to s c ≡ Err SliceTooShort)
 unfolding refused_by number_of
 not_answered s c h e =
     let row = answer_some (refused_by s c) SliceTooShort (sym (answer_is s c) ∙ e) in
@@ -57,22 +56,22 @@ unfolding turn_room writes_of
 turn_room_lem t q = omega (arith, write_count.at_most t _ _ (taken_first t q).legal, write_room t.device (asked t))
 
 -- so a turn of an open session is accepted
-pub turn_goes : (t : Setup) (q : List Entry) → refusal queue_limit (opened t q) (Turn turn_room) ≡ none
+pub turn_goes : (t : Setup) (q : List Entry) → refusal queue_limit (opened t q) (Turn turn_room) ≡ None
 turn_goes t q = turn_accepted_lem queue_limit t q turn_room (le-ltb turn_room (2 * length (writes_of t (taken t q))) (turn_room_lem t q))
 
 module _ (s : Session) where
-  pub open_fits : (o : Opening) → ¬ ((open_of s o).answer ≡ Refused SliceTooShort)
+  pub open_fits : (o : Opening) → ¬ ((open_of s o).answer ≡ Err SliceTooShort)
   unfolding answer_to
   open_fits o = not_answered s (Open o) (open_not (plain_of s) o)
 
-  pub add_fits : (id : ℕ) (r : Request) → ¬ ((add_of s id r).answer ≡ Refused SliceTooShort)
+  pub add_fits : (id : ℕ) (r : Request) → ¬ ((add_of s id r).answer ≡ Err SliceTooShort)
   unfolding answer_to
   add_fits id r = not_answered s (Add id r) (add_not (plain_of s) id r)
 
-  pub drop_fits : (id : ℕ) → ¬ ((drop_of s id).answer ≡ Refused SliceTooShort)
+  pub drop_fits : (id : ℕ) → ¬ ((drop_of s id).answer ≡ Err SliceTooShort)
   unfolding answer_to
   drop_fits id = not_answered s (Drop id) (drop_not (plain_of s) id)
 
-  pub turn_fits : ¬ ((turn_of s turn_room).answer ≡ Refused SliceTooShort)
+  pub turn_fits : ¬ ((turn_of s turn_room).answer ≡ Err SliceTooShort)
   unfolding answer_to
   turn_fits = not_answered s (Turn turn_room) (turn_not (plain_of s))

@@ -1,9 +1,9 @@
 -- What a turn answers at most, whatever the session holds: a plan of 8 requests, and writes that the slice has room for. By the planner's laws on
 -- accepted turns.
+use Rattle.std.specs.Prelude.{Option, None, Some}
 use mathlib.Core.Path.{◌≡◌, refl}
 use mathlib.Core.Bool.{Bool, true, false}
 use mathlib.Core.List.{List, [], ◌∷◌}
-use mathlib.Core.Option.{Option, none, some}
 use Prim.Native.Nat.{ℕ, ◌*◌, ◌≤◌}
 use native.Mathlib.Omega.{arith}
 use lib.ListN.{length}
@@ -33,11 +33,11 @@ pub record AtMost (s : Session) (room : ℕ) : Type 0 where
   pub writes : 2 * (turn_of s room).writes ≤ room
 
 module _ (s : Session) (room : ℕ) where
-  refused_turn : (x : Refusal) → refused_by s (Turn room) ≡ some x → AtMost s room
+  refused_turn : (x : Refusal) → refused_by s (Turn room) ≡ Some x → AtMost s room
   unfolding turn_of turn_answer plan_of
   refused_turn x e = record { plan = rw (e, turn_of) (omega arith); writes = rw (e, turn_of) (omega arith) }
 
-  opened_turn : s.opened ≡ true → refused_by s (Turn room) ≡ none → AtMost s room
+  opened_turn : s.opened ≡ true → refused_by s (Turn room) ≡ None → AtMost s room
   unfolding refused_by writes_of capacity
   opened_turn h e =
       let same = plain_opened s h in
@@ -48,7 +48,7 @@ module _ (s : Session) (room : ℕ) where
         writes = rw (turn_count_is s s.setup (queued s) same room accepted) (accepted_turn queue_limit s.setup (queued s) room accepted);
       }
 
-  closed_turn_lem : s.opened ≡ false → refused_by s (Turn room) ≡ some CallOrder
+  closed_turn_lem : s.opened ≡ false → refused_by s (Turn room) ≡ Some CallOrder
   unfolding refused_by
   closed_turn_lem h = rw (plain_closed s h) (turn_closed queue_limit room)
 
@@ -57,5 +57,5 @@ module _ (s : Session) (room : ℕ) where
     where
       go : (b : Bool) → s.opened ≡ b → (x : Option Refusal) → refused_by s (Turn room) ≡ x → AtMost s room
       go false h x e = refused_turn CallOrder (closed_turn_lem h)
-      go true h none e = opened_turn h e
-      go true h (some x) e = refused_turn x e
+      go true h None e = opened_turn h e
+      go true h (Some x) e = refused_turn x e

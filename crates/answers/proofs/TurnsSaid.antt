@@ -2,9 +2,9 @@
 --     assigned-fits    the numbers of a legal plan fit the fields of a `take` line
 --     closed-says, opened-says   so a reader gets them back, and the list: the reply before open, and the reply afterwards
 --     turn-said        the statement for any session
+use Rattle.std.specs.Prelude.{None, Some, Ok, Err}
 use mathlib.Core.Path.{◌≡◌, refl, sym, ◌∙◌}
 use mathlib.Core.List.{List, [], ◌∷◌, ◌++◌, map, flat_map}
-use mathlib.Core.Option.{none, some}
 use Prim.Native.Nat.{ℕ, suc, ◌*◌}
 use native.Mathlib.Omega.{arith}
 use lib.ListN.{length, take, drop, replicate, length-replicate}
@@ -13,7 +13,6 @@ use Rattle.requests.specs.declared.Entry.{Entry}
 use Rattle.requests.specs.declared.Request.{Request}
 use Rattle.requests.specs.declared.Request.TheVariants.{Event, Packet, Offcore, Latency}
 use Rattle.requests.specs.declared.Refusal.TheVariants.{CallOrder}
-use Rattle.requests.specs.declared.Answer.TheVariants.{Accepted, Refused}
 use Rattle.requests.specs.Devices.{capacity}
 use Rattle.requests.specs.Refusals.{number_of, answer_for}
 use Rattle.plans.specs.declared.Place.{Place}
@@ -86,8 +85,8 @@ place_fits : (s : Setup) (r : Request) (p : Place) → Allowed r p → All (Usab
 unfolding counters_of counted_of
 place_fits s _ _ (event {k = k} a) (cons u nil) = cons (counter_fits s k u, tt) nil
 place_fits s _ _ (packet {k = k} a) (cons u nil) = cons (counter_fits s k u, tt) nil
-place_fits s _ _ (offcore {k = k} {i = i} a b) (cons u nil) = cons {a = (k, some i)} (counter_fits s k u, omega arith) nil
-place_fits s _ _ (latency {j = j} {k = k} a b) (cons u (cons v nil)) = cons {a = (j, some 0)} (counter_fits s j u, omega arith) (cons {a = (k, some 1)} (counter_fits s k v, omega arith) nil)
+place_fits s _ _ (offcore {k = k} {i = i} a b) (cons u nil) = cons {a = (k, Some i)} (counter_fits s k u, omega arith) nil
+place_fits s _ _ (latency {j = j} {k = k} a b) (cons u (cons v nil)) = cons {a = (j, Some 0)} (counter_fits s j u, omega arith) (cons {a = (k, Some 1)} (counter_fits s k v, omega arith) nil)
 
 assigned_fits : (s : Setup) (es : List Entry) (ps : List Place) → Askable es → Each Allowed (requests_of es) ps → All (Usable s) (counters ps) → All AssignedFits (assign es ps)
 unfolding requests_of counters assign flat_map
@@ -117,7 +116,7 @@ listed (w ∷ ws) rest =
 
 -- plan, list and answer are read back from the reply that is made of them
 turn_reads : (a : TurnAnswered) (slice : List ℕ) (ws : List Write) → All AssignedFits (plan_of a) → All WriteFits ws → flat ws ≡ take (2 * a.writes) slice
-    → reply_says (turn_reply a slice).text ≡ some (takes_of (plan_of a) ++ sets_of ws ++ Answers (answer_said a.answer 0) ∷ [])
+    → reply_says (turn_reply a slice).text ≡ Some (takes_of (plan_of a) ++ sets_of ws ++ Answers (answer_said a.answer 0) ∷ [])
 unfolding turn_reply
 turn_reads a slice ws plan list is =
     rw (← is) (then_reads (then_reads (plan_read (plan_of a) plan) (sets_read list)) (answer_reads a.answer 0 (omega arith))).says
@@ -142,7 +141,7 @@ lent = replicate turn_room 0
 
 -- before open there is neither plan nor list
 module _ (s : Session) (same : plain_of s ≡ not_open_lem) where
-  refused : (turn_of s turn_room).answer ≡ Refused CallOrder
+  refused : (turn_of s turn_room).answer ≡ Err CallOrder
   unfolding answer_to refused_by answer_for
   refused = answer_is s (calls.Turn turn_room) ∙ rw (same, turn_closed queue_limit turn_room)
 
@@ -152,10 +151,10 @@ module _ (s : Session) (same : plain_of s ≡ not_open_lem) where
       let empty : flat [] ≡ take (2 * (turn_of s turn_room).writes) (turn_slice s lent) = rw (unchanged.writes s turn_room CallOrder refused) in
       record { list = []; left = empty; says = rw (← turn_fault s) (turn_reads (turn_of s turn_room) (turn_slice s lent) [] (rw (unchanged.plan s turn_room CallOrder refused) nil) nil empty) }
 
-  pub closed_says : reply_says (record_reply s Turn).text ≡ some (Answers (some (number_of CallOrder, 0)) ∷ [])
+  pub closed_says : reply_says (record_reply s Turn).text ≡ Some (Answers (Some (number_of CallOrder, 0)) ∷ [])
   unfolding record_reply turn_reply takes_of flat_map set_lines
   closed_says =
-      rw (unchanged.plan s turn_room CallOrder refused, unchanged.writes s turn_room CallOrder refused, refused) (answer_reads (Refused CallOrder) 0 (omega arith)).says
+      rw (unchanged.plan s turn_room CallOrder refused, unchanged.writes s turn_room CallOrder refused, refused) (answer_reads (Err CallOrder) 0 (omega arith)).says
 
 -- afterwards they are those of the requests taken
 module _ (s : Session) (t : Setup) (q : List Entry) (same : plain_of s ≡ opened t q) (askable : Askable q) where
@@ -189,10 +188,10 @@ module _ (s : Session) (t : Setup) (q : List Entry) (same : plain_of s ≡ opene
       }
 
   pub opened_says : reply_says (record_reply s Turn).text
-      ≡ some (takes_of (assign (taken t q) (places_of t (taken t q))) ++ sets_of (writes t (requests_of (taken t q)) (places_of t (taken t q))) ++ Answers none ∷ [])
+      ≡ Some (takes_of (assign (taken t q) (places_of t (taken t q))) ++ sets_of (writes t (requests_of (taken t q)) (places_of t (taken t q))) ++ Answers None ∷ [])
   unfolding es opened_said writes_of answer_to refused_by answer_for
   opened_says =
-      let accepted : (turn_of s turn_room).answer ≡ Accepted = answer_is s (calls.Turn turn_room) ∙ rw (same, turn_goes t q) in
+      let accepted : (turn_of s turn_room).answer ≡ (Ok tt) = answer_is s (calls.Turn turn_room) ∙ rw (same, turn_goes t q) in
       opened_said.says ∙ rw (plan_is, ← turn_fault s, accepted)
 
 pub turn_said : (s : Session) → Askable (waiting (plain_of s)) → TurnSays s

@@ -1,5 +1,6 @@
 -- Every write of a plan fits the fields of a `set` line, where the requests' numbers fit the fields of the lines that add them. Write by write,
 -- by `writes-all` of the registers' laws. Assumes nothing.
+use Rattle.std.specs.Prelude.{Option, None, Some}
 use mathlib.Core.Path.{◌≡◌, refl}
 use mathlib.Core.Bool.{Bool, true, false}
 use mathlib.Core.List.{List, [], ◌∷◌, flat_map}
@@ -12,8 +13,6 @@ use lib.Pow.{pow_mono}
 use borrow.Author.Tests.{ltb-true}
 use Rattle.requests.specs.declared.Device.{Device}
 use Rattle.requests.specs.declared.Device.TheVariants.{G, S, C, B}
-use Rattle.requests.specs.declared.Core.{Core}
-use Rattle.requests.specs.declared.Core.TheVariants.{NoCore, At}
 use Rattle.requests.specs.declared.Setup.{Setup}
 use Rattle.requests.specs.declared.Request.{Request}
 use Rattle.requests.specs.declared.Request.TheVariants.{Event, Packet, Offcore, Latency}
@@ -31,7 +30,7 @@ use Rattle.plans.proofs.Sets.{all_append}
 use Rattle.plans.proofs.PlanLengthHolds.{plan_length}
 use Rattle.layouts.specs.declared.Settings.{Settings}
 use Rattle.layouts.specs.Layout.{rsp0_at, rsp1_at, mm_cfg_at, match_at, mask_at, ubox_at, pebs_at, pebs_on, mm_enable, frz_all, en_all, core_sel, precise_store, is_event, enabled_on, pmi_enable, enabled, event_word, offcore_code, rsp_mask, rsp_word, packet_word}
-use Rattle.layouts.specs.Settings.{uses_of, word_at, head_or, nonempty, settings_of}
+use Rattle.layouts.specs.Settings.{uses_of, word_at, head_of, head_or, settings_of}
 use Rattle.layouts.specs.Writes.{Write, unusable, fixed_at, fixed_enables, first_global, last_global, offcore_writes, packet_writes, filter_writes, row, pebs_enable, precise_writes, core_bit, ubox_value, writes}
 use Rattle.layouts.proofs.ListLaws.{all_head}
 use Rattle.layouts.proofs.Tabulated.{get_d_tabulate}
@@ -151,10 +150,10 @@ unfolding last_global
 first_fits s = omega (arith, last_fits s 0)
 
 -- so has that of the U-Box
-core_fits_lem : (c : Core) → core_bit c ≤ 0x100
+core_fits_lem : (c : Option ℕ) → core_bit c ≤ 0x100
 unfolding core_bit core_sel core_count
-core_fits_lem NoCore = omega arith
-core_fits_lem (At c) = go (ltb c 8) refl
+core_fits_lem None = omega arith
+core_fits_lem (Some c) = go (ltb c 8) refl
   where
     go : (b : Bool) → ltb c 8 ≡ b → pick b (2 ^ (1 + c)) 0 ≤ 0x100
     go true e = pow_mono {i = 1 + c} {j = 8} (omega (arith, ltb-true c 8 e))
@@ -171,14 +170,14 @@ ubox_fits_lem s = go (eqb s.overflow.freeze 0)
 filter_fits : (a v : ℕ) → a < 0x10000 → Hex 16 v → WriteFits (a, v)
 filter_fits a v l h = (omega arith, h)
 
-packet_writes_fit : (b : Bool) (x y : ℕ) → PacketFits (x, y) → All WriteFits (packet_writes b x y)
+packet_writes_fit : (asked : List (ℕ × ℕ)) → All PacketFits asked → All WriteFits (packet_writes (head_of asked))
 unfolding packet_writes mm_cfg_at match_at mask_at mm_enable
-packet_writes_fit true x y h =
+packet_writes_fit (p ∷ asked) (cons h hs) =
     cons (filter_fits mm_cfg_at 0 (omega arith) zero_fits)
-    (cons (filter_fits match_at x (omega arith) h.0)
-    (cons (filter_fits mask_at y (omega arith) h.1)
+    (cons (filter_fits match_at p.0 (omega arith) h.0)
+    (cons (filter_fits mask_at p.1 (omega arith) h.1)
     (cons (filter_fits mm_cfg_at (2 ^ mm_enable) (omega arith) (omega arith)) nil)))
-packet_writes_fit false x y h = cons (filter_fits mm_cfg_at 0 (omega arith) zero_fits) nil
+packet_writes_fit [] nil = cons (filter_fits mm_cfg_at 0 (omega arith) zero_fits) nil
 
 -- the enables of precise events are bits of a word
 pebs_fits_lem : (f : ℕ → ℕ) → Hex 16 (pebs_enable f)
@@ -207,7 +206,7 @@ module _ (rs : List Request) (ps : List Place) (fit : All WordsFit rs) where
   filters_fit_lem : (s : Setup) (d : Device) → All WriteFits (filter_writes d (settings_of s rs ps))
   unfolding filter_writes offcore_writes settings_of rsp0_at rsp1_at
   filters_fit_lem s G = cons (filter_fits rsp0_at _ (omega arith) (rsp_word_fits 0)) (cons (filter_fits rsp1_at _ (omega arith) (rsp_word_fits 1)) nil)
-  filters_fit_lem s S = packet_writes_fit (nonempty (flat_map packets_of rs)) _ _ (all_head (0, 0) (flat_map packets_of rs) (zero_fits, zero_fits) (packets_fit_lem fit))
+  filters_fit_lem s S = packet_writes_fit (flat_map packets_of rs) (packets_fit_lem fit)
   filters_fit_lem s (C b) = nil
   filters_fit_lem s B = nil
 

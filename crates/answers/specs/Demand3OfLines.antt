@@ -1,6 +1,5 @@
 -- Demand 3 in the words of one who writes the lines and reads the replies, with any two lists of names.
-use Rattle.std.specs.Prelude.{◌≡◌, ◌⊎◌, List, [], ◌∷◌, ◌++◌, false, ℕ, suc, ◌≤◌, eqb, length}
-use Rattle.std.proofs.Math.Option.{none, some}
+use Rattle.std.specs.Prelude.{◌≡◌, ◌⊎◌, List, [], ◌∷◌, ◌++◌, false, ℕ, suc, ◌≤◌, eqb, length, None, Some}
 use Rattle.requests.specs.declared.Setup.{Setup}
 use Rattle.requests.specs.declared.Entry.{Entry}
 use Rattle.requests.specs.Choice.{pick}
@@ -31,7 +30,7 @@ pub record DroppedBy (n : NameLists) (start : Session) (before after : List (Lis
   pub since : List (List ℕ)
   pub rest : List (List ℕ)
   pub split : after ≡ since ++ record_text (Drop e.id) ∷ rest
-  pub answered : reply_says (reply_after n start (before ++ since) (record_text (Drop e.id))) ≡ some (Answers none ∷ [])
+  pub answered : reply_says (reply_after n start (before ++ since) (record_text (Drop e.id))) ≡ Some (Answers None ∷ [])
   pub early : completed queue_limit (queue_after (calls_by n before)) (calls_after n before since) ≤ p
   pub first : drops queue_limit e.id (queue_after (calls_by n before)) (calls_after n before since) ≡ 0
 
@@ -48,7 +47,7 @@ pub record TakenBy (n : NameLists) (start : Session) (before after : List (List 
   pub told : TurnTold setup queue (reply_after n start (before ++ since) (record_text Turn))
   -- .. and gives this id one place, usable there and allowed by the request, and no other
   pub said : List Said
-  pub answered : reply_says (reply_after n start (before ++ since) (record_text Turn)) ≡ some said
+  pub answered : reply_says (reply_after n start (before ++ since) (record_text Turn)) ≡ Some said
   pub place : Place
   pub given : given_to e.id said ≡ counted_of place
   pub usable : All (Usable setup) (counters_of place)

@@ -1,9 +1,7 @@
 -- Document 01, 'Lines' and 'Bench tries': the lines of a reply as they are written there, by a table of them, and what a reader makes of such lines.
-use Rattle.std.specs.Prelude.{◌≡◌, List, [], ◌∷◌, map, ℕ}
-use Rattle.std.proofs.Math.Option.{Option, none, some}
+use Rattle.std.specs.Prelude.{◌≡◌, List, [], ◌∷◌, map, ℕ, Option, None, Some, Ok, Err}
 use Prim.Native.String.{String}
 use Rattle.requests.specs.declared.Refusal.TheVariants.{NotInGrammar, CallOrder, BadOpening, BadId, IdWaiting, IdNotWaiting, KindNotOnDevice, NotListed, Incomplete, OutOfRange, Conflicting, NoPlanAlone, QueueFull, SliceTooShort, NotLeftByPlan}
-use Rattle.requests.specs.declared.Answer.TheVariants.{Accepted, Refused}
 use Rattle.plans.specs.declared.Place.TheVariants.{Counter, WithRsp, Pair}
 use Rattle.sessions.specs.declared.Assigned.{Assigned}
 use Rattle.sessions.specs.Sessions.{new_session, turn_answer}
@@ -23,31 +21,31 @@ taken = record { id = 2; place = Pair 1 2 } ∷ record { id = 1; place = Counter
 -- the answers with their numbers, `take` lines, and whole replies to turns
 abbrev pub examples : List Example
 examples =
-    record { text = answer_text Accepted 0; lines = "ok" ∷ [] }
-    ∷ record { text = answer_text (Refused NotInGrammar) 2; lines = "no 1 2" ∷ [] }
-    ∷ record { text = answer_text (Refused CallOrder) 0; lines = "no 2 0" ∷ [] }
-    ∷ record { text = answer_text (Refused BadOpening) 3; lines = "no 3 3" ∷ [] }
-    ∷ record { text = answer_text (Refused BadId) 1; lines = "no 4 1" ∷ [] }
-    ∷ record { text = answer_text (Refused IdWaiting) 1; lines = "no 5 1" ∷ [] }
-    ∷ record { text = answer_text (Refused IdNotWaiting) 1; lines = "no 6 1" ∷ [] }
-    ∷ record { text = answer_text (Refused KindNotOnDevice) 0; lines = "no 7 0" ∷ [] }
-    ∷ record { text = answer_text (Refused NotListed) 2; lines = "no 8 2" ∷ [] }
-    ∷ record { text = answer_text (Refused Incomplete) 3; lines = "no 9 3" ∷ [] }
-    ∷ record { text = answer_text (Refused OutOfRange) 4; lines = "no 10 4" ∷ [] }
-    ∷ record { text = answer_text (Refused Conflicting) 2; lines = "no 11 2" ∷ [] }
-    ∷ record { text = answer_text (Refused NoPlanAlone) 0; lines = "no 12 0" ∷ [] }
-    ∷ record { text = answer_text (Refused QueueFull) 0; lines = "no 13 0" ∷ [] }
-    ∷ record { text = answer_text (Refused SliceTooShort) 0; lines = "no 14 0" ∷ [] }
-    ∷ record { text = answer_text (Refused NotLeftByPlan) 0; lines = "no 15 0" ∷ [] }
+    record { text = answer_text (Ok tt) 0; lines = "ok" ∷ [] }
+    ∷ record { text = answer_text (Err NotInGrammar) 2; lines = "no 1 2" ∷ [] }
+    ∷ record { text = answer_text (Err CallOrder) 0; lines = "no 2 0" ∷ [] }
+    ∷ record { text = answer_text (Err BadOpening) 3; lines = "no 3 3" ∷ [] }
+    ∷ record { text = answer_text (Err BadId) 1; lines = "no 4 1" ∷ [] }
+    ∷ record { text = answer_text (Err IdWaiting) 1; lines = "no 5 1" ∷ [] }
+    ∷ record { text = answer_text (Err IdNotWaiting) 1; lines = "no 6 1" ∷ [] }
+    ∷ record { text = answer_text (Err KindNotOnDevice) 0; lines = "no 7 0" ∷ [] }
+    ∷ record { text = answer_text (Err NotListed) 2; lines = "no 8 2" ∷ [] }
+    ∷ record { text = answer_text (Err Incomplete) 3; lines = "no 9 3" ∷ [] }
+    ∷ record { text = answer_text (Err OutOfRange) 4; lines = "no 10 4" ∷ [] }
+    ∷ record { text = answer_text (Err Conflicting) 2; lines = "no 11 2" ∷ [] }
+    ∷ record { text = answer_text (Err NoPlanAlone) 0; lines = "no 12 0" ∷ [] }
+    ∷ record { text = answer_text (Err QueueFull) 0; lines = "no 13 0" ∷ [] }
+    ∷ record { text = answer_text (Err SliceTooShort) 0; lines = "no 14 0" ∷ [] }
+    ∷ record { text = answer_text (Err NotLeftByPlan) 0; lines = "no 15 0" ∷ [] }
     ∷ record { text = take_lines (record { id = 1; place = Counter 0 }); lines = "take 1 0 -" ∷ [] }
     ∷ record { text = take_lines (record { id = 65535; place = WithRsp 3 1 }); lines = "take 65535 3 1" ∷ [] }
     ∷ record { text = take_lines (record { id = 2; place = Pair 1 2 }); lines = "take 2 1 0" ∷ "take 2 2 1" ∷ [] }
     -- two writes, and two numbers past them
     ∷ record {
-      text = (turn_reply (turn_answer Accepted new_session taken 2) (0x038F ∷ 0 ∷ 0x01A6 ∷ 0x4000000001 ∷ 7 ∷ 8 ∷ [])).text;
+      text = (turn_reply (turn_answer (Ok tt) new_session taken 2) (0x038F ∷ 0 ∷ 0x01A6 ∷ 0x4000000001 ∷ 7 ∷ 8 ∷ [])).text;
       lines = "take 2 1 0" ∷ "take 2 2 1" ∷ "take 1 0 -" ∷ "take 3 3 0" ∷ "set 038F 0000000000000000" ∷ "set 01A6 0000004000000001" ∷ "ok" ∷ [];
     }
-    ∷ record { text = (turn_reply (turn_answer (Refused CallOrder) new_session [] 0) (0x038F ∷ 0 ∷ [])).text; lines = "no 2 0" ∷ [] }
+    ∷ record { text = (turn_reply (turn_answer (Err CallOrder) new_session [] 0) (0x038F ∷ 0 ∷ [])).text; lines = "no 2 0" ∷ [] }
     ∷ []
 
 -- each is typed so
@@ -63,18 +61,18 @@ abbrev pub readings : List Reading
 readings =
     record {
       reply = typed ("take 2 1 0" ∷ "take 2 2 1" ∷ "take 65535 0 -" ∷ "set 01A6 0000004000000001" ∷ "ok" ∷ []);
-      said = some (Takes 2 1 (some 0) ∷ Takes 2 2 (some 1) ∷ Takes 65535 0 none ∷ Sets 0x01A6 0x4000000001 ∷ Answers none ∷ []);
+      said = Some (Takes 2 1 (Some 0) ∷ Takes 2 2 (Some 1) ∷ Takes 65535 0 None ∷ Sets 0x01A6 0x4000000001 ∷ Answers None ∷ []);
     }
-    ∷ record { reply = typed ("no 10 4" ∷ []); said = some (Answers (some (10, 4)) ∷ []) }
-    ∷ record { reply = typed ("no 12 0" ∷ []); said = some (Answers (some (12, 0)) ∷ []) }
+    ∷ record { reply = typed ("no 10 4" ∷ []); said = Some (Answers (Some (10, 4)) ∷ []) }
+    ∷ record { reply = typed ("no 12 0" ∷ []); said = Some (Answers (Some (12, 0)) ∷ []) }
     -- a leading zero, a field too few, lower case, a verb that no reply has, an empty line, and a line that is not closed
-    ∷ record { reply = typed ("take 02 1 0" ∷ "ok" ∷ []); said = none }
-    ∷ record { reply = typed ("take 2 1" ∷ "ok" ∷ []); said = none }
-    ∷ record { reply = typed ("no 12" ∷ []); said = none }
-    ∷ record { reply = typed ("set 01a6 0000004000000001" ∷ "ok" ∷ []); said = none }
-    ∷ record { reply = typed ("turn" ∷ []); said = none }
-    ∷ record { reply = typed ("ok" ∷ "" ∷ []); said = none }
-    ∷ record { reply = tabbed "ok"; said = none }
+    ∷ record { reply = typed ("take 02 1 0" ∷ "ok" ∷ []); said = None }
+    ∷ record { reply = typed ("take 2 1" ∷ "ok" ∷ []); said = None }
+    ∷ record { reply = typed ("no 12" ∷ []); said = None }
+    ∷ record { reply = typed ("set 01a6 0000004000000001" ∷ "ok" ∷ []); said = None }
+    ∷ record { reply = typed ("turn" ∷ []); said = None }
+    ∷ record { reply = typed ("ok" ∷ "" ∷ []); said = None }
+    ∷ record { reply = tabbed "ok"; said = None }
     ∷ []
 
 -- each is read so

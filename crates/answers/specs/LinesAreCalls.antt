@@ -1,11 +1,9 @@
 -- A record is one of the four calls: what the planner promises of lists of calls, demand 3 above all, it promises of lines.
-use Rattle.std.specs.Prelude.{◌≡◌, ◌≢◌, ℕ, ◌*◌, take, replicate}
+use Rattle.std.specs.Prelude.{◌≡◌, ◌≢◌, ℕ, ◌*◌, take, replicate, Option, None, Some, Ok, Err}
 use mathlib.Core.List.{List, [], ◌∷◌, ◌++◌, map, flat_map}
-use Rattle.std.proofs.Math.Option.{Option, none, some}
 use Rattle.requests.specs.declared.Entry.{Entry}
 use Rattle.requests.specs.Devices.{opening_of}
 use Rattle.requests.specs.Refusals.{number_of}
-use Rattle.requests.specs.declared.Answer.TheVariants.{Accepted, Refused}
 use Rattle.requests.specs.declared.Fault.{Fault}
 use Rattle.requests.specs.declared.Request.{Request}
 use Rattle.plans.specs.Lists.{All}
@@ -40,18 +38,18 @@ calls_in (parsed.Fault k) = []
 
 -- the last line of a reply: `ok`, or the number and the field of the fault
 unfoldable pub fault_text : Option Fault → List ℕ
-fault_text none = answer_text Accepted 0
-fault_text (some f) = answer_text (Refused f.refusal) f.field
+fault_text None = answer_text (Ok tt) 0
+fault_text (Some f) = answer_text (Err f.refusal) f.field
 
 -- what it says
 unfoldable pub fault_said : Option Fault → Option Refusing
-fault_said none = none
-fault_said (some f) = some (number_of f.refusal, f.field)
+fault_said None = None
+fault_said (Some f) = Some (number_of f.refusal, f.field)
 
 -- the fault of a request by name, given that of the add which it stands for
 unfoldable pub by_name_lem : Option Fault → Option Fault
-by_name_lem none = none
-by_name_lem (some f) = some (record { refusal = f.refusal; field = named_field f.field })
+by_name_lem None = None
+by_name_lem (Some f) = Some (record { refusal = f.refusal; field = named_field f.field })
 
 -- the fault of a call in a session: what the table says of it
 abbrev pub fault_of : Session → Call → Option Fault
@@ -74,7 +72,7 @@ pub record TurnSays (s : Session) : Type 0 where
   pub list : List Write
   pub left : flat list ≡ take (2 * (turn_of s turn_room).writes) (turn_slice s (replicate turn_room 0))
   pub says : reply_says (record_reply s Turn).text
-      ≡ some (takes_of (plan_of (turn_of s turn_room)) ++ sets_of list ++ Answers (fault_said (fault_of s (Rattle.sessions.specs.Calls.Turn turn_room))) ∷ [])
+      ≡ Some (takes_of (plan_of (turn_of s turn_room)) ++ sets_of list ++ Answers (fault_said (fault_of s (Rattle.sessions.specs.Calls.Turn turn_room))) ∷ [])
 
 pub record LinesAreCalls : Type 0 where
   -- the session that a record leaves is the call's ..
@@ -82,7 +80,7 @@ pub record LinesAreCalls : Type 0 where
   -- .. and its reply ends with what the table says of the call, number and field
   pub answer : (s : Session) (r : Record) → (before : List ℕ) × ((record_reply s r).text ≡ before ++ fault_text (fault_of s (call_of r)))
   -- the reply to an open, add or drop says nothing else
-  pub alone : (s : Session) (r : Record) → r ≢ Turn → reply_says (record_reply s r).text ≡ some (Answers (fault_said (fault_of s (call_of r))) ∷ [])
+  pub alone : (s : Session) (r : Record) → r ≢ Turn → reply_says (record_reply s r).text ≡ Some (Answers (fault_said (fault_of s (call_of r))) ∷ [])
   -- the reply to a turn says its plan and its list besides
   pub turn : (s : Session) → Askable (waiting (plain_of s)) → TurnSays s
   -- a request by name is the add that it stands for: the session, and the answer, number and the line's own field

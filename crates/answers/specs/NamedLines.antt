@@ -1,8 +1,7 @@
 -- Document 02, order 9: how a request by name is answered, in the words of one who has the two lists and reads the reply.
-use Rattle.std.specs.Prelude.{◌≡◌, ◌⊎◌, true, false, List, [], ◌∷◌, ◌++◌, ℕ}
+use Rattle.std.specs.Prelude.{◌≡◌, ◌⊎◌, true, false, List, [], ◌∷◌, ◌++◌, ℕ, Err}
 use Rattle.requests.specs.declared.CounterSet.{CounterSet}
-use Rattle.requests.specs.declared.Answer.{Answer}
-use Rattle.requests.specs.declared.Answer.TheVariants.{Refused}
+use Rattle.requests.specs.Answers.{Answer}
 use Rattle.requests.specs.declared.Refusal.{Refusal}
 use Rattle.requests.specs.declared.Refusal.TheVariants.{NotInGrammar, CallOrder, BadId, IdWaiting, KindNotOnDevice, NotListed}
 use Rattle.requests.specs.declared.Request.TheVariants.{Event}
@@ -30,7 +29,7 @@ pub record RowOfName (n : NameLists) (name : List ℕ) (row : Row) : Type 0 wher
 
 -- the line is refused at a field, and changes nothing
 abbrev pub RefusedWith : NameLists → Session → List ℕ → Refusal → ℕ → Type 0
-RefusedWith n s line x k = ((answer_line n s line).text ≡ answer_text (Refused x) k) × ((answer_line n s line).session ≡ s)
+RefusedWith n s line x k = ((answer_line n s line).text ≡ answer_text (Err x) k) × ((answer_line n s line).session ≡ s)
 
 -- two lines are answered alike and leave the same session; where the second is refused at the field of an event, the first is at its own: the code
 -- and the mask are the name, field 2, and the allowed set is field 3

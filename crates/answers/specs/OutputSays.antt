@@ -1,7 +1,6 @@
 -- One who reads the whole output gets what the replies say, one after another. Each says its answer last and only there, so that it is seen where
 -- a reply ends.
-use Rattle.std.specs.Prelude.{◌≡◌, List, [], ◌∷◌, ◌++◌, false, ℕ}
-use Rattle.std.proofs.Math.Option.{Option, some}
+use Rattle.std.specs.Prelude.{◌≡◌, List, [], ◌∷◌, ◌++◌, false, ℕ, Option, Some}
 use Rattle.plans.specs.Lists.{All}
 use Rattle.sessions.specs.declared.Session.{Session}
 use Rattle.names.specs.Lists.{NameLists}
@@ -18,11 +17,11 @@ NoAnswer (Answers refused) = ⊥
 pub record OneReply (text : List ℕ) : Type 0 where
   pub details : List Said
   pub refused : Option Refusing
-  pub says : reply_says text ≡ some (details ++ Answers refused ∷ [])
+  pub says : reply_says text ≡ Some (details ++ Answers refused ∷ [])
   pub no_answer : All NoAnswer details
 
 pub record OutputSays : Type 0 where
   -- the reply to any line, whatever its bytes, after any lines
   pub each : (n : NameLists) (start : Session) → start.opened ≡ false → (lines : List (List ℕ)) (line : List ℕ) → OneReply (reply_after n start lines line)
   -- texts one after another say what each says
-  pub joined : (a b : List ℕ) (xs ys : List Said) → reply_says a ≡ some xs → reply_says b ≡ some ys → reply_says (a ++ b) ≡ some (xs ++ ys)
+  pub joined : (a b : List ℕ) (xs ys : List Said) → reply_says a ≡ Some xs → reply_says b ≡ Some ys → reply_says (a ++ b) ≡ Some (xs ++ ys)

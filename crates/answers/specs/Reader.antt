@@ -1,12 +1,9 @@
 -- What a reply says to a reader who knows document 01's 'Lines' alone: lines end at newlines, fields at tabs, and numbers are read by their digits.
-use Rattle.std.specs.Prelude.{List, [], ◌∷◌, ℕ, eqb}
-use Rattle.std.proofs.Math.Option.{Option, none, some}
+use Rattle.std.specs.Prelude.{List, [], ◌∷◌, ℕ, eqb, Option, None, Some}
 use Rattle.requests.specs.Choice.{pick}
 use Rattle.grammar.specs.Text.{bytes, newline}
 use Rattle.grammar.specs.Fields.{onto, fields, same_bytes_lem}
 use Rattle.grammar.specs.Numbers.{decimal_of, hex_of}
-use Rattle.grammar.specs.declared.Number.{Number}
-use Rattle.grammar.specs.declared.Number.TheVariants.{Value, Bad}
 
 -- a refusal as it is said: its number, and the field at fault
 abbrev pub Refusing : Type 0
@@ -20,19 +17,19 @@ pub data Said : Type 0 where
   Answers : (refused : Option Refusing) → Said
 
 -- what follows a number; nothing where there is none
-abbrev pub with_number : {A : Type 0} → Number → (ℕ → Option A) → Option A
-with_number (Value n) next = next n
-with_number Bad next = none
+abbrev pub with_number : {A : Type 0} → Option ℕ → (ℕ → Option A) → Option A
+with_number (Some n) next = next n
+with_number None next = None
 
 -- "register (`-`, 0 or 1 ..)"
-abbrev pub register_by : Number → List ℕ → Option (Option ℕ)
-register_by (Value i) f = some (some i)
-register_by Bad f = pick (same_bytes_lem f (bytes "-")) (some none) none
+abbrev pub register_by : Option ℕ → List ℕ → Option (Option ℕ)
+register_by (Some i) f = Some (Some i)
+register_by None f = pick (same_bytes_lem f (bytes "-")) (Some None) None
 
 -- what follows a register
 abbrev pub with_register : {A : Type 0} → Option (Option ℕ) → (Option ℕ → Option A) → Option A
-with_register (some r) next = next r
-with_register none next = none
+with_register (Some r) next = next r
+with_register None next = None
 
 -- what the three fields behind `take` say
 unfoldable pub take_says : List ℕ → List ℕ → List ℕ → Option Said
@@ -40,30 +37,30 @@ take_says a b c =
     with_number (decimal_of a) (λ id.
     with_number (decimal_of b) (λ counter.
     with_register (register_by (decimal_of c) c) (λ register.
-    some (Takes id counter register))))
+    Some (Takes id counter register))))
 
 -- what the two behind `set` say
 unfoldable pub set_says : List ℕ → List ℕ → Option Said
 set_says a b =
     with_number (hex_of 4 a) (λ address.
     with_number (hex_of 16 b) (λ value.
-    some (Sets address value)))
+    Some (Sets address value)))
 
 -- what the two behind `no` say
 unfoldable pub no_says : List ℕ → List ℕ → Option Said
 no_says a b =
     with_number (decimal_of a) (λ number.
     with_number (decimal_of b) (λ field.
-    some (Answers (some (number, field)))))
+    Some (Answers (Some (number, field)))))
 
 -- what the fields of a line say
 unfoldable pub fields_say : List (List ℕ) → Option Said
-fields_say [] = none
-fields_say (verb ∷ []) = pick (same_bytes_lem verb (bytes "ok")) (some (Answers none)) none
-fields_say (verb ∷ a ∷ []) = none
-fields_say (verb ∷ a ∷ b ∷ []) = pick (same_bytes_lem verb (bytes "set")) (set_says a b) (pick (same_bytes_lem verb (bytes "no")) (no_says a b) none)
-fields_say (verb ∷ a ∷ b ∷ c ∷ []) = pick (same_bytes_lem verb (bytes "take")) (take_says a b c) none
-fields_say (verb ∷ a ∷ b ∷ c ∷ d ∷ more) = none
+fields_say [] = None
+fields_say (verb ∷ []) = pick (same_bytes_lem verb (bytes "ok")) (Some (Answers None)) None
+fields_say (verb ∷ a ∷ []) = None
+fields_say (verb ∷ a ∷ b ∷ []) = pick (same_bytes_lem verb (bytes "set")) (set_says a b) (pick (same_bytes_lem verb (bytes "no")) (no_says a b) None)
+fields_say (verb ∷ a ∷ b ∷ c ∷ []) = pick (same_bytes_lem verb (bytes "take")) (take_says a b c) None
+fields_say (verb ∷ a ∷ b ∷ c ∷ d ∷ more) = None
 
 -- the parts of a text between newlines, one more than it has newlines
 unfoldable pub lines_of : List ℕ → List (List ℕ)
@@ -72,18 +69,18 @@ lines_of (b ∷ bs) = pick (eqb b newline) ([] ∷ lines_of bs) (onto b (lines_o
 
 -- what stands behind the last newline says nothing more where it is empty; otherwise the last line is not closed
 abbrev pub end_says : List ℕ → Option (List Said)
-end_says [] = some []
-end_says (b ∷ bs) = none
+end_says [] = Some []
+end_says (b ∷ bs) = None
 
 -- a line, and those after it
 abbrev pub said_before : Option Said → Option (List Said) → Option (List Said)
-said_before (some x) (some xs) = some (x ∷ xs)
-said_before (some x) none = none
-said_before none xs = none
+said_before (Some x) (Some xs) = Some (x ∷ xs)
+said_before (Some x) None = None
+said_before None xs = None
 
 -- what lines say, the last of them what stands behind the last newline
 unfoldable pub lines_say : List (List ℕ) → Option (List Said)
-lines_say [] = none
+lines_say [] = None
 lines_say (line ∷ []) = end_says line
 lines_say (line ∷ next ∷ lines) = said_before (fields_say (fields line)) (lines_say (next ∷ lines))
 

@@ -1,11 +1,9 @@
 -- Document 01, 'Lines': the answer to a line.
 use mathlib.Core.List.{List, [], ◌∷◌, ◌++◌, flat_map}
-use Rattle.std.proofs.Math.Option.{Option, none, some}
-use Rattle.std.specs.Prelude.{ℕ, ◌*◌, take, replicate}
+use Rattle.std.specs.Prelude.{ℕ, ◌*◌, take, replicate, Option, None, Some, Ok, Err}
 use Rattle.requests.specs.declared.Request.{Request}
 use Rattle.requests.specs.declared.Fields.{Fields}
-use Rattle.requests.specs.declared.Answer.{Answer}
-use Rattle.requests.specs.declared.Answer.TheVariants.{Accepted, Refused}
+use Rattle.requests.specs.Answers.{Answer}
 use Rattle.requests.specs.Refusals.{number_of, answer_for}
 use Rattle.requests.specs.Devices.{opening_of}
 use Rattle.requests.specs.Faults.{opening_fields, request_fields, no_fields, answer_field}
@@ -32,13 +30,13 @@ pub record Reply : Type 0 where
 
 -- "Each gives `ok`, or `no` and the number"; document 02, order 11: and the field at fault "as a third field after the number"
 unfoldable pub answer_text : Answer → ℕ → List ℕ
-answer_text Accepted k = line_of (bytes "ok" ∷ [])
-answer_text (Refused x) k = line_of (bytes "no" ∷ decimal_text (number_of x) ∷ decimal_text k ∷ [])
+answer_text (Ok tt) k = line_of (bytes "ok" ∷ [])
+answer_text (Err x) k = line_of (bytes "no" ∷ decimal_text (number_of x) ∷ decimal_text k ∷ [])
 
 -- "register (`-`, 0 or 1 ..)"
 unfoldable pub register_text : Option ℕ → List ℕ
-register_text none = bytes "-"
-register_text (some i) = decimal_text i
+register_text None = bytes "-"
+register_text (Some i) = decimal_text i
 
 -- "`take` id counter register (.. latency two lines)"
 unfoldable pub take_lines : Assigned → List ℕ

@@ -1,5 +1,6 @@
 -- Fields that are read format by format up to one at fault: those before it spell values that fit, and whatever follows it, it is at fault. Assumes
 -- nothing.
+use Rattle.std.specs.Prelude.{Option, None, Some}
 use mathlib.Core.Path.{◌≡◌, refl, ap, ap₂, sym, ◌∙◌}
 use mathlib.Core.Bool.{Bool, true, false}
 use mathlib.Core.List.{List, [], ◌∷◌}
@@ -15,8 +16,6 @@ use Rattle.grammar.specs.Text.{bytes}
 use Rattle.grammar.specs.Fields.{fields, field_at, same_bytes_lem}
 use Rattle.grammar.specs.Numbers.{decimal_of, hex_of, core_number_of, core_of}
 use Rattle.grammar.specs.Verbs.{with_number, is_whole}
-use Rattle.grammar.specs.declared.Number.{Number}
-use Rattle.grammar.specs.declared.Number.TheVariants.{Value, Bad}
 use Rattle.grammar.specs.declared.Record.{Record}
 use Rattle.grammar.specs.declared.Parsed.{Parsed}
 use Rattle.grammar.specs.declared.Parsed.TheVariants.{Line, Fault}
@@ -46,7 +45,7 @@ more_fields p false n h = refl
 
 -- ---- a field of a format
 
-abbrev number_in : Format → List ℕ → Number
+abbrev number_in : Format → List ℕ → Option ℕ
 number_in decimal x = decimal_of x
 number_in (hex w) x = hex_of w x
 number_in core x = core_number_of x
@@ -56,27 +55,27 @@ given_is decimal x k next = refl
 given_is (hex w) x k next = refl
 given_is core x k next = refl
 
-number_told : (f : Format) (x : List ℕ) (n : ℕ) → number_in f x ≡ Value n → Fit f n × (x ≡ spelled f n)
+number_told : (f : Format) (x : List ℕ) (n : ℕ) → number_in f x ≡ Some n → Fit f n × (x ≡ spelled f n)
 number_told decimal x n e = let told = decimal_only x n e in (told.0, told.1)
 number_told (hex w) x n e = let told = hex_only w x n e in (told.0, told.1)
 number_told core x n e = let told = core_only x n e in (told.0, told.1)
 
 -- formats of at least one byte
-abbrev pub Some : Format → Type 0
-Some decimal = Unit {0}
-Some (hex w) = 0 < w
-Some core = Unit {0}
+abbrev pub HasDigits : Format → Type 0
+HasDigits decimal = Unit {0}
+HasDigits (hex w) = 0 < w
+HasDigits core = Unit {0}
 
-abbrev pub AllSome : List Format → Type 0
-AllSome [] = Unit {0}
-AllSome (f ∷ fs) = Some f × AllSome fs
+abbrev pub AllHaveDigits : List Format → Type 0
+AllHaveDigits [] = Unit {0}
+AllHaveDigits (f ∷ fs) = HasDigits f × AllHaveDigits fs
 
 -- a field that is missing is none
-pub decimal_missing : decimal_of [] ≡ Bad
+pub decimal_missing : decimal_of [] ≡ None
 unfolding decimal_of
 decimal_missing = refl
 
-missing : (f : Format) → Some f → number_in f [] ≡ Bad
+missing : (f : Format) → HasDigits f → number_in f [] ≡ None
 unfolding hex_of core_number_of same_bytes_lem bytes
 missing decimal h = decimal_missing
 missing (hex w) h = rw (ne_eqb 0 w (λ e. omega arith))
@@ -119,7 +118,7 @@ pub record Till (fs : List Format) (t : List ℕ) (j k : ℕ) (made : Values fs 
 line_not_fault : (r : Record) (k : ℕ) → ¬ (Line r ≡ Fault k)
 line_not_fault r k e = fault_not_line k r (sym e)
 
-pub read_till : (fs : List Format) → AllSome fs → (t : List ℕ) (closed : Bool) (j : ℕ) (made : Values fs → Record) (k : ℕ) → j ≤ length (fields t)
+pub read_till : (fs : List Format) → AllHaveDigits fs → (t : List ℕ) (closed : Bool) (j : ℕ) (made : Values fs → Record) (k : ℕ) → j ≤ length (fields t)
     → read_from fs t closed j made ≡ Fault k → Till fs t j k made
 read_till [] some t closed j made k h e =
     let is : j ≡ k = ended_fault (is_whole t closed j) j (Line (made tt)) k (line_not_fault (made tt) k) e in
@@ -138,9 +137,9 @@ read_till (f ∷ fs) some t closed j made k h e =
     next : List ℕ → Bool → ℕ → Parsed
     next p c x = read_from fs p c (suc j) (λ v. made (x, v))
 
-    go : (x : Number) → number_in f (field_at t j) ≡ x → with_number x j (next t closed) ≡ Fault k
+    go : (x : Option ℕ) → number_in f (field_at t j) ≡ x → with_number x j (next t closed) ≡ Fault k
         → ((x : ℕ) → suc j ≤ length (fields t) → next t closed x ≡ Fault k → Till fs t (suc j) k (λ v. made (x, v))) → Till (f ∷ fs) t j k made
-    go Bad p q ih =
+    go None p q ih =
         let is : j ≡ k = cc in
         record {
           values = zeros (f ∷ fs);
@@ -151,7 +150,7 @@ read_till (f ∷ fs) some t closed j made k h e =
           spells = refl;
           same = λ u c a. given_is f (field_at u j) j (next u c) ∙ rw (a.alike j (omega arith), p) (ap Fault is);
         }
-    go (Value x) p q ih =
+    go (Some x) p q ih =
         let there : j < length (fields t) = present (number_in f) t j (λ z. bad_not_value x (sym (missing f some.0) ∙ sym z ∙ p)) in
         let rest : Till fs t (suc j) k (λ v. made (x, v)) = ih x there q in
         let told = number_told f (field_at t j) x p in

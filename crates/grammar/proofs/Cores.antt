@@ -1,42 +1,39 @@
 -- A field spells a core, or `-`, exactly when it is the text of what its number stands for, and a core has at most 5 digits. Assumes nothing.
+use Rattle.std.specs.Prelude.{Option, None, Some}
 use mathlib.Core.Path.{◌≡◌, refl, ap}
 use mathlib.Core.Bool.{Bool, true, false}
 use mathlib.Core.List.{List}
 use Prim.Native.Nat.{ℕ, zero, suc, ◌+◌, ◌-◌}
 use native.Mathlib.Numerals.{add-one}
 use native.Mathlib.Omega.{arith}
-use Rattle.requests.specs.declared.Core.{Core}
-use Rattle.requests.specs.declared.Core.TheVariants.{NoCore, At}
 use Rattle.requests.specs.Choice.{pick, both}
 use Rattle.grammar.specs.Text.{bytes, decimal_text}
 use Rattle.grammar.specs.Records.{core_text, CoreFits}
 use Rattle.grammar.specs.Fields.{same_bytes_lem}
 use Rattle.grammar.specs.Numbers.{digit_of, number_from, decimal_of, one_more_lem, core_number_of, core_of}
-use Rattle.grammar.specs.declared.Number.{Number}
-use Rattle.grammar.specs.declared.Number.TheVariants.{Value, Bad}
 use Rattle.grammar.proofs.Outcomes.{bad_not_value}
 use Rattle.grammar.proofs.Decimals.{decimal_reads, decimal_only}
 use Rattle.grammar.proofs.WordLoops.{same_bytes}
 
 -- the number that stands for a core
-pub core_number : Core → ℕ
-core_number NoCore = 0
-core_number (At c) = c + 1
+pub core_number : Option ℕ → ℕ
+core_number None = 0
+core_number (Some c) = c + 1
 
 -- it stands for that core
-pub core_back : (c : Core) → core_of (core_number c) ≡ c
+pub core_back : (c : Option ℕ) → core_of (core_number c) ≡ c
 unfolding core_number core_of
-core_back NoCore = refl
-core_back (At c) = rw add-one
+core_back None = refl
+core_back (Some c) = rw add-one
 
 -- a number above 0 stands for the core one below it
-pub core_below : (n : ℕ) → ¬ (n ≡ 0) → core_of n ≡ At (n - 1)
+pub core_below : (n : ℕ) → ¬ (n ≡ 0) → core_of n ≡ Some (n - 1)
 unfolding core_of
 core_below zero some = absurd (some refl)
-core_below (suc n) some = ap At (omega arith)
+core_below (suc n) some = ap Some (omega arith)
 
 -- `-` is no decimal
-decimal_not_dash : (f : List ℕ) (n : ℕ) → decimal_of f ≡ Value n → same_bytes_lem f (bytes "-") ≡ false
+decimal_not_dash : (f : List ℕ) (n : ℕ) → decimal_of f ≡ Some n → same_bytes_lem f (bytes "-") ≡ false
 unfolding bytes decimal_of number_from digit_of both
 decimal_not_dash f n e = go (same_bytes_lem f (bytes "-")) refl
   where
@@ -45,22 +42,22 @@ decimal_not_dash f n e = go (same_bytes_lem f (bytes "-")) refl
     go false p = refl
 
 -- the text of a core is read as its number
-pub core_reads : (c : Core) → CoreFits c → core_number_of (core_text c) ≡ Value (core_number c)
+pub core_reads : (c : Option ℕ) → CoreFits c → core_number_of (core_text c) ≡ Some (core_number c)
 unfolding core_number_of core_text core_number same_bytes_lem bytes
-core_reads NoCore h = refl
-core_reads (At c) h = rw (decimal_not_dash (decimal_text c) c (decimal_reads c h), decimal_reads c h)
+core_reads None h = refl
+core_reads (Some c) h = rw (decimal_not_dash (decimal_text c) c (decimal_reads c h), decimal_reads c h)
 
 -- what was read before one was added
-more_only : (x : Number) (n : ℕ) → one_more_lem x ≡ Value n → (c : ℕ) × (x ≡ Value c) × (n ≡ suc c)
-more_only (Value c) n e = (c, refl, let is : c + 1 ≡ n = cc in omega arith)
-more_only Bad n e = absurd (bad_not_value n e)
+more_only : (x : Option ℕ) (n : ℕ) → one_more_lem x ≡ Some n → (c : ℕ) × (x ≡ Some c) × (n ≡ suc c)
+more_only (Some c) n e = (c, refl, let is : c + 1 ≡ n = cc in omega arith)
+more_only None n e = absurd (bad_not_value n e)
 
 -- and nothing else is
-pub core_only : (f : List ℕ) (n : ℕ) → core_number_of f ≡ Value n → CoreFits (core_of n) × (f ≡ core_text (core_of n))
+pub core_only : (f : List ℕ) (n : ℕ) → core_number_of f ≡ Some n → CoreFits (core_of n) × (f ≡ core_text (core_of n))
 unfolding core_number_of core_text core_of
 core_only f n e = go (same_bytes_lem f (bytes "-")) refl e
   where
-    go : (t : Bool) → same_bytes_lem f (bytes "-") ≡ t → pick t (Value 0) (one_more_lem (decimal_of f)) ≡ Value n → CoreFits (core_of n) × (f ≡ core_text (core_of n))
+    go : (t : Bool) → same_bytes_lem f (bytes "-") ≡ t → pick t (Some 0) (one_more_lem (decimal_of f)) ≡ Some n → CoreFits (core_of n) × (f ≡ core_text (core_of n))
     go true p q = let is : 0 ≡ n = cc in rw (← is) (tt, same_bytes f (bytes "-") p)
     go false p q =
         let (c, value, is) = more_only (decimal_of f) n q in

@@ -1,4 +1,5 @@
 -- A field spells n in decimal exactly when it is the text of n and n has at most 5 digits. Assumes nothing.
+use Rattle.std.specs.Prelude.{None, Some}
 use mathlib.Core.Path.{◌≡◌, refl, ap, sym, ◌∙◌}
 use mathlib.Core.Bool.{Bool, true, false}
 use mathlib.Core.List.{List, [], ◌∷◌, ◌++◌}
@@ -13,7 +14,6 @@ use Rattle.requests.proofs.Tests.{both_false}
 use Rattle.grammar.specs.Text.{hex_digit, decimal_digits, decimal_text}
 use Rattle.grammar.specs.Records.{Decimal}
 use Rattle.grammar.specs.Numbers.{number_from, leading_zero, decimal_of}
-use Rattle.grammar.specs.declared.Number.TheVariants.{Value, Bad}
 use Rattle.grammar.proofs.Digits.{last_reads}
 use Rattle.grammar.proofs.Numerals.{length_last, by_digits, below_power}
 use Rattle.grammar.proofs.Outcomes.{read_unless}
@@ -25,7 +25,7 @@ decimal_digit n = rw (lt-ltb (n % 10) 10 (omega arith))
 
 -- the digits of n: they spell it, are no more than it needs, and begin with 0 only where it is 0
 record Spells (f : List ℕ) (n : ℕ) : Type 0 where
-  value : number_from 10 0 f ≡ Value n
+  value : number_from 10 0 f ≡ Some n
   present : 0 < length f
   first : 0 < n → ¬ (get_or f 0 0 ≡ 48)
   short : (w : ℕ) → n < 10 ^ suc w → length f ≤ suc w
@@ -34,7 +34,7 @@ record Spells (f : List ℕ) (n : ℕ) : Type 0 where
 one_digit : (n : ℕ) → n < 10 → Spells ((n % 10 + 48) ∷ []) n
 unfolding number_from
 one_digit n h = record {
-  value = rw (decimal_digit n) at (last_reads 10 (omega arith) (omega arith) [] n (ap Value (omega arith)));
+  value = rw (decimal_digit n) at (last_reads 10 (omega arith) (omega arith) [] n (ap Some (omega arith)));
   present = omega arith;
   first = λ some is. omega arith;
   short = λ w fits. omega arith;
@@ -75,11 +75,11 @@ no_leading_zero f zero s = rw (le-ltb 1 (length f) (s.short 0 (omega arith)))
 no_leading_zero f (suc n) s = rw (ne_eqb (get_or f 0 0) 48 (s.first (omega arith)), both_false)
 
 -- the text of n spells n
-pub decimal_reads : (n : ℕ) → Decimal n → decimal_of (decimal_text n) ≡ Value n
+pub decimal_reads : (n : ℕ) → Decimal n → decimal_of (decimal_text n) ≡ Some n
 unfolding decimal_of decimal_text
 decimal_reads n h = go (decimal_digits 20 n) (spelled 19 n (omega arith))
   where
-    go : (f : List ℕ) → Spells f n → pick (eqb (length f) 0) Bad (pick (ltb 5 (length f)) Bad (pick (leading_zero f) Bad (number_from 10 0 f))) ≡ Value n
+    go : (f : List ℕ) → Spells f n → pick (eqb (length f) 0) None (pick (ltb 5 (length f)) None (pick (leading_zero f) None (number_from 10 0 f))) ≡ Some n
     go f s =
         rw (ne_eqb (length f) 0 (λ e. omega (arith, s.present)), le-ltb 5 (length f) (s.short 4 h), no_leading_zero f n s) s.value
 
@@ -118,7 +118,7 @@ numeral_text [] n some short lead d = absurd (some refl)
 numeral_text (b ∷ f) n some short lead d = d.1 (leads b f lead) 20 (omega arith)
 
 -- and nothing else spells it
-pub decimal_only : (f : List ℕ) (n : ℕ) → decimal_of f ≡ Value n → (Decimal n) × (f ≡ decimal_text n) × (length f ≤ 5) × (number_from 10 0 f ≡ Value n)
+pub decimal_only : (f : List ℕ) (n : ℕ) → decimal_of f ≡ Some n → (Decimal n) × (f ≡ decimal_text n) × (length f ≤ 5) × (number_from 10 0 f ≡ Some n)
 unfolding decimal_of decimal_text Canonical
 decimal_only f n e =
     let (present, e₁) = read_unless (eqb (length f) 0) _ n e in

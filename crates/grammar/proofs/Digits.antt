@@ -1,4 +1,5 @@
 -- A digit and its byte are one to one, and a numeral is its last digit behind the numeral of the others, in any base of at most 16. Assumes nothing.
+use Rattle.std.specs.Prelude.{Option, None, Some}
 use mathlib.Core.Path.{◌≡◌, refl, sym, ◌∙◌}
 use mathlib.Core.Bool.{Bool, true, false}
 use mathlib.Core.List.{List, [], ◌∷◌, ◌++◌}
@@ -12,8 +13,6 @@ use Rattle.requests.specs.Choice.{pick, both, either, every}
 use Rattle.requests.proofs.Tests.{every_at}
 use Rattle.grammar.specs.Text.{hex_digit}
 use Rattle.grammar.specs.Numbers.{digit_of, number_from}
-use Rattle.grammar.specs.declared.Number.{Number}
-use Rattle.grammar.specs.declared.Number.TheVariants.{Value, Bad}
 use Rattle.grammar.proofs.Outcomes.{bad_not_value, read_where}
 
 -- the byte of a digit has its value
@@ -43,9 +42,9 @@ digit_byte b h = go (dec_lt b 71)
     go (no above) = absurd (omega (arith, above_digits b (omega arith)))
 
 -- the number with one digit more
-next_digit : ℕ → Number → ℕ → Number
-next_digit base (Value n) d = pick (ltb d base) (Value (n * base + d)) Bad
-next_digit base Bad d = Bad
+next_digit : ℕ → Option ℕ → ℕ → Option ℕ
+next_digit base (Some n) d = pick (ltb d base) (Some (n * base + d)) None
+next_digit base None d = None
 
 -- the last digit is read last
 read_last : (base n : ℕ) (f : List ℕ) (b : ℕ) → number_from base n (f ++ b ∷ []) ≡ next_digit base (number_from base n f) (digit_of b)
@@ -57,16 +56,16 @@ read_last base n (a ∷ f) b = go (ltb (digit_of a) base) (read_last base (n * b
     further = n * base + digit_of a
 
     go : (t : Bool) → number_from base further (f ++ b ∷ []) ≡ next_digit base (number_from base further f) (digit_of b)
-        → pick t (number_from base further (f ++ b ∷ [])) Bad ≡ next_digit base (pick t (number_from base further f) Bad) (digit_of b)
+        → pick t (number_from base further (f ++ b ∷ [])) None ≡ next_digit base (pick t (number_from base further f) None) (digit_of b)
     go true ih = ih
     go false ih = refl
 
 -- what was read before a last digit
-before_last : (base : ℕ) (x : Number) (d n : ℕ) → next_digit base x d ≡ Value n → (m : ℕ) × (x ≡ Value m) × (d < base) × (n ≡ m * base + d)
+before_last : (base : ℕ) (x : Option ℕ) (d n : ℕ) → next_digit base x d ≡ Some n → (m : ℕ) × (x ≡ Some m) × (d < base) × (n ≡ m * base + d)
 unfolding next_digit
-before_last base Bad d n e = absurd (bad_not_value n e)
-before_last base (Value m) d n e =
-    let (below, value) = read_where (ltb d base) (Value (m * base + d)) n e in
+before_last base None d n e = absurd (bad_not_value n e)
+before_last base (Some m) d n e =
+    let (below, value) = read_where (ltb d base) (Some (m * base + d)) n e in
     (m, refl, ltb-true d base below, (cc))
 
 -- a number is what its digits before the last make, and the last digit
@@ -78,14 +77,14 @@ split_last base m d n below is = (
 
 module _ (base : ℕ) (some : 0 < base) (most : base ≤ 16) (f : List ℕ) (n : ℕ) where
   -- the digits of n / base and that of n % base spell n
-  pub last_reads : number_from base 0 f ≡ Value (n / base) → number_from base 0 (f ++ hex_digit (n % base) ∷ []) ≡ Value n
+  pub last_reads : number_from base 0 f ≡ Some (n / base) → number_from base 0 (f ++ hex_digit (n % base) ∷ []) ≡ Some n
   unfolding next_digit
   last_reads e =
       let below : n % base < base = mod-lt n some in
       rw (read_last base 0 f (hex_digit (n % base)), e, digit_value (n % base) (omega arith), lt-ltb (n % base) base below, div-add-mod' n base)
 
   -- and only they
-  pub last_only : (b : ℕ) → number_from base 0 (f ++ b ∷ []) ≡ Value n → (number_from base 0 f ≡ Value (n / base)) × (b ≡ hex_digit (n % base))
+  pub last_only : (b : ℕ) → number_from base 0 (f ++ b ∷ []) ≡ Some n → (number_from base 0 f ≡ Some (n / base)) × (b ≡ hex_digit (n % base))
   last_only b e =
       let (m, read, below, is) = before_last base (number_from base 0 f) (digit_of b) n (sym (read_last base 0 f b) ∙ e) in
       let (front, end) = split_last base m (digit_of b) n below is in

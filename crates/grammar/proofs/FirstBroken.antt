@@ -1,9 +1,10 @@
 -- The field at fault is the first that breaks the grammar: the fields before it begin a record, made of the numbers read and of 0 for the others, and
 -- no record goes on with it, for that record would have it at fault too. Assumes nothing.
+use Rattle.std.proofs.lemmas.Option.{none-some}
+use Rattle.std.specs.Prelude.{Option, None, Some}
 use mathlib.Core.Path.{◌≡◌, refl, ap, ap₂, sym, ◌∙◌}
 use mathlib.Core.Bool.{Bool, true}
 use mathlib.Core.List.{List, [], ◌∷◌}
-use mathlib.Core.Option.{Option, none, some, none-ne-some}
 use Prim.Native.Nat.{ℕ, suc, ◌≤◌, ◌<◌}
 use Prim.Native.String.{String}
 use native.Mathlib.Omega.{arith}
@@ -38,7 +39,7 @@ use Rattle.grammar.proofs.ReadBack.{Rows, last, row, first_row}
 use Rattle.grammar.proofs.GrammarHolds.{grammar}
 use Rattle.grammar.proofs.LongLines.{long_lines}
 use Rattle.grammar.proofs.Formats.{Format, decimal, hex, core, Values, AllFit, texts, read_from}
-use Rattle.grammar.proofs.BrokenFields.{Agree, AllSome, present, zeros_fit, Till, read_till}
+use Rattle.grammar.proofs.BrokenFields.{Agree, AllHaveDigits, present, zeros_fit, Till, read_till}
 
 -- what a field at fault tells of the text: the fields before it are a record's, and a text that agrees up to it has it at fault too
 pub record Tells (read : List ℕ → Bool → Parsed) (t : List ℕ) (k : ℕ) : Type 0 where
@@ -55,13 +56,13 @@ as_many : (fs gs : List (List ℕ)) (k n : ℕ) → k ≡ n → take n fs ≡ ta
 as_many fs gs k n is e = rw is e
 
 -- a verb that is read by formats tells so
-module _ (word : String) (fs : List Format) (some : AllSome fs) (made : Values fs → Record) (fits : (v : Values fs) → AllFit fs v → Fits (made v))
+module _ (word : String) (fs : List Format) (digits : AllHaveDigits fs) (made : Values fs → Record) (fits : (v : Values fs) → AllFit fs v → Fits (made v))
     (same : (v : Values fs) → record_fields (made v) ≡ bytes word ∷ texts fs v) where
   verb_fault : (t : List ℕ) → has_verb t word ≡ true → (closed : Bool) (k : ℕ) → read_from fs t closed 1 made ≡ Fault k
       → Tells (λ p c. read_from fs p c 1 made) t k
   unfolding has_verb
   verb_fault t verb closed k e =
-      let h : Till fs t 1 k made = read_till fs some t closed 1 made k (some_fields t) e in
+      let h : Till fs t 1 k made = read_till fs digits t closed 1 made k (some_fields t) e in
       let first : field_at t 0 ≡ bytes word = same_bytes (field_at t 0) (bytes word) verb in
       let is : k ≡ suc h.count = omega (arith, h.is) in
       let parts : take (suc h.count) (record_fields (made h.values)) ≡ take (suc h.count) (fields t) =
@@ -74,13 +75,13 @@ module _ (word : String) (fs : List Format) (some : AllSome fs) (made : Values f
       }
 
 -- an open line does where the fields behind its letter are read by formats
-module _ (d : Device) (fs : List Format) (some : AllSome fs) (made : Values fs → Record) (fits : (v : Values fs) → AllFit fs v → Fits (made v))
+module _ (d : Device) (fs : List Format) (digits : AllHaveDigits fs) (made : Values fs → Record) (fits : (v : Values fs) → AllFit fs v → Fits (made v))
     (same : (v : Values fs) → record_fields (made v) ≡ bytes "open" ∷ (letter_of d ∷ []) ∷ texts fs v) where
   device_fault : (t : List ℕ) → has_verb t "open" ≡ true → 1 < length (fields t) → field_at t 1 ≡ letter_of d ∷ [] → (closed : Bool) (k : ℕ)
       → read_from fs t closed 2 made ≡ Fault k → (2 ≤ k) × Tells (λ p c. read_from fs p c 2 made) t k
   unfolding has_verb
   device_fault t verb two letter closed k e =
-      let h : Till fs t 2 k made = read_till fs some t closed 2 made k two e in
+      let h : Till fs t 2 k made = read_till fs digits t closed 2 made k two e in
       let first : field_at t 0 ≡ bytes "open" = same_bytes (field_at t 0) (bytes "open") verb in
       let is : k ≡ suc (suc h.count) = omega (arith, h.is) in
       let behind : fields t ≡ bytes "open" ∷ (letter_of d ∷ []) ∷ drop 2 (fields t) =
@@ -129,7 +130,7 @@ an_open t verb =
           ∙ ap (take 1) (sym (drop-cons (fields t) 0 [] (some_fields t)));
     }
 
-no_letter : lettered [] ≡ none
+no_letter : lettered [] ≡ None
 unfolding lettered
 no_letter = refl
 
@@ -138,11 +139,11 @@ unfolding open_line
 open_fault t verb closed k e = go (lettered (field_at t 1)) refl e
   where
     go : (o : Option Device) → lettered (field_at t 1) ≡ o → with_device o 1 (open_on t closed) ≡ Fault k → Tells open_line t k
-    go none p q =
+    go None p q =
         let is : 1 ≡ k = cc in
         rw (← is) (record { till = some_fields t; begins = an_open t verb; same = λ u c a. rw (a.alike 1 (omega arith), p) })
-    go (some d) p q =
-        let two : 1 < length (fields t) = present lettered t 1 (λ z. none-ne-some d (sym no_letter ∙ sym z ∙ p)) in
+    go (Some d) p q =
+        let two : 1 < length (fields t) = present lettered t 1 (λ z. none-some d (sym no_letter ∙ sym z ∙ p)) in
         let (behind, h) = open_on_fault d t verb two (lettered_only (field_at t 1) d p) closed k q in
         record { till = h.till; begins = h.begins; same = λ u c a. rw (a.alike 1 (omega arith), p) (h.same u c a) }
 
@@ -179,7 +180,7 @@ text_fault t closed k e = go (first_holding (verbs t)) refl
     alike p a = same_verbs t p (a.alike 0 (omega arith))
 
     go : (o : Option (List ℕ → Bool → Parsed)) → first_holding (verbs t) ≡ o → Tells record_of t k
-    go none p =
+    go None p =
         let no_such : Fault 0 ≡ Fault k = sym (no_verb t closed p) ∙ e in
         let is : 0 ≡ k = cc in
         record {
@@ -187,7 +188,7 @@ text_fault t closed k e = go (first_holding (verbs t)) refl
           begins = rw (← is) (record { of = Turn; fits = tt; same = refl });
           same = λ u c a. no_verb u c (ap first_holding (alike u a) ∙ p) ∙ no_such;
         }
-    go (some read) p =
+    go (Some read) p =
         let h : Tells read t k = first_row (verb_rows t) read p closed k (sym (read_by t closed read p) ∙ e) in
         record { till = h.till; begins = h.begins; same = λ u c a. read_by u c read (ap first_holding (alike u a) ∙ p) ∙ h.same u c a }
 

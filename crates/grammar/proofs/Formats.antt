@@ -1,4 +1,5 @@
 -- A text that is read format by format, and gives a record, has exactly the fields that the record's values spell. Assumes nothing.
+use Rattle.std.specs.Prelude.{Option, None, Some}
 use mathlib.Core.Path.{◌≡◌, refl, ap₂, ◌∙◌}
 use mathlib.Core.Bool.{Bool, true, false}
 use mathlib.Core.List.{List, [], ◌∷◌}
@@ -15,8 +16,6 @@ use Rattle.grammar.specs.Records.{core_text, Decimal, Hex, CoreFits}
 use Rattle.grammar.specs.Fields.{fields, field_at}
 use Rattle.grammar.specs.Numbers.{decimal_of, hex_of, core_number_of, core_of}
 use Rattle.grammar.specs.Verbs.{with_number, ended}
-use Rattle.grammar.specs.declared.Number.{Number}
-use Rattle.grammar.specs.declared.Number.TheVariants.{Value, Bad}
 use Rattle.grammar.specs.declared.Record.{Record}
 use Rattle.grammar.specs.declared.Parsed.{Parsed}
 use Rattle.grammar.specs.declared.Parsed.TheVariants.{Line, Fault}
@@ -70,9 +69,9 @@ read_from [] t closed k made = ended t closed k (made tt)
 read_from (f ∷ fs) t closed k made = given f (field_at t k) k (λ x. read_from fs t closed (suc k) (λ v. made (x, v)))
 
 -- a number was there
-number_only : (x : Number) (k : ℕ) (next : ℕ → Parsed) (r : Record) → with_number x k next ≡ Line r → (n : ℕ) × (x ≡ Value n) × (next n ≡ Line r)
-number_only (Value n) k next r e = (n, refl, e)
-number_only Bad k next r e = absurd (fault_not_line k r e)
+number_only : (x : Option ℕ) (k : ℕ) (next : ℕ → Parsed) (r : Record) → with_number x k next ≡ Line r → (n : ℕ) × (x ≡ Some n) × (next n ≡ Line r)
+number_only (Some n) k next r e = (n, refl, e)
+number_only None k next r e = absurd (fault_not_line k r e)
 
 -- a field that is read is the text of what it holds
 given_only : (f : Format) (x : List ℕ) (k : ℕ) (next : ℕ → Parsed) (r : Record) → given f x k next ≡ Line r

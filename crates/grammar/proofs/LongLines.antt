@@ -1,8 +1,8 @@
 -- The first 80 bytes of a longer text have its first field at fault: no record has as many, by the widths of its fields. Assumes nothing.
+use Rattle.std.specs.Prelude.{Option, None, Some}
 use mathlib.Core.Path.{◌≡◌, refl, ap, ◌∙◌}
 use mathlib.Core.Bool.{Bool, true, false}
 use mathlib.Core.List.{List, [], ◌∷◌}
-use mathlib.Core.Option.{Option, none, some}
 use Prim.Native.Nat.{ℕ, suc, ◌+◌, ◌-◌, ◌≤◌, ◌<◌}
 use Prim.Native.String.{String}
 use native.Mathlib.Omega.{arith}
@@ -22,8 +22,6 @@ use Rattle.grammar.specs.Numbers.{decimal_of, hex_of, core_number_of}
 use Rattle.grammar.specs.Verbs.{with_number, with_device, set_of, line_from, open_formats, open_as, open_with, open_on, open_line, event_line, packet_line, offcore_line, latency_line, drop_line, turn_line, has_verb, verbs, record_of}
 use Rattle.grammar.specs.Parse.{longest, too_long_lem, parse_text, is_closed, text_length, parse_line}
 use Rattle.grammar.specs.LongLines.{LongLines}
-use Rattle.grammar.specs.declared.Number.{Number}
-use Rattle.grammar.specs.declared.Number.TheVariants.{Value, Bad}
 use Rattle.grammar.specs.declared.Record.{Record}
 use Rattle.grammar.specs.declared.Record.TheVariants.{Add, Drop, Turn}
 use Rattle.grammar.specs.declared.Parsed.{Parsed}
@@ -36,9 +34,9 @@ use Rattle.grammar.proofs.CutFields.{CutAt, cut_at, SameFault, Field, cut_field,
 
 -- ---- how wide a field may be
 
-number_both : (x : Number) (k : ℕ) (next next2 : ℕ → Parsed) → ((n : ℕ) → SameFault (next n) (next2 n)) → SameFault (with_number x k next) (with_number x k next2)
-number_both (Value n) k next next2 h = h n
-number_both Bad k next next2 h = record { at = k; one = refl; other = refl }
+number_both : (x : Option ℕ) (k : ℕ) (next next2 : ℕ → Parsed) → ((n : ℕ) → SameFault (next n) (next2 n)) → SameFault (with_number x k next) (with_number x k next2)
+number_both (Some n) k next next2 h = h n
+number_both None k next next2 h = record { at = k; one = refl; other = refl }
 
 -- runs of different lengths are not equal
 not_same : (x y : List ℕ) → length y < length x → same_bytes_lem x y ≡ false
@@ -49,16 +47,16 @@ not_same x y h = go (same_bytes_lem x y) refl
     go false e = e
 
 -- "at most 5 digits"
-wide_decimal : (x : List ℕ) → 5 < length x → decimal_of x ≡ Bad
+wide_decimal : (x : List ℕ) → 5 < length x → decimal_of x ≡ None
 unfolding decimal_of
 wide_decimal x h = rw (ne_eqb (length x) 0 (λ e. omega arith), lt-ltb 5 (length x) h)
 
 -- "of the exact width"
-wide_hex : (w : ℕ) (x : List ℕ) → w < length x → hex_of w x ≡ Bad
+wide_hex : (w : ℕ) (x : List ℕ) → w < length x → hex_of w x ≡ None
 unfolding hex_of
 wide_hex w x h = rw (ne_eqb (length x) w (λ e. omega arith))
 
-wide_core : (x : List ℕ) → 5 < length x → core_number_of x ≡ Bad
+wide_core : (x : List ℕ) → 5 < length x → core_number_of x ≡ None
 unfolding core_number_of bytes
 wide_core x h = rw (not_same x (bytes "-") (omega arith), wide_decimal x h)
 
@@ -77,8 +75,8 @@ format_field (hex w) k = record { wide = λ x next h. rw (wide_hex w x h); both 
 format_field core k = record { wide = λ x next h. rw (wide_core x h); both = λ x next next2 h. number_both (core_number_of x) k next next2 h }
 
 device_both : (o : Option Device) (k : ℕ) (next next2 : Device → Parsed) → ((d : Device) → SameFault (next d) (next2 d)) → SameFault (with_device o k next) (with_device o k next2)
-device_both (some d) k next next2 h = h d
-device_both none k next next2 h = record { at = k; one = refl; other = refl }
+device_both (Some d) k next next2 h = h d
+device_both None k next next2 h = record { at = k; one = refl; other = refl }
 
 letter_field : (k : ℕ) → Field (λ x next. with_device (lettered x) k next) k 1
 unfolding lettered
@@ -112,7 +110,7 @@ module _ (t : List ℕ) (h : 7 < length (field_at t 0)) where
   unfolding has_verb
   no_word word l = not_same (field_at t 0) (bytes word) (omega arith)
 
-  verbless : first_holding (verbs t) ≡ none
+  verbless : first_holding (verbs t) ≡ None
   unfolding verbs first_holding bytes
   verbless =
       rw (
@@ -180,8 +178,8 @@ module _ (t p : List ℕ) (m : ℕ) (e : 80 ≡ length (field_at t 0) + (m + 1))
     whole_both closed = go (first_holding (verbs t)) refl
       where
         go : (o : Option (List ℕ → Bool → Parsed)) → first_holding (verbs t) ≡ o → SameFault (record_of t closed) (record_of p closed)
-        go none q = record { at = 0; one = no_verb t closed q; other = no_verb p closed (ap first_holding same_verbs ∙ q) }
-        go (some read) q =
+        go None q = record { at = 0; one = no_verb t closed q; other = no_verb p closed (ap first_holding same_verbs ∙ q) }
+        go (Some read) q =
             let b : SameFault (read t closed) (read p closed) = first_row verb_rows read q closed in
             record { at = b.at; one = read_by t closed read q ∙ b.one; other = read_by p closed read (ap first_holding same_verbs ∙ q) ∙ b.other }
 

@@ -1,4 +1,5 @@
 -- What holds of no digits, and of one digit more, holds of every numeral; so a numeral is below its base to the power of its length. Assumes nothing.
+use Rattle.std.specs.Prelude.{Some}
 use mathlib.Core.Path.{◌≡◌, refl, ap, subst, sym, ◌∙◌}
 use mathlib.Core.List.{List, [], ◌∷◌, ◌++◌}
 use Prim.Native.Nat.{ℕ, zero, suc, ◌/◌, ◌%◌, ◌^◌, ◌<◌, ◌≤◌}
@@ -9,7 +10,6 @@ use lib.ListN.{length, get_or, take, length-append}
 use lib.Seq.{take-suc, take-length, length-take-le}
 use Rattle.grammar.specs.Text.{hex_digit}
 use Rattle.grammar.specs.Numbers.{number_from}
-use Rattle.grammar.specs.declared.Number.TheVariants.{Value}
 use Rattle.grammar.proofs.Digits.{last_only}
 
 -- the length of a list with one element more
@@ -20,7 +20,7 @@ module _ (base : ℕ) (some : 0 < base) (most : base ≤ 16) where
   -- induction on the digits, the last one first
   module _ (P : List ℕ → ℕ → Type 0) (none : P [] 0) (more : (g : List ℕ) (n : ℕ) → P g (n / base) → P (g ++ hex_digit (n % base) ∷ []) n) where
     -- by their number
-    by_length : (w : ℕ) (f : List ℕ) (n : ℕ) → length f ≡ w → number_from base 0 f ≡ Value n → P f n
+    by_length : (w : ℕ) (f : List ℕ) (n : ℕ) → length f ≡ w → number_from base 0 f ≡ Some n → P f n
     unfolding number_from
     by_length zero [] n l e = let is : 0 ≡ n = cc in subst (P []) is none
     by_length zero (b ∷ f) n l e = absurd (omega arith)
@@ -31,10 +31,10 @@ module _ (base : ℕ) (some : 0 < base) (most : base ≤ 16) where
         subst (λ (g : List ℕ). P g n) (sym whole) (more (take w f) n (by_length w (take w f) (n / base) (length-take-le w f (omega arith)) front))
 
     -- of any number of digits
-    pub by_digits : (f : List ℕ) (n : ℕ) → number_from base 0 f ≡ Value n → P f n
+    pub by_digits : (f : List ℕ) (n : ℕ) → number_from base 0 f ≡ Some n → P f n
     by_digits f n e = by_length (length f) f n refl e
 
   -- a numeral's bound
-  pub below_power : (f : List ℕ) (n : ℕ) → number_from base 0 f ≡ Value n → n < base ^ length f
+  pub below_power : (f : List ℕ) (n : ℕ) → number_from base 0 f ≡ Some n → n < base ^ length f
   below_power =
       by_digits (λ f n. n < base ^ length f) (omega (arith, pow-zero base)) (λ g n h. rw (length_last g (hex_digit (n % base)), pow-suc) ((div-lt_iff_lt-mul some).0 h))

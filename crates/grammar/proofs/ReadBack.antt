@@ -1,8 +1,8 @@
 -- A text that gives a record has that record's fields, with their numbers in range: each verb is read by formats, and the verbs by their table. Assumes nothing.
+use Rattle.std.specs.Prelude.{Option, None, Some}
 use mathlib.Core.Path.{◌≡◌, refl, ap, ap₂, sym, ◌∙◌}
 use mathlib.Core.Bool.{Bool, true, false}
 use mathlib.Core.List.{List, [], ◌∷◌}
-use mathlib.Core.Option.{Option, none, some}
 use Prim.Native.Nat.{ℕ}
 use Prim.Native.String.{String}
 use native.Mathlib.Omega.{arith}
@@ -95,7 +95,7 @@ pub data Rows {A : Type 0} (P : A → Type 0) : List (Row A) → Type 0 where
   row : {b : Bool} {a : A} {rows : List (Row A)} → (b ≡ true → P a) → Rows P rows → Rows P ((b, a) ∷ rows)
 
 -- the first one has it
-pub first_row : {A : Type 0} {P : A → Type 0} {rows : List (Row A)} → Rows P rows → (a : A) → first_holding rows ≡ some a → P a
+pub first_row : {A : Type 0} {P : A → Type 0} {rows : List (Row A)} → Rows P rows → (a : A) → first_holding rows ≡ Some a → P a
 unfolding first_holding
 first_row last a e = let z : ◌≡◌ {A = ℕ} 0 1 = cc in absurd (omega arith)
 first_row {P = P} (row {b = true} {a = b} p ps) a e = let is : b ≡ a = cc in rw is at (p refl)
@@ -126,6 +126,6 @@ pub record_tells : (t : List ℕ) (closed : Bool) (r : Record) → record_of t c
 unfolding record_of
 record_tells t closed r e = go (first_holding (verbs t)) refl e
   where
-    go : (o : Option (List ℕ → Bool → Parsed)) → first_holding (verbs t) ≡ o → elim o [ none ↦ Fault 0 | some read ↦ read t closed ] ≡ Line r → Told t closed r
-    go none p q = absurd (fault_not_line 0 r q)
-    go (some read) p q = first_row (verb_rows t) read p closed r q
+    go : (o : Option (List ℕ → Bool → Parsed)) → first_holding (verbs t) ≡ o → elim o [ None ↦ Fault 0 | Some read ↦ read t closed ] ≡ Line r → Told t closed r
+    go None p q = absurd (fault_not_line 0 r q)
+    go (Some read) p q = first_row (verb_rows t) read p closed r q

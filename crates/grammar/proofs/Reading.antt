@@ -1,4 +1,5 @@
 -- A text whose fields are a record's, with its numbers in range, gives that record: the verb's row reads each number back. Assumes nothing.
+use Rattle.std.specs.Prelude.{Option}
 use mathlib.Core.Path.{◌≡◌, ◌∙◌}
 use mathlib.Core.Bool.{true}
 use mathlib.Core.List.{List}
@@ -6,7 +7,6 @@ use Prim.Native.Nat.{ℕ}
 use Rattle.requests.specs.declared.CounterSet.{CounterSet}
 use Rattle.requests.specs.declared.Device.{Device}
 use Rattle.requests.specs.declared.Device.TheVariants.{G, S, C, B}
-use Rattle.requests.specs.declared.Core.{Core}
 use Rattle.requests.specs.declared.Setup.{Setup}
 use Rattle.requests.specs.declared.Request.TheVariants.{Event, Packet, Offcore, Latency}
 use Rattle.requests.specs.Choice.{first_holding, both}
@@ -25,11 +25,11 @@ use Rattle.grammar.proofs.LetterFields.{by_letter, letter_reads}
 use Rattle.grammar.proofs.VerbRows.{read_by}
 
 -- a setup of these numbers
-abbrev pub setup : Device → CounterSet → ℕ → ℕ → Core → Setup
+abbrev pub setup : Device → CounterSet → ℕ → ℕ → Option ℕ → Setup
 setup d u f z c = record { device = d; usable = u; fixed = f; overflow = record { freeze = z; core = c } }
 
 -- the fields behind a device's letter are read back
-device_read : (t : List ℕ) (d : Device) (u : CounterSet) (f z : ℕ) (c : Core) → OpenFits (setup d u f z c) → fields t ≡ open_fields (setup d u f z c)
+device_read : (t : List ℕ) (d : Device) (u : CounterSet) (f z : ℕ) (c : Option ℕ) → OpenFits (setup d u f z c) → fields t ≡ open_fields (setup d u f z c)
     → open_on t true (by_letter d) ≡ Line (Open (setup d u f z c))
 unfolding open_fields box_fields overflow_fields box_of open_on open_formats open_as open_with by_letter line_from both
 device_read t G u f z c h e =

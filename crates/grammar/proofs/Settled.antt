@@ -1,9 +1,9 @@
 -- A text is read as a record or has a field at fault, 0 to 7: no verb of a record asks for anything by name, and none has more fields. Assumes
 -- nothing.
+use Rattle.std.specs.Prelude.{Option, None, Some}
 use mathlib.Core.Path.{◌≡◌, refl}
 use mathlib.Core.Bool.{Bool, true, false}
 use mathlib.Core.List.{List, [], ◌∷◌}
-use mathlib.Core.Option.{Option, none, some}
 use Prim.Native.Nat.{ℕ, suc, ◌+◌, ◌≤◌}
 use native.Mathlib.Omega.{arith}
 use lib.ListN.{length, take, set}
@@ -16,8 +16,6 @@ use Rattle.grammar.specs.Letters.{lettered}
 use Rattle.grammar.specs.Numbers.{decimal_of, hex_of, core_number_of, number_of}
 use Rattle.grammar.specs.Verbs.{with_number, with_device, ended, is_whole, set_of, Made, line_from, open_formats, open_with, open_on, open_line, event_line, packet_line, offcore_line, latency_line, drop_line, turn_line, verbs, record_of}
 use Rattle.grammar.specs.Parse.{is_closed, text_length, parse_line}
-use Rattle.grammar.specs.declared.Number.{Number}
-use Rattle.grammar.specs.declared.Number.TheVariants.{Value, Bad}
 use Rattle.grammar.specs.declared.Record.{Record}
 use Rattle.grammar.specs.declared.Record.TheVariants.{Add, Drop, Turn}
 use Rattle.grammar.specs.declared.Parsed.{Parsed}
@@ -31,9 +29,9 @@ pub data Settled : Parsed → Type 0 where
   asks : (r : Record) → Settled (Line r)
   faulty : (k : ℕ) → k ≤ 7 → Settled (Fault k)
 
-number_settled : (x : Number) (k : ℕ) (next : ℕ → Parsed) → k ≤ 7 → ((n : ℕ) → Settled (next n)) → Settled (with_number x k next)
-number_settled (Value n) k next l h = h n
-number_settled Bad k next l h = faulty k l
+number_settled : (x : Option ℕ) (k : ℕ) (next : ℕ → Parsed) → k ≤ 7 → ((n : ℕ) → Settled (next n)) → Settled (with_number x k next)
+number_settled (Some n) k next l h = h n
+number_settled None k next l h = faulty k l
 
 ended_settled : (t : List ℕ) (closed : Bool) (n : ℕ) (r : Record) → n ≤ 7 → Settled (ended t closed n r)
 ended_settled t closed n r l = go (is_whole t closed n)
@@ -61,8 +59,8 @@ unfolding open_line open_on
 open_settled t closed = go (lettered (field_at t 1))
   where
     go : (o : Option Device) → Settled (with_device o 1 (open_on t closed))
-    go (some d) = line_settled (open_formats d) t closed 2 0 _ (open_with d) (omega (arith, formats_few d))
-    go none = faulty 1 (omega arith)
+    go (Some d) = line_settled (open_formats d) t closed 2 0 _ (open_with d) (omega (arith, formats_few d))
+    go None = faulty 1 (omega arith)
 
 given_settled : (f : Format) (x : List ℕ) (k : ℕ) (next : ℕ → Parsed) → k ≤ 7 → ((n : ℕ) → Settled (next n)) → Settled (given f x k next)
 given_settled decimal x k next l h = number_settled (decimal_of x) k next l h
@@ -90,9 +88,9 @@ pub record_settled : (t : List ℕ) (closed : Bool) → Settled (record_of t clo
 unfolding record_of
 record_settled t closed = go (first_holding (verbs t)) refl
   where
-    go : (o : Option (List ℕ → Bool → Parsed)) → first_holding (verbs t) ≡ o → Settled (elim o [ none ↦ Fault 0 | some read ↦ read t closed ])
-    go none e = faulty 0 (omega arith)
-    go (some read) e = first_row (verbs_settled t) read e closed
+    go : (o : Option (List ℕ → Bool → Parsed)) → first_holding (verbs t) ≡ o → Settled (elim o [ None ↦ Fault 0 | Some read ↦ read t closed ])
+    go None e = faulty 0 (omega arith)
+    go (Some read) e = first_row (verbs_settled t) read e closed
 
 pub line_is : (line : List ℕ) → Settled (parse_line line)
 line_is line = rw (long_lines.whole line) (record_settled (take (text_length line) line) (is_closed line))

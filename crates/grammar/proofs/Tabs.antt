@@ -1,5 +1,6 @@
 -- Fields without tabs and newlines, written as a line, are the fields of its text, which is one line; and a text is its fields written as a line.
 -- Assumes nothing.
+use Rattle.std.specs.Prelude.{Some}
 use mathlib.Core.Path.{◌≡◌, refl, ap, sym, ◌∙◌}
 use mathlib.Core.Bool.{Bool, true, false, true≢false}
 use mathlib.Core.List.{List, [], ◌∷◌, ◌++◌, append_assoc}
@@ -13,7 +14,6 @@ use Rattle.requests.proofs.Tests.{both_parts, true_both}
 use Rattle.grammar.specs.Text.{tab, newline, line_of}
 use Rattle.grammar.specs.Fields.{onto, fields}
 use Rattle.grammar.specs.Numbers.{digit_of, number_from}
-use Rattle.grammar.specs.declared.Number.TheVariants.{Value}
 use Rattle.grammar.proofs.Outcomes.{read_where}
 
 -- whether a run of bytes lacks the byte x
@@ -23,7 +23,7 @@ lacks x (b ∷ f) = pick (eqb b x) false (lacks x f)
 
 module _ (x : ℕ) where
   -- a numeral lacks what is no digit
-  pub numeral_lacks : digit_of x ≡ 16 → (base n : ℕ) (f : List ℕ) (m : ℕ) → base ≤ 16 → number_from base n f ≡ Value m → lacks x f ≡ true
+  pub numeral_lacks : digit_of x ≡ 16 → (base n : ℕ) (f : List ℕ) (m : ℕ) → base ≤ 16 → number_from base n f ≡ Some m → lacks x f ≡ true
   unfolding number_from lacks
   numeral_lacks none base n [] m most e = refl
   numeral_lacks none base n (b ∷ f) m most e =
@@ -70,7 +70,7 @@ unfoldable pub one_field_lem : List ℕ → Bool
 one_field_lem f = both (lacks tab f) (lacks newline f)
 
 -- a numeral may
-pub numeral_field : (base n : ℕ) (f : List ℕ) (m : ℕ) → base ≤ 16 → number_from base n f ≡ Value m → one_field_lem f ≡ true
+pub numeral_field : (base n : ℕ) (f : List ℕ) (m : ℕ) → base ≤ 16 → number_from base n f ≡ Some m → one_field_lem f ≡ true
 unfolding one_field_lem digit_of tab newline
 numeral_field base n f m most e = true_both _ _ (numeral_lacks tab refl base n f m most e) (numeral_lacks newline refl base n f m most e)
 

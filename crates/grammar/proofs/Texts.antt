@@ -1,4 +1,5 @@
 -- The text of a record whose numbers fit: its fields are read back from it, and it has at most 80 bytes before its newline. Assumes nothing.
+use Rattle.std.specs.Prelude.{Option, None, Some}
 use mathlib.Core.Path.{◌≡◌, refl, sym, ◌∙◌}
 use mathlib.Core.Bool.{Bool, true}
 use mathlib.Core.List.{List, [], ◌∷◌, ◌++◌}
@@ -13,8 +14,6 @@ use Rattle.requests.proofs.Tests.{both_parts}
 use Rattle.requests.specs.declared.CounterSet.{CounterSet}
 use Rattle.requests.specs.declared.Device.{Device}
 use Rattle.requests.specs.declared.Device.TheVariants.{G, S, C, B}
-use Rattle.requests.specs.declared.Core.{Core}
-use Rattle.requests.specs.declared.Core.TheVariants.{NoCore, At}
 use Rattle.requests.specs.declared.Request.TheVariants.{Event, Packet, Offcore, Latency}
 use Rattle.requests.specs.Devices.{letter_of, box_of}
 use Rattle.grammar.specs.Text.{bytes, tab, hex_text, decimal_text, newline}
@@ -40,10 +39,10 @@ hex_plain w n h =
     record { field = numeral_field 16 0 (hex_text w n) n (omega arith) told.3; short = omega (arith, told.2) }
 
 -- a core
-core_plain : (c : Core) → CoreFits c → Plain 5 (core_text c)
+core_plain : (c : Option ℕ) → CoreFits c → Plain 5 (core_text c)
 unfolding core_text bytes one_field_lem both lacks tab newline
-core_plain NoCore h = record { field = refl; short = omega arith }
-core_plain (At c) h = decimal_plain c h
+core_plain None h = record { field = refl; short = omega arith }
+core_plain (Some c) h = decimal_plain c h
 
 -- a device's letter
 pub letter_plain : (d : Device) → Plain 1 (letter_of d ∷ [])
@@ -73,11 +72,11 @@ text_of r word fs e n plain small =
     record { text = w.text; line = rw e w.line; parts = w.parts ∙ sym e; fits_line = size }
 
 -- what every open line ends with
-overflow_plain : (z : ℕ) (c : Core) → Decimal z → CoreFits c → Plains 12 (decimal_text z ∷ core_text c ∷ [])
+overflow_plain : (z : ℕ) (c : Option ℕ) → Decimal z → CoreFits c → Plains 12 (decimal_text z ∷ core_text c ∷ [])
 overflow_plain z c h k = more (decimal_plain z h) (more (core_plain c k) none)
 
 -- that of an open line
-open_written : (d : Device) (u : CounterSet) (f z : ℕ) (c : Core) → OpenFits (setup d u f z c) → TextOf (Open (setup d u f z c))
+open_written : (d : Device) (u : CounterSet) (f z : ℕ) (c : Option ℕ) → OpenFits (setup d u f z c) → TextOf (Open (setup d u f z c))
 unfolding record_fields open_fields box_fields overflow_fields box_of bytes brief one_field_lem lacks tab newline both
 open_written G u f z c h =
     text_of _ _ _ refl _ (more (letter_plain G) (more (decimal_plain u.0 h.0) (more (decimal_plain f h.1) (overflow_plain z c h.3 h.4)))) refl

@@ -1,9 +1,9 @@
 -- A text without its newline has the field at fault that it has where it is closed and too long: the one after its last, or one before that.
 -- Assumes nothing.
+use Rattle.std.specs.Prelude.{Option, None, Some}
 use mathlib.Core.Path.{◌≡◌, refl, ap}
 use mathlib.Core.Bool.{Bool, true, false}
 use mathlib.Core.List.{List, [], ◌∷◌}
-use mathlib.Core.Option.{Option, none, some}
 use Prim.Native.Nat.{ℕ, suc, ◌+◌}
 use lib.Dec.{eqb}
 use lib.ListN.{length, set}
@@ -16,8 +16,6 @@ use Rattle.grammar.specs.Letters.{lettered}
 use Rattle.grammar.specs.Numbers.{decimal_of, hex_of, core_number_of, number_of}
 use Rattle.grammar.specs.Verbs.{with_number, with_device, ended, set_of, Made, line_from, open_formats, open_with, open_on, open_line, event_line, packet_line, offcore_line, latency_line, drop_line, turn_line, verbs, record_of}
 use Rattle.grammar.specs.Parse.{too_long_lem}
-use Rattle.grammar.specs.declared.Number.{Number}
-use Rattle.grammar.specs.declared.Number.TheVariants.{Value, Bad}
 use Rattle.grammar.specs.declared.Record.{Record}
 use Rattle.grammar.specs.declared.Record.TheVariants.{Add, Drop, Turn}
 use Rattle.grammar.specs.declared.Parsed.{Parsed}
@@ -30,10 +28,10 @@ module _ (t : List ℕ) where
   abbrev pub Unclosed : Parsed → Parsed → Type 0
   Unclosed a b = too_long_lem a (length (fields t)) ≡ b
 
-  pub number_unclosed : (x : Number) (k : ℕ) (next next2 : ℕ → Parsed) → ((n : ℕ) → Unclosed (next n) (next2 n)) → Unclosed (with_number x k next) (with_number x k next2)
+  pub number_unclosed : (x : Option ℕ) (k : ℕ) (next next2 : ℕ → Parsed) → ((n : ℕ) → Unclosed (next n) (next2 n)) → Unclosed (with_number x k next) (with_number x k next2)
   unfolding too_long_lem
-  number_unclosed (Value n) k next next2 h = h n
-  number_unclosed Bad k next next2 h = refl
+  number_unclosed (Some n) k next next2 h = h n
+  number_unclosed None k next next2 h = refl
 
   -- the number of fields there are
   ended_unclosed : (n : ℕ) (r : Record) → Unclosed (ended t true n r) (ended t false n r)
@@ -55,8 +53,8 @@ module _ (t : List ℕ) where
   open_unclosed = go (lettered (field_at t 1))
     where
       go : (o : Option Device) → Unclosed (with_device o 1 (open_on t true)) (with_device o 1 (open_on t false))
-      go (some d) = line_unclosed (open_formats d) 2 0 _ (open_with d)
-      go none = refl
+      go (Some d) = line_unclosed (open_formats d) 2 0 _ (open_with d)
+      go None = refl
 
   given_unclosed : (f : Format) (x : List ℕ) (k : ℕ) (next next2 : ℕ → Parsed) → ((n : ℕ) → Unclosed (next n) (next2 n)) → Unclosed (given f x k next) (given f x k next2)
   given_unclosed decimal x k next next2 h = number_unclosed (decimal_of x) k next next2 h
@@ -86,6 +84,6 @@ module _ (t : List ℕ) where
   record_unclosed = go (first_holding (verbs t)) refl
     where
       go : (o : Option (List ℕ → Bool → Parsed)) → first_holding (verbs t) ≡ o
-          → Unclosed (elim o [ none ↦ Fault 0 | some read ↦ read t true ]) (elim o [ none ↦ Fault 0 | some read ↦ read t false ])
-      go none e = refl
-      go (some read) e = first_row verbs_unclosed read e
+          → Unclosed (elim o [ None ↦ Fault 0 | Some read ↦ read t true ]) (elim o [ None ↦ Fault 0 | Some read ↦ read t false ])
+      go None e = refl
+      go (Some read) e = first_row verbs_unclosed read e

@@ -1,10 +1,8 @@
 -- Document 01, 'Lines': lines in the grammar and beside it, and what each is.
-use Rattle.std.specs.Prelude.{◌≡◌, ℕ, eqb}
+use Rattle.std.specs.Prelude.{◌≡◌, ℕ, eqb, Option, None, Some}
 use mathlib.Core.List.{List, [], ◌∷◌, ◌++◌, map, flat_map}
 use Prim.Native.String.{String}
 use Rattle.requests.specs.declared.CounterSet.{CounterSet}
-use Rattle.requests.specs.declared.Core.{Core}
-use Rattle.requests.specs.declared.Core.TheVariants.{NoCore, At}
 use Rattle.requests.specs.declared.Device.{Device}
 use Rattle.requests.specs.declared.Device.TheVariants.{G, S, C, B}
 use Rattle.requests.specs.declared.Request.TheVariants.{Event, Packet, Offcore, Latency}
@@ -36,22 +34,22 @@ abbrev set : ℕ → CounterSet
 set n = record { 0 = n }
 
 -- what opens a device with a usable set, fixed enables, freeze and a core
-abbrev opens : Device → ℕ → ℕ → ℕ → Core → Parsed
+abbrev opens : Device → ℕ → ℕ → ℕ → Option ℕ → Parsed
 opens d usable fixed freeze core = Line (Open (record { device = d; usable = set usable; fixed = fixed; overflow = record { freeze = freeze; core = core } }))
 
 abbrev pub examples : List Example
 examples =
-    closed "open G 15 7 0 -" (opens G 15 7 0 NoCore)
-    ∷ closed "open S 14 0 1 -" (opens S 14 0 1 NoCore)
-    ∷ closed "open S 15 0 1 2" (opens S 15 0 1 (At 2))
-    ∷ closed "open C 63 0 7 0 -" (opens (C 7) 63 0 0 NoCore)
-    ∷ closed "open C 1 0 0 0 7" (opens (C 0) 1 0 0 (At 7))
-    ∷ closed "open G 15 0 0 0" (opens G 15 0 0 (At 0))
-    ∷ closed "open B 15 7 0 -" (opens B 15 7 0 NoCore)
+    closed "open G 15 7 0 -" (opens G 15 7 0 None)
+    ∷ closed "open S 14 0 1 -" (opens S 14 0 1 None)
+    ∷ closed "open S 15 0 1 2" (opens S 15 0 1 (Some 2))
+    ∷ closed "open C 63 0 7 0 -" (opens (C 7) 63 0 0 None)
+    ∷ closed "open C 1 0 0 0 7" (opens (C 0) 1 0 0 (Some 7))
+    ∷ closed "open G 15 0 0 0" (opens G 15 0 0 (Some 0))
+    ∷ closed "open B 15 7 0 -" (opens B 15 7 0 None)
     -- numbers that no device opens with: the grammar does not judge them
-    ∷ closed "open S 0 99999 2 8" (opens S 0 99999 2 (At 8))
-    ∷ closed "open C 64 1 8 99999 99999" (opens (C 8) 64 1 99999 (At 99999))
-    ∷ closed "open C 63 0 10 0 -" (opens (C 10) 63 0 0 NoCore)
+    ∷ closed "open S 0 99999 2 8" (opens S 0 99999 2 (Some 8))
+    ∷ closed "open C 64 1 8 99999 99999" (opens (C 8) 64 1 99999 (Some 99999))
+    ∷ closed "open C 63 0 10 0 -" (opens (C 10) 63 0 0 None)
     ∷ closed "event 1 C0 00 1" (Line (Add 1 (Event 0xC0 0x00 (set 1))))
     ∷ closed "packet 2 00000000000000A5 8000000000000000 8" (Line (Add 2 (Packet 0xA5 0x8000000000000000 (set 8))))
     ∷ closed "offcore 3 0000000000010001 15" (Line (Add 3 (Offcore 0x10001 (set 15))))

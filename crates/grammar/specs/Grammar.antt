@@ -1,6 +1,5 @@
 -- "1: the line is not in the grammar": a line is a record exactly when it is that record's text.
-use Rattle.std.specs.Prelude.{◌≡◌, List, ℕ}
-use Rattle.std.proofs.Math.Option.{none, some}
+use Rattle.std.specs.Prelude.{◌≡◌, List, ℕ, None, Some}
 use Rattle.requests.specs.Refusals.{answer_for, answer_number}
 use Rattle.grammar.specs.Records.{record_text, Fits}
 use Rattle.grammar.specs.Parse.{parse_line, parsed_refusal}
@@ -17,5 +16,5 @@ pub record Grammar : Type 0 where
   -- everything else has a field at fault
   pub other : (line : List ℕ) → ((r : Record) → ¬ IsText line r) → (k : ℕ) × (parse_line line ≡ Fault k)
   -- so the grammar refuses no record's text, and everything else with 1
-  pub in_grammar : (line : List ℕ) (r : Record) → IsText line r → answer_number (answer_for (parsed_refusal (parse_line line))) ≡ none
-  pub outside : (line : List ℕ) → ((r : Record) → ¬ IsText line r) → answer_number (answer_for (parsed_refusal (parse_line line))) ≡ some 1
+  pub in_grammar : (line : List ℕ) (r : Record) → IsText line r → answer_number (answer_for (parsed_refusal (parse_line line))) ≡ None
+  pub outside : (line : List ℕ) → ((r : Record) → ¬ IsText line r) → answer_number (answer_for (parsed_refusal (parse_line line))) ≡ Some 1

@@ -1,9 +1,8 @@
 -- Document 01, 'Lines': "fields parted by one tab, closed by a newline, at most 80 bytes without it". The examples type a blank for `tab` and
 -- close a line by `newline`, so that they cannot say which bytes these are; and they quote words, which `bytes` spells for both sides.
-use Rattle.std.specs.Prelude.{◌≡◌, List, [], ◌∷◌, ◌++◌, map, ℕ, get_or}
+use Rattle.std.specs.Prelude.{◌≡◌, List, [], ◌∷◌, ◌++◌, map, ℕ, get_or, None, Some}
 use Prim.Native.String.{String}
 use Rattle.requests.specs.declared.CounterSet.{CounterSet}
-use Rattle.requests.specs.declared.Core.TheVariants.{NoCore}
 use Rattle.requests.specs.declared.Setup.{Setup}
 use Rattle.requests.specs.declared.Request.TheVariants.{Event, Packet, Offcore, Latency}
 use Rattle.grammar.specs.Text.{bytes, hex_digit, decimal_text, hex_text, line_of}
@@ -11,7 +10,6 @@ use Rattle.grammar.specs.Fields.{fields}
 use Rattle.grammar.specs.Numbers.{digit_of, core_number_of}
 use Rattle.grammar.specs.Parse.{longest}
 use Rattle.grammar.specs.Records.{core_text, record_fields, record_text}
-use Rattle.grammar.specs.declared.Number.TheVariants.{Value}
 use Rattle.grammar.specs.declared.Record.{Record}
 use Rattle.grammar.specs.declared.Record.TheVariants.{Open, Add, Drop, Turn}
 
@@ -63,8 +61,8 @@ pub record LineBytes : Type 0 where
   pub drop : (id : ℕ) → verb_of (Drop id) ≡ 100 ∷ 114 ∷ 111 ∷ 112 ∷ []
   pub turn : record_text Turn ≡ 116 ∷ 117 ∷ 114 ∷ 110 ∷ 10 ∷ []
   -- "core or `-` for none", written and read
-  pub no_core : core_text NoCore ≡ 45 ∷ []
-  pub no_core_read : core_number_of (45 ∷ []) ≡ Value 0
+  pub no_core : core_text None ≡ 45 ∷ []
+  pub no_core_read : core_number_of (45 ∷ []) ≡ Some 0
   -- "Hex is upper case": each digit, written and read
   pub digits : map hex_digit (0 ∷ 1 ∷ 2 ∷ 3 ∷ 4 ∷ 5 ∷ 6 ∷ 7 ∷ 8 ∷ 9 ∷ 10 ∷ 11 ∷ 12 ∷ 13 ∷ 14 ∷ 15 ∷ []) ≡ digit_bytes
   pub digits_read : map digit_of digit_bytes ≡ 0 ∷ 1 ∷ 2 ∷ 3 ∷ 4 ∷ 5 ∷ 6 ∷ 7 ∷ 8 ∷ 9 ∷ 10 ∷ 11 ∷ 12 ∷ 13 ∷ 14 ∷ 15 ∷ []

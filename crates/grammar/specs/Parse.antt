@@ -1,6 +1,5 @@
 -- Document 01, 'Lines': what a line of bytes is.
-use Rattle.std.specs.Prelude.{Bool, true, false, List, ℕ, ◌-◌, length, get_or, take, ltb, eqb}
-use Rattle.std.proofs.Math.Option.{Option, none, some}
+use Rattle.std.specs.Prelude.{Bool, true, false, List, ℕ, ◌-◌, length, get_or, take, ltb, eqb, Option, None, Some}
 use Rattle.requests.specs.declared.Refusal.{Refusal}
 use Rattle.requests.specs.declared.Refusal.TheVariants.{NotInGrammar}
 use Rattle.requests.specs.Choice.{pick}
@@ -43,6 +42,6 @@ parse_line line = parse_text (text_of line) (is_closed line) (ltb longest (text_
 -- by which row of the refusal table a line is refused for what it is: by none where it is a record or a request by name; by "1: the line is not
 -- in the grammar" whichever field is at fault
 unfoldable pub parsed_refusal : Parsed → Option Refusal
-parsed_refusal (Line r) = none
-parsed_refusal (Named id r) = none
-parsed_refusal (Fault k) = some NotInGrammar
+parsed_refusal (Line r) = None
+parsed_refusal (Named id r) = None
+parsed_refusal (Fault k) = Some NotInGrammar

@@ -1,9 +1,7 @@
 -- Document 01, 'Lines': the records, and the text of each.
-use Rattle.std.specs.Prelude.{List, [], ◌∷◌, ◌++◌, ℕ, ◌^◌, ◌<◌}
+use Rattle.std.specs.Prelude.{List, [], ◌∷◌, ◌++◌, ℕ, ◌^◌, ◌<◌, Option, None, Some}
 use Rattle.requests.specs.declared.Device.{Device}
 use Rattle.requests.specs.declared.Device.TheVariants.{G, S, C, B}
-use Rattle.requests.specs.declared.Core.{Core}
-use Rattle.requests.specs.declared.Core.TheVariants.{NoCore, At}
 use Rattle.requests.specs.declared.Overflow.{Overflow}
 use Rattle.requests.specs.declared.Setup.{Setup}
 use Rattle.requests.specs.declared.Request.{Request}
@@ -28,9 +26,9 @@ box_fields (C b) = decimal_text b ∷ []
 box_fields B = []
 
 -- "core or `-` for none"
-unfoldable pub core_text : Core → List ℕ
-core_text NoCore = bytes "-"
-core_text (At c) = decimal_text c
+unfoldable pub core_text : Option ℕ → List ℕ
+core_text None = bytes "-"
+core_text (Some c) = decimal_text c
 
 -- what an overflow does, "in two last fields of every `open` line"
 unfoldable pub overflow_fields : Overflow → List (List ℕ)
@@ -72,9 +70,9 @@ AddFits id (Offcore w a) = Decimal id × Hex 16 w × Decimal a.0
 AddFits id (Latency t a b) = Decimal id × Hex 4 t × Decimal a.0 × Decimal b.0
 
 -- a core that is given is a decimal
-abbrev pub CoreFits : Core → Type 0
-CoreFits NoCore = Unit {0}
-CoreFits (At c) = Decimal c
+abbrev pub CoreFits : Option ℕ → Type 0
+CoreFits None = Unit {0}
+CoreFits (Some c) = Decimal c
 
 -- the numbers of a record that opens fit their fields
 abbrev pub OpenFits : Setup → Type 0

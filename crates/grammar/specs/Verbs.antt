@@ -1,7 +1,6 @@
 -- Document 01, 'Lines': the record of each verb. Fields are read from the left; a missing field counts as an empty one.
-use Rattle.std.specs.Prelude.{Bool, List, [], ◌∷◌, ℕ, ◌+◌, length, get_or, set, eqb}
+use Rattle.std.specs.Prelude.{Bool, List, [], ◌∷◌, ℕ, ◌+◌, length, get_or, set, eqb, Option, None, Some}
 use Prim.Native.String.{String}
-use Rattle.std.proofs.Math.Option.{Option, none, some}
 use Rattle.requests.specs.declared.Device.{Device}
 use Rattle.requests.specs.declared.Device.TheVariants.{G, S, C, B}
 use Rattle.requests.specs.declared.CounterSet.{CounterSet}
@@ -11,17 +10,15 @@ use Rattle.grammar.specs.Text.{bytes}
 use Rattle.grammar.specs.Fields.{fields, field_at, same_bytes_lem}
 use Rattle.grammar.specs.Letters.{lettered}
 use Rattle.grammar.specs.Numbers.{decimal_of, hex_of, core_of, decimal_format, core_format, number_of}
-use Rattle.grammar.specs.declared.Number.{Number}
-use Rattle.grammar.specs.declared.Number.TheVariants.{Value, Bad}
 use Rattle.grammar.specs.declared.Record.{Record}
 use Rattle.grammar.specs.declared.Record.TheVariants.{Open, Add, Drop, Turn}
 use Rattle.grammar.specs.declared.Parsed.{Parsed}
 use Rattle.grammar.specs.declared.Parsed.TheVariants.{Line, Fault}
 
 -- what follows a number, or the field at fault
-abbrev pub with_number : Number → ℕ → (ℕ → Parsed) → Parsed
-with_number (Value n) k next = next n
-with_number Bad k next = Fault k
+abbrev pub with_number : Option ℕ → ℕ → (ℕ → Parsed) → Parsed
+with_number (Some n) k next = next n
+with_number None k next = Fault k
 
 -- whether a text has n fields in all, and is closed by a newline
 abbrev pub is_whole : List ℕ → Bool → ℕ → Bool
@@ -52,8 +49,8 @@ number_line first formats t closed made = line_from formats t closed first 0 (0 
 
 -- what follows a device, or the field at fault
 abbrev pub with_device : Option Device → ℕ → (Device → Parsed) → Parsed
-with_device (some d) k next = next d
-with_device none k next = Fault k
+with_device (Some d) k next = next d
+with_device None k next = Fault k
 
 -- the formats of the fields behind a device's letter: usable, fixed, the box on C, freeze and core
 unfoldable pub open_formats : Device → List ℕ
@@ -142,4 +139,4 @@ verbs t =
 
 -- the record of a text that is closed by a newline, or not
 unfoldable pub record_of : List ℕ → Bool → Parsed
-record_of t closed = elim (first_holding (verbs t)) [ none ↦ Fault 0 | some read ↦ read t closed ]
+record_of t closed = elim (first_holding (verbs t)) [ None ↦ Fault 0 | Some read ↦ read t closed ]

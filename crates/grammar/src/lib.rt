@@ -23,17 +23,3 @@ pub enum Parsed {
     Named { id: u64, request: Request },
     Fault(usize),
 }
-
-// The device whose letter a field is, as its box 0.
-#[derive(Clone, Copy)]
-pub enum Lettered {
-    Known(Device),
-    Unknown,
-}
-
-// What a field is that has to be a number. It has no number of its own in the refusal table.
-#[derive(Clone, Copy)]
-pub enum Number {
-    Value(u64),
-    Bad,
-}

@@ -1,6 +1,7 @@
 -- The list in a C-Box beside the list on S, part by part. Assumes nothing.
 --     as-joined, rows-as   two lists after two others; the writes of a set
 --     uses-same            the event words are the same
+use Rattle.std.specs.Prelude.{Option, None, Some}
 use mathlib.Core.Path.{◌≡◌, refl, sym, ap, subst, ◌∙◌, fun_ext}
 use mathlib.Core.Bool.{Bool, true, false}
 use mathlib.Core.List.{List, [], ◌∷◌, ◌++◌, Memᴰ, append-nil}
@@ -119,12 +120,12 @@ module _ (g : ℕ) where
   as_global : (v w : ℕ) → v % 16 ≡ w % 16 → AsOnS g ((0x0C40, v) ∷ []) ((g, w) ∷ [])
   as_global v w e = as_one (0x0C40, v) (g, w) (below_filters 0x0C40 (omega arith)) (below_four g (omega arith)) (global e)
 
-  as_filters : (packets : Bool) (x y : ℕ) → AsOnS g (packet_writes packets x y) []
+  as_filters : (packet : Option (ℕ × ℕ)) → AsOnS g (packet_writes packet) []
   unfolding packet_writes mm_cfg_at match_at mask_at
-  as_filters true x y =
+  as_filters (Some p) =
       let cfg : (v : ℕ) → AsOnS g ((0x0E48, v) ∷ []) [] = λ v. as_filter (0x0E48, v) (Memᴰ.head refl) in
-      as_joined (as_joined (as_joined (cfg 0) (as_filter (0x0E49, x) (Memᴰ.tail (Memᴰ.head refl)))) (as_filter (0x0E4A, y) (Memᴰ.tail (Memᴰ.tail (Memᴰ.head refl))))) (cfg _)
-  as_filters false x y = as_filter (0x0E48, 0) (Memᴰ.head refl)
+      as_joined (as_joined (as_joined (cfg 0) (as_filter (0x0E49, p.0) (Memᴰ.tail (Memᴰ.head refl)))) (as_filter (0x0E4A, p.1) (Memᴰ.tail (Memᴰ.tail (Memᴰ.head refl))))) (cfg _)
+  as_filters None = as_filter (0x0E48, 0) (Memᴰ.head refl)
 
 -- ---- the values
 
@@ -175,7 +176,7 @@ module _ (b : ℕ) (s : Setup) (rs : List Request) (ps : List Place) where
       (as_joined g (as_joined g (as_joined g (as_joined g (as_joined g (as_joined g
       (as_global g (first_global (on_device S s)) (first_global (on_device (C b) s)) first_same)
       (as_selects g s.usable s.usable (λ k l. refl) zeros))
-      (as_filters g t.packets t.match_word t.mask_word))
+      (as_filters g t.packet))
       (as_counts g t.used v.used used_same zeros))
       words)
       (as_none g))

@@ -15,15 +15,14 @@ use Rattle.requests.specs.Devices.{has, capacity}
 use Rattle.plans.specs.LegalInWords.{InSet}
 use Rattle.plans.proofs.LegalInWordsHolds.{has_in, in_has}
 use Rattle.layouts.specs.Layout.{event_word, code_of, offcore_code, rsp_mask, rsp_word, packet_word}
-use Rattle.layouts.specs.Read.{ours, filter_of, tell, cell, reading_of}
+use Rattle.layouts.specs.Read.{ours, filter_of, tell, states_of, reading_of}
 use Rattle.layouts.specs.EventWords.{enabling_of}
 use Rattle.layouts.specs.CounterReadings.{Accepts, state_at, word_in, CounterReadings}
 use Rattle.layouts.specs.declared.FilterValues.{FilterValues}
 use Rattle.layouts.specs.declared.RegisterValues.{RegisterValues}
 use Rattle.layouts.specs.declared.FilterRead.TheVariants.{NoFilter, Rsp, MatchMask}
 use Rattle.layouts.specs.declared.CounterState.TheVariants.{NotOurs, Off, Counts}
-use Rattle.layouts.specs.declared.CounterRead.{CounterRead}
-use Rattle.layouts.specs.declared.Reading.{Reading}
+use Rattle.layouts.specs.Read.{Reading}
 use Rattle.layouts.proofs.Tabulated.{get_d_tabulate}
 use Rattle.layouts.proofs.UsableSets.{on}
 use Rattle.layouts.proofs.ControlWords.{word_parts}
@@ -36,8 +35,8 @@ module _ (o : Opening) (s : Setup) (v : RegisterValues) (h : Accepts o s v) (k :
   state : state_at o v k ≡ pick (has s.usable k) (tell s v.filters (pick (has s.usable k) (word_in v k) 0)) NotOurs
   unfolding reading_of capacity ours
   state =
-      ap (λ (r : Reading). (get_or r.counters k (cell NotOurs)).state) (read_accepted o s v h.0 (accepted_test o s v h.0 h.1))
-      ∙ ap (λ (c : CounterRead). c.state) (get_d_tabulate 8 (λ k. cell (pick (has s.usable k) (tell s v.filters (ours s v k)) NotOurs)) k (cell NotOurs) l)
+      ap (λ (r : Reading). get_or (states_of r) k NotOurs) (read_accepted o s v h.0 (accepted_test o s v h.0 h.1))
+      ∙ get_d_tabulate 8 (λ k. pick (has s.usable k) (tell s v.filters (ours s v k)) NotOurs) k NotOurs l
 
   not_ours : ¬ InSet s.usable k → state_at o v k ≡ NotOurs
   not_ours unusable = state ∙ go (has s.usable k) refl

@@ -1,5 +1,6 @@
 -- The words in the control registers, as numbers: a use of the plan is at its counter (`word-of`), and counters differ. Assumes nothing.
 --     enabling-is   the bits that every event word of a session has, in numbers
+use Rattle.std.specs.Prelude.{Option, None, Some}
 use mathlib.Core.Path.{◌≡◌, refl, sym, ap, subst, ◌∙◌}
 use mathlib.Core.Logic.{◌≢◌, ⊎_elim}
 use mathlib.Core.Bool.{Bool, true, false}
@@ -7,8 +8,6 @@ use mathlib.Core.List.{List, [], ◌∷◌, ◌++◌, map, Memᴰ}
 use Prim.Native.Nat.{ℕ, zero, suc, ◌+◌, ◌*◌, ◌<◌}
 use native.Mathlib.Omega.{arith}
 use borrow.Author.Tests.{eq-eqb, ne_eqb}
-use Rattle.requests.specs.declared.Core.{Core}
-use Rattle.requests.specs.declared.Core.TheVariants.{NoCore, At}
 use Rattle.requests.specs.declared.Device.{Device}
 use Rattle.requests.specs.declared.Device.TheVariants.{G, S, C, B}
 use Rattle.requests.specs.declared.Setup.{Setup}
@@ -37,13 +36,13 @@ pub enabling_is : (s : Setup) → enabled s ≡ enabling_of s
 unfolding enabled enabled_on asked overflow_on asks core_given pmi_enable both either
 enabling_is s = go s.device s.overflow.freeze s.overflow.core
   where
-    go : (d : Device) (f : ℕ) (c : Core) → enabled_on d + pick (both (overflow_on d) (asks (record { freeze = f; core = c }))) 0x100000 0 ≡ enabling d f c
+    go : (d : Device) (f : ℕ) (c : Option ℕ) → enabled_on d + pick (both (overflow_on d) (asks (record { freeze = f; core = c }))) 0x100000 0 ≡ enabling d f c
     go G f c = refl
-    go S zero NoCore = refl
-    go S zero (At c) = refl
+    go S zero None = refl
+    go S zero (Some c) = refl
     go S (suc f) c = rw (ne_eqb (suc f) 0 (λ e. omega arith))
-    go (C b) zero NoCore = refl
-    go (C b) zero (At c) = refl
+    go (C b) zero None = refl
+    go (C b) zero (Some c) = refl
     go (C b) (suc f) c = rw (ne_eqb (suc f) 0 (λ e. omega arith))
     go B f c = refl
 

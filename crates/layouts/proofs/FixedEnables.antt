@@ -1,7 +1,7 @@
 -- The global register carries the number that open was given: `FixedEnables`, by the two values that are written there, and for the reader by
 -- the plan that left an accepted value.
+use Rattle.std.specs.Prelude.{None, Some}
 use mathlib.Core.Path.{◌≡◌, sym, subst, ◌∙◌}
-use mathlib.Core.Option.{none, some}
 use mathlib.Core.List.{List, Memᴰ}
 use Prim.Native.Nat.{ℕ, ◌≤◌}
 use Rattle.requests.specs.declared.Opening.{Opening}
@@ -16,7 +16,7 @@ use Rattle.plans.specs.Legal.{Legal}
 use Rattle.layouts.specs.Layout.{layout_of}
 use Rattle.layouts.specs.Settings.{settings_of}
 use Rattle.layouts.specs.Writes.{writes}
-use Rattle.layouts.specs.Read.{read_of}
+use Rattle.layouts.specs.Read.{read_of, answer_of}
 use Rattle.layouts.specs.FixedEnables.{Carries, FixedEnables}
 use Rattle.layouts.specs.declared.RegisterValues.{RegisterValues}
 use Rattle.layouts.proofs.GlobalValues.{first_carries, last_carries}
@@ -25,7 +25,7 @@ use Rattle.layouts.proofs.PlanWords.{global_left}
 use Rattle.layouts.proofs.ExactReader.{exact_reader}
 
 -- the number of an opening that is taken: the setup's, and one of the device's
-module _ (o : Opening) (s : Setup) (opened : setup_of o ≡ some s) where
+module _ (o : Opening) (s : Setup) (opened : setup_of o ≡ Some s) where
   number : o.fixed ≡ s.fixed
   number = (openings.only o s opened).fixed
 
@@ -37,7 +37,7 @@ module _ (o : Opening) (s : Setup) (opened : setup_of o ≡ some s) where
   written rs ps legal v m =
       rw number (global_all s rs ps (Carries s.fixed (all_counters s.device)) (first_carries s few) (last_carries s rs ps legal few) v m)
 
-  read : (v : RegisterValues) → answer_number (read_of o v).answer ≡ none → Carries o.fixed (all_counters s.device) v.global
+  read : (v : RegisterValues) → answer_number (answer_of (read_of o v)) ≡ None → Carries o.fixed (all_counters s.device) v.global
   unfolding settings_of
   read v accepted =
       let plan = exact_reader.only o s v opened accepted in

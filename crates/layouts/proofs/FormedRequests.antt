@@ -1,7 +1,7 @@
 -- Well-formed requests, as the checks have them and as the paragraphs describe them: `well-formed-requests` carries one into the other.
+use Rattle.std.specs.Prelude.{Option, None, Some}
 use mathlib.Core.Path.{◌≡◌, refl, sym, ◌∙◌}
 use mathlib.Core.Bool.{true, true≢false}
-use mathlib.Core.Option.{Option, none, some}
 use mathlib.Core.List.{List}
 use Rattle.requests.specs.declared.Setup.{Setup}
 use Rattle.requests.specs.declared.Request.{Request}
@@ -29,5 +29,5 @@ module _ (s : Setup) where
   passes_described r h = go (request_refusal s r) refl
     where
       go : (o : Option Refusal) → request_refusal s r ≡ o → Described s r
-      go none e = well_formed_requests.described s r e
-      go (some x) e = absurd (true≢false (sym h ∙ rw e))
+      go None e = well_formed_requests.described s r e
+      go (Some x) e = absurd (true≢false (sym h ∙ rw e))

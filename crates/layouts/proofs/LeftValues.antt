@@ -26,15 +26,14 @@ use Rattle.plans.specs.Lists.{All, nil, OneValue}
 use Rattle.plans.specs.Legal.{Legal, words_of, packets_of, of_all, counters}
 use Rattle.plans.proofs.Sets.{all_imp}
 use Rattle.layouts.specs.Layout.{filters_at, rsp0_at, rsp1_at, mm_cfg_at, match_at, mask_at, pebs_on, mm_enable, event_word, rsp_word, packet_word}
-use Rattle.layouts.specs.Settings.{word_at, set_from, head_or, nonempty, settings_of}
+use Rattle.layouts.specs.Settings.{word_at, set_from, head_of, head_or, nonempty, settings_of}
 use Rattle.layouts.specs.Writes.{last_global, ubox_value, offcore_writes, packet_writes, filter_writes, pebs_enable, writes, apply}
-use Rattle.layouts.specs.Read.{ours, no_counter, filter_word, control_fits, ubox_fits, pebs_fits, accepts, tell, cell, reading_of}
+use Rattle.layouts.specs.Read.{ours, no_counter, filter_word, control_fits, ubox_fits, pebs_fits, accepts, tell, reading_of}
 use Rattle.layouts.specs.Told.{not_ours, told, told_by, told_of, told_at, told_plan}
 use Rattle.layouts.specs.ExactReader.{FiltersShow, LeavesValues}
 use Rattle.layouts.specs.declared.FilterValues.{FilterValues}
 use Rattle.layouts.specs.declared.RegisterValues.{RegisterValues}
 use Rattle.layouts.specs.declared.CounterState.TheVariants.{NotOurs}
-use Rattle.layouts.specs.declared.CounterRead.{CounterRead}
 use Rattle.layouts.proofs.ListLaws.{one_value, map_tabulate, tabulate_same}
 use Rattle.layouts.proofs.CounterSets.{set_same}
 use Rattle.layouts.proofs.RegistersAfter.{after}
@@ -50,20 +49,20 @@ use Rattle.layouts.proofs.PlanTold.{Holds, tell_plan}
 -- ---- filter values
 
 -- what the writes of the match/mask register leave in it
-mm_cfg_after : (b : Bool) (x y z : ℕ) → after (packet_writes b x y) mm_cfg_at z ≡ pick b (2 ^ mm_enable) 0
+mm_cfg_after : (asked : List (ℕ × ℕ)) (z : ℕ) → after (packet_writes (head_of asked)) mm_cfg_at z ≡ pick (nonempty asked) (2 ^ mm_enable) 0
 unfolding after packet_writes mm_cfg_at match_at mask_at
-mm_cfg_after true x y z = refl
-mm_cfg_after false x y z = refl
+mm_cfg_after [] z = refl
+mm_cfg_after (p ∷ asked) z = refl
 
-match_after : (b : Bool) (x y z : ℕ) → after (packet_writes b x y) match_at z ≡ pick b x z
+match_after : (asked : List (ℕ × ℕ)) (z : ℕ) → after (packet_writes (head_of asked)) match_at z ≡ pick (nonempty asked) (head_or (0, 0) asked).0 z
 unfolding after packet_writes mm_cfg_at match_at mask_at
-match_after true x y z = refl
-match_after false x y z = refl
+match_after [] z = refl
+match_after (p ∷ asked) z = refl
 
-mask_after : (b : Bool) (x y z : ℕ) → after (packet_writes b x y) mask_at z ≡ pick b y z
+mask_after : (asked : List (ℕ × ℕ)) (z : ℕ) → after (packet_writes (head_of asked)) mask_at z ≡ pick (nonempty asked) (head_or (0, 0) asked).1 z
 unfolding after packet_writes mm_cfg_at match_at mask_at
-mask_after true x y z = refl
-mask_after false x y z = refl
+mask_after [] z = refl
+mask_after (p ∷ asked) z = refl
 
 -- the filter registers after the writes of a plan
 module _ (u : Setup) (rs : List Request) (ps : List Place) (registers : ℕ → ℕ) where
@@ -83,19 +82,19 @@ module _ (u : Setup) (rs : List Request) (ps : List Place) (registers : ℕ → 
 
   pub mm_cfg_left : left S mm_cfg_at ≡ pick (nonempty packets) (2 ^ mm_enable) 0
   unfolding filter_writes settings_of filters_at
-  mm_cfg_left = filter_left (on S u) rs ps registers mm_cfg_at (Memᴰ.head refl) ∙ mm_cfg_after (nonempty packets) (head_or (0, 0) packets).0 (head_or (0, 0) packets).1 (registers mm_cfg_at)
+  mm_cfg_left = filter_left (on S u) rs ps registers mm_cfg_at (Memᴰ.head refl) ∙ mm_cfg_after packets (registers mm_cfg_at)
 
   pub match_left : left S match_at ≡ pick (nonempty packets) (head_or (0, 0) packets).0 (registers match_at)
   unfolding filter_writes settings_of filters_at
   match_left =
       filter_left (on S u) rs ps registers match_at (Memᴰ.tail (Memᴰ.head refl))
-      ∙ match_after (nonempty packets) (head_or (0, 0) packets).0 (head_or (0, 0) packets).1 (registers match_at)
+      ∙ match_after packets (registers match_at)
 
   pub mask_left : left S mask_at ≡ pick (nonempty packets) (head_or (0, 0) packets).1 (registers mask_at)
   unfolding filter_writes settings_of filters_at
   mask_left =
       filter_left (on S u) rs ps registers mask_at (Memᴰ.tail (Memᴰ.tail (Memᴰ.head refl)))
-      ∙ mask_after (nonempty packets) (head_or (0, 0) packets).0 (head_or (0, 0) packets).1 (registers mask_at)
+      ∙ mask_after packets (registers mask_at)
 
 pair_path : (p : ℕ × ℕ) (x y : ℕ) → x ≡ p.0 → y ≡ p.1 → p ≡ (x, y)
 pair_path p x y e q = λ i. (sym e i, sym q i)
@@ -236,7 +235,7 @@ module _ (s : Setup) (v : RegisterValues) (within : Within s) (plan : LeavesValu
   pub left_told : told_by (reading_of s v) ≡ told_plan s plan.requests plan.places
   unfolding told_by reading_of told_plan told
   left_told =
-      map_tabulate (λ (c : CounterRead). told c.state) capacity (λ k. cell (pick (has s.usable k) (tell s v.filters (ours s v k)) NotOurs))
+      map_tabulate told capacity (λ k. pick (has s.usable k) (tell s v.filters (ours s v k)) NotOurs)
       ∙ tabulate_same capacity (λ k. told (pick (has s.usable k) (tell s v.filters (ours s v k)) NotOurs))
       (λ k. pick (has s.usable k) (told_at (of_all told_of plan.requests plan.places) k) not_ours) (λ k l. go k (has s.usable k))
     where

@@ -1,4 +1,5 @@
 -- No reserved bit of the published layouts is set: `NoReservedBit`, write by write (`writes-all`), register by register.
+use Rattle.std.specs.Prelude.{Option, None, Some}
 use mathlib.Core.Path.{◌≡◌, refl, sym, subst, ◌∙◌}
 use mathlib.Core.Logic.{⊎_elim}
 use mathlib.Core.Bool.{Bool, true, false, true≢false}
@@ -12,8 +13,6 @@ use lib.ListN.{get_or}
 use Rattle.requests.specs.Choice.{both, either, every, pick}
 use Rattle.requests.specs.declared.Device.{Device}
 use Rattle.requests.specs.declared.Device.TheVariants.{G, S, C, B}
-use Rattle.requests.specs.declared.Core.{Core}
-use Rattle.requests.specs.declared.Core.TheVariants.{NoCore, At}
 use Rattle.requests.specs.declared.Setup.{Setup}
 use Rattle.requests.specs.declared.Request.{Request}
 use Rattle.requests.specs.declared.Request.TheVariants.{Packet, Offcore}
@@ -28,7 +27,7 @@ use Rattle.plans.specs.Lists.{All, nil, cons, Each}
 use Rattle.plans.specs.Legal.{Allowed, Legal, words_of, packets_of, of_all}
 use Rattle.plans.proofs.Sets.{all_imp}
 use Rattle.layouts.specs.Layout.{tabulate, Register, registers_of, layout_of, control_at, counter_at_lem, filters_at, rsp0_at, rsp1_at, mm_cfg_at, match_at, mask_at, ubox_at, pebs_at, pebs_on, pebs_bits, mm_enable, frz_all, en_all, core_sel, precise_store, is_event, ubox_bits, global_bits, control_bits}
-use Rattle.layouts.specs.Settings.{uses_of, word_at, head_or, nonempty, settings_of}
+use Rattle.layouts.specs.Settings.{uses_of, word_at, head_of, head_or, settings_of}
 use Rattle.layouts.specs.Writes.{Write, first_global, last_global, offcore_writes, packet_writes, filter_writes, pebs_enable, precise_writes, core_bit, ubox_value, writes}
 use Rattle.layouts.specs.Read.{no_counter}
 use Rattle.layouts.specs.NoReservedBit.{Clean, AsksOutstanding, NoReservedBit}
@@ -146,10 +145,10 @@ unfolding ubox_bits field rising only_bits both every either bit in_list
 cores_clean true = refl
 cores_clean false = refl
 
-core_clean : (off : Bool) (c : Core) → only_bits ubox_bits (2 ^ 28 + pick off 0 (2 ^ 31) + core_bit c) ≡ true
+core_clean : (off : Bool) (c : Option ℕ) → only_bits ubox_bits (2 ^ 28 + pick off 0 (2 ^ 31) + core_bit c) ≡ true
 unfolding core_bit core_count core_sel
-core_clean off NoCore = rw (add-zero (2 ^ 28 + pick off 0 (2 ^ 31))) (plain_clean off)
-core_clean off (At c) = go (ltb c 8) refl
+core_clean off None = rw (add-zero (2 ^ 28 + pick off 0 (2 ^ 31))) (plain_clean off)
+core_clean off (Some c) = go (ltb c 8) refl
   where
     go : (b : Bool) → ltb c 8 ≡ b → only_bits ubox_bits (2 ^ 28 + pick off 0 (2 ^ 31) + pick b (2 ^ (1 + c)) 0) ≡ true
     go true h = every_at 8 (λ c. only_bits ubox_bits (2 ^ 28 + pick off 0 (2 ^ 31) + 2 ^ (1 + c))) (cores_clean off) c (ltb-true c 8 h)
@@ -202,7 +201,7 @@ packet_clean s x y (packet g m k c) = (m, k)
 
 -- the writes of the match/mask register, with the words of the first packet request where there is one
 packets_clean : (u : Setup) (asked : List (ℕ × ℕ)) → All (λ (p : ℕ × ℕ). Described (on S u) (Packet p.0 p.1 no_counter)) asked
-    → All (Clean (on S u)) (packet_writes (nonempty asked) (head_or (0, 0) asked).0 (head_or (0, 0) asked).1)
+    → All (Clean (on S u)) (packet_writes (head_of asked))
 unfolding packet_writes filter_registers filters_at mm_cfg_at match_at mask_at
 packets_clean u (p ∷ ps) (cons h hs) =
     let words = packet_clean (on S u) p.0 p.1 h in

@@ -1,8 +1,9 @@
 -- The reader's answer depends on nothing that it does not look at: `NotLookedAt`. Assumes nothing.
+use Rattle.layouts.specs.declared.CounterState.{CounterState}
+use Rattle.std.specs.Prelude.{Some, Ok}
 use mathlib.Core.Path.{◌≡◌, refl, sym, ap, ap₂, ◌∙◌, fun_ext}
 use mathlib.Core.Logic.{◌⊎◌, inl, inr, ⊎_elim}
 use mathlib.Core.Bool.{Bool, true, false, not}
-use mathlib.Core.Option.{some}
 use mathlib.Core.List.{List}
 use Prim.Native.Nat.{ℕ, ◌^◌, ◌<◌}
 use native.Mathlib.Decide.{ℕ_discrete}
@@ -16,19 +17,17 @@ use Rattle.requests.specs.declared.Device.{Device}
 use Rattle.requests.specs.declared.Device.TheVariants.{G, S, C, B}
 use Rattle.requests.specs.declared.Opening.{Opening}
 use Rattle.requests.specs.declared.Setup.{Setup}
-use Rattle.requests.specs.declared.Answer.TheVariants.{Accepted}
 use Rattle.requests.specs.Devices.{has, counter_count, capacity, setup_of}
 use Rattle.requests.proofs.Tests.{both_parts}
 use Rattle.layouts.specs.Layout.{tabulate, pebs_on, mm_enable, packet_word}
 use Rattle.layouts.specs.Settings.{set_from}
 use Rattle.layouts.specs.Writes.{last_global, ubox_value, pebs_enable}
-use Rattle.layouts.specs.Read.{ours, count, control_fits, packets_fit, filters_fit, ubox_fits, pebs_fits, rule_fits, accepts, filter_of, tell, cell, reading_of, read_of}
+use Rattle.layouts.specs.Read.{ours, count, control_fits, packets_fit, filters_fit, ubox_fits, pebs_fits, rule_fits, accepts, filter_of, tell, reading_of, read_of}
 use Rattle.layouts.specs.NotLookedAt.{SameFilters, SameLookedAt, NotLookedAt}
 use Rattle.layouts.specs.declared.CounterState.TheVariants.{NotOurs}
 use Rattle.layouts.specs.declared.FilterValues.{FilterValues}
 use Rattle.layouts.specs.declared.RegisterValues.{RegisterValues}
-use Rattle.layouts.specs.declared.CounterRead.{CounterRead}
-use Rattle.layouts.specs.declared.Reading.{Reading}
+use Rattle.layouts.specs.Read.{Reading}
 use Rattle.layouts.proofs.ListLaws.{tabulate_same}
 use Rattle.layouts.proofs.Counts.{count_zero}
 use Rattle.layouts.proofs.DeviceFacts.{pebs_of}
@@ -87,9 +86,9 @@ test s f g filters ubox pebs =
 
 -- the reading, given the control values that are looked at
 abbrev answer : Setup → (ℕ → ℕ) → FilterValues → Reading
-answer s f v = record { answer = Accepted; counters = tabulate capacity (λ k. cell (pick (has s.usable k) (tell s v (f k)) NotOurs)) }
+answer s f v = Ok (tabulate capacity (λ k. pick (has s.usable k) (tell s v (f k)) NotOurs))
 
-module _ (o : Opening) (s : Setup) (v w : RegisterValues) (opened : setup_of o ≡ some s) (same : SameLookedAt s v w) where
+module _ (o : Opening) (s : Setup) (v w : RegisterValues) (opened : setup_of o ≡ Some s) (same : SameLookedAt s v w) where
   ours_same : ours s v ≡ ours s w
   unfolding ours
   ours_same = fun_ext (λ k. go k (has s.usable k) refl)
@@ -127,15 +126,15 @@ module _ (o : Opening) (s : Setup) (v w : RegisterValues) (opened : setup_of o �
   unfolding accepts reading_of
   reading_same h =
       let fit : filters_fit s (ours s v) v.filters ≡ true = (both_parts _ _ (both_parts _ _ (both_parts _ _ h).1).1).0 in
-      ap (λ (cs : List CounterRead). record { answer = Accepted; counters = cs })
-      (tabulate_same capacity (λ k. cell (pick (has s.usable k) (tell s v.filters (ours s v k)) NotOurs))
-      (λ k. cell (pick (has s.usable k) (tell s w.filters (ours s v k)) NotOurs))
+      ap (λ (cs : List CounterState). Ok cs)
+      (tabulate_same capacity (λ k. pick (has s.usable k) (tell s v.filters (ours s v k)) NotOurs)
+      (λ k. pick (has s.usable k) (tell s w.filters (ours s v k)) NotOurs)
       (λ k l. go k fit (has s.usable k) refl))
       ∙ ap (λ (f : ℕ → ℕ). answer s f w.filters) ours_same
     where
       go : (k : ℕ) → filters_fit s (ours s v) v.filters ≡ true → (b : Bool) → has s.usable k ≡ b
-          → cell (pick b (tell s v.filters (ours s v k)) NotOurs) ≡ cell (pick b (tell s w.filters (ours s v k)) NotOurs)
-      go k fit true h = ap cell (tell_same s.device s (ours s v) v.filters w.filters k fit same.filters (usable_counter s k (usable_within o s opened) h))
+          → pick b (tell s v.filters (ours s v k)) NotOurs ≡ pick b (tell s w.filters (ours s v k)) NotOurs
+      go k fit true h = tell_same s.device s (ours s v) v.filters w.filters k fit same.filters (usable_counter s k (usable_within o s opened) h)
       go k fit false h = refl
 
 pub not_looked_at : NotLookedAt

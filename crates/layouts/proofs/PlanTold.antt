@@ -1,8 +1,8 @@
 -- What the reader tells of a plan's control word is what the plan has at that counter. Assumes nothing.
 --     tell-plan   counter by counter, where the filter registers hold what the requests ask for
+use Rattle.std.specs.Prelude.{None, Some}
 use mathlib.Core.Path.{◌≡◌, refl, sym, ap, ◌∙◌}
 use mathlib.Core.Bool.{Bool, true, false}
-use mathlib.Core.Option.{none, some}
 use mathlib.Core.List.{List, [], ◌∷◌, flat_map}
 use Prim.Native.Nat.{ℕ, zero, suc}
 use native.Mathlib.Omega.{arith}
@@ -39,7 +39,7 @@ tell_none : (s : Setup) (v : FilterValues) (k : ℕ) → told (tell s v (word_at
 unfolding tell told word_at told_at
 tell_none s v k = refl
 
-tell_event : (d : Device) (u : Setup) (v : FilterValues) (c m : ℕ) → pair_in (events_of d) c m ≡ true → told (tell (on d u) v (event_word (on d u) c m)) ≡ counting c m none []
+tell_event : (d : Device) (u : Setup) (v : FilterValues) (c m : ℕ) → pair_in (events_of d) c m ≡ true → told (tell (on d u) v (event_word (on d u) c m)) ≡ counting c m None []
 unfolding tell told filter_of
 tell_event G u v c m h =
     let l = listed G c m h in
@@ -58,15 +58,15 @@ tell_event B u v c m h =
     let p = word_parts (on B u) c m l.code l.mask in
     rw (ne_eqb (event_word (on B u) c m) 0 p.some_bit, p.code, p.mask)
 
-tell_rsp0 : (u : Setup) (v : FilterValues) → told (tell (on G u) v (rsp_word (on G u) 0)) ≡ counting offcore_code (rsp_mask 0) (some 0) (v.rsp0 ∷ [])
+tell_rsp0 : (u : Setup) (v : FilterValues) → told (tell (on G u) v (rsp_word (on G u) 0)) ≡ counting offcore_code (rsp_mask 0) (Some 0) (v.rsp0 ∷ [])
 unfolding tell told filter_of rsp_word event_word enabled enabled_on asked overflow_on both offcore_code rsp_mask code_of mask_of
 tell_rsp0 u v = refl
 
-tell_rsp1 : (u : Setup) (v : FilterValues) → told (tell (on G u) v (rsp_word (on G u) 1)) ≡ counting offcore_code (rsp_mask 1) (some 1) (v.rsp1 ∷ [])
+tell_rsp1 : (u : Setup) (v : FilterValues) → told (tell (on G u) v (rsp_word (on G u) 1)) ≡ counting offcore_code (rsp_mask 1) (Some 1) (v.rsp1 ∷ [])
 unfolding tell told filter_of rsp_word event_word enabled enabled_on asked overflow_on both offcore_code rsp_mask code_of mask_of
 tell_rsp1 u v = refl
 
-tell_packet : (u : Setup) (v : FilterValues) → told (tell (on S u) v (packet_word (on S u))) ≡ counting 0 0 none (v.match_word ∷ v.mask_word ∷ [])
+tell_packet : (u : Setup) (v : FilterValues) → told (tell (on S u) v (packet_word (on S u))) ≡ counting 0 0 None (v.match_word ∷ v.mask_word ∷ [])
 unfolding tell told filter_of packet_word
 tell_packet u v =
     let p = word_parts (on S u) 0 0 (omega arith) (omega arith) in
@@ -99,21 +99,21 @@ module _ (u : Setup) (v : FilterValues) (k : ℕ) where
   unfolding of_all uses_of told_of words_of first second
   tell_g nil lists.none xs ys = tell_none (on G u) v k
   tell_g (cons (event {c = c} {m = m} h a) fs) (and {s = rs} {t = ps} (plans.event {k = j} b) es) xs ys =
-      tell_use (on G u) v k j (event_word (on G u) c m) (counting c m none []) (of_all (uses_of (on G u)) rs ps) (of_all told_of rs ps) (tell_event G u v c m h) (tell_g fs es xs ys)
+      tell_use (on G u) v k j (event_word (on G u) c m) (counting c m None []) (of_all (uses_of (on G u)) rs ps) (of_all told_of rs ps) (tell_event G u v c m h) (tell_g fs es xs ys)
   tell_g (cons (packet g x y a) fs) (and (plans.packet b) es) xs ys = absurd (devices_differ g)
   tell_g (cons (offcore {w = w} g h t o c) fs) (and {s = rs} {t = ps} (plans.offcore {k = j} {i = zero} b l) es) (cons e xs) ys =
-      tell_use (on G u) v k j (rsp_word (on G u) 0) (counting offcore_code (rsp_mask 0) (some 0) (w ∷ [])) (of_all (uses_of (on G u)) rs ps) (of_all told_of rs ps)
-      (tell_rsp0 u v ∙ ap (λ (x : ℕ). counting offcore_code (rsp_mask 0) (some 0) (x ∷ [])) (sym e)) (tell_g fs es xs ys)
+      tell_use (on G u) v k j (rsp_word (on G u) 0) (counting offcore_code (rsp_mask 0) (Some 0) (w ∷ [])) (of_all (uses_of (on G u)) rs ps) (of_all told_of rs ps)
+      (tell_rsp0 u v ∙ ap (λ (x : ℕ). counting offcore_code (rsp_mask 0) (Some 0) (x ∷ [])) (sym e)) (tell_g fs es xs ys)
   tell_g (cons (offcore {w = w} g h t o c) fs) (and {s = rs} {t = ps} (plans.offcore {k = j} {i = suc zero} b l) es) xs (cons e ys) =
-      tell_use (on G u) v k j (rsp_word (on G u) 1) (counting offcore_code (rsp_mask 1) (some 1) (w ∷ [])) (of_all (uses_of (on G u)) rs ps) (of_all told_of rs ps)
-      (tell_rsp1 u v ∙ ap (λ (x : ℕ). counting offcore_code (rsp_mask 1) (some 1) (x ∷ [])) (sym e)) (tell_g fs es xs ys)
+      tell_use (on G u) v k j (rsp_word (on G u) 1) (counting offcore_code (rsp_mask 1) (Some 1) (w ∷ [])) (of_all (uses_of (on G u)) rs ps) (of_all told_of rs ps)
+      (tell_rsp1 u v ∙ ap (λ (x : ℕ). counting offcore_code (rsp_mask 1) (Some 1) (x ∷ [])) (sym e)) (tell_g fs es xs ys)
   tell_g (cons (offcore g h t o c) fs) (and (plans.offcore {i = suc (suc i)} b l) es) xs ys = absurd (omega arith)
   tell_g (cons (latency {t = t} g h o c d) fs) (and {s = rs} {t = ps} (plans.latency {j = i} {k = j} x y) es) (cons e xs) (cons q ys) =
-      let second-told = counting offcore_code (rsp_mask 1) (some 1) (latency_word 1 t ∷ []) in
-      tell_use (on G u) v k i (rsp_word (on G u) 0) (counting offcore_code (rsp_mask 0) (some 0) (latency_word 0 t ∷ [])) ((j, rsp_word (on G u) 1) ∷ of_all (uses_of (on G u)) rs ps) ((j, second-told) ∷ of_all told_of rs ps)
-      (tell_rsp0 u v ∙ ap (λ (x : ℕ). counting offcore_code (rsp_mask 0) (some 0) (x ∷ [])) (sym e))
+      let second-told = counting offcore_code (rsp_mask 1) (Some 1) (latency_word 1 t ∷ []) in
+      tell_use (on G u) v k i (rsp_word (on G u) 0) (counting offcore_code (rsp_mask 0) (Some 0) (latency_word 0 t ∷ [])) ((j, rsp_word (on G u) 1) ∷ of_all (uses_of (on G u)) rs ps) ((j, second-told) ∷ of_all told_of rs ps)
+      (tell_rsp0 u v ∙ ap (λ (x : ℕ). counting offcore_code (rsp_mask 0) (Some 0) (x ∷ [])) (sym e))
       (tell_use (on G u) v k j (rsp_word (on G u) 1) second-told (of_all (uses_of (on G u)) rs ps) (of_all told_of rs ps)
-      (tell_rsp1 u v ∙ ap (λ (x : ℕ). counting offcore_code (rsp_mask 1) (some 1) (x ∷ [])) (sym q)) (tell_g fs es xs ys))
+      (tell_rsp1 u v ∙ ap (λ (x : ℕ). counting offcore_code (rsp_mask 1) (Some 1) (x ∷ [])) (sym q)) (tell_g fs es xs ys))
 
   tell_s : {rs : List Request} {ps : List Place} → All (Described (on S u)) rs → Each Allowed rs ps
       → All (λ (p : ℕ × ℕ). p ≡ (v.match_word, v.mask_word)) (flat_map packets_of rs)
@@ -121,10 +121,10 @@ module _ (u : Setup) (v : FilterValues) (k : ℕ) where
   unfolding of_all uses_of told_of flat_map packets_of first second
   tell_s nil lists.none xs = tell_none (on S u) v k
   tell_s (cons (event {c = c} {m = m} h a) fs) (and {s = rs} {t = ps} (plans.event {k = j} b) es) xs =
-      tell_use (on S u) v k j (event_word (on S u) c m) (counting c m none []) (of_all (uses_of (on S u)) rs ps) (of_all told_of rs ps) (tell_event S u v c m h) (tell_s fs es xs)
+      tell_use (on S u) v k j (event_word (on S u) c m) (counting c m None []) (of_all (uses_of (on S u)) rs ps) (of_all told_of rs ps) (tell_event S u v c m h) (tell_s fs es xs)
   tell_s (cons (packet {x = x} {y = y} g m l a) fs) (and {s = rs} {t = ps} (plans.packet {k = j} b) es) (cons e xs) =
-      tell_use (on S u) v k j (packet_word (on S u)) (counting 0 0 none (x ∷ y ∷ [])) (of_all (uses_of (on S u)) rs ps) (of_all told_of rs ps)
-      (tell_packet u v ∙ ap (λ (p : ℕ × ℕ). counting 0 0 none (p.0 ∷ p.1 ∷ [])) (sym e)) (tell_s fs es xs)
+      tell_use (on S u) v k j (packet_word (on S u)) (counting 0 0 None (x ∷ y ∷ [])) (of_all (uses_of (on S u)) rs ps) (of_all told_of rs ps)
+      (tell_packet u v ∙ ap (λ (p : ℕ × ℕ). counting 0 0 None (p.0 ∷ p.1 ∷ [])) (sym e)) (tell_s fs es xs)
   tell_s (cons (offcore g h t o c) fs) (and (plans.offcore b l) es) xs = absurd (devices_differ (sym g))
   tell_s (cons (latency g h o c d) fs) (and (plans.latency x y) es) xs = absurd (devices_differ (sym g))
 
@@ -134,7 +134,7 @@ module _ (u : Setup) (v : FilterValues) (k : ℕ) where
   unfolding of_all uses_of told_of first second
   tell_bare d no-g no-s nil lists.none = tell_none (on d u) v k
   tell_bare d no-g no-s (cons (event {c = c} {m = m} h a) fs) (and {s = rs} {t = ps} (plans.event {k = j} x) es) =
-      tell_use (on d u) v k j (event_word (on d u) c m) (counting c m none []) (of_all (uses_of (on d u)) rs ps) (of_all told_of rs ps) (tell_event d u v c m h) (tell_bare d no-g no-s fs es)
+      tell_use (on d u) v k j (event_word (on d u) c m) (counting c m None []) (of_all (uses_of (on d u)) rs ps) (of_all told_of rs ps) (tell_event d u v c m h) (tell_bare d no-g no-s fs es)
   tell_bare d no-g no-s (cons (packet g m l a) fs) (and (plans.packet x) es) = absurd (no-s g)
   tell_bare d no-g no-s (cons (offcore g h t o c) fs) (and (plans.offcore x l) es) = absurd (no-g g)
   tell_bare d no-g no-s (cons (latency g h o c e) fs) (and (plans.latency x y) es) = absurd (no-g g)

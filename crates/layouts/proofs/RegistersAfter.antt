@@ -3,6 +3,7 @@
 --     control-after, counter-after, global-after, filter-after, precise-after   the registers of a device after `writesFor`
 --     box-all, writes-all                       what holds of every write of `boxWrites` and of `writesFor`
 --     inside-after, ubox-after                  the frame of the U-Box: other registers, and its own
+use Rattle.std.specs.Prelude.{Option, None, Some}
 use mathlib.Core.Path.{◌≡◌, refl, sym, ap, ap₂, ◌∙◌}
 use mathlib.Core.Bool.{Bool, true, false}
 use mathlib.Core.List.{List, [], ◌∷◌, ◌++◌, Memᴰ, append-nil, map, map-append}
@@ -118,14 +119,14 @@ module _ (s : CounterSet) (base step : ℕ) (values : List ℕ) where
 pub filter_addresses_lem : (d : Device) (t : Settings) → All (λ (w : Write). Memᴰ w.0 (filters_at d)) (filter_writes d t)
 unfolding filter_writes offcore_writes packet_writes filters_at
 filter_addresses_lem G t = cons (Memᴰ.head refl) (cons (Memᴰ.tail (Memᴰ.head refl)) nil)
-filter_addresses_lem S t = go t.packets
+filter_addresses_lem S t = go t.packet
   where
-    go : (b : Bool) → All (λ (w : Write). Memᴰ w.0 (filters_at S)) (packet_writes b t.match_word t.mask_word)
-    go true =
+    go : (packet : Option (ℕ × ℕ)) → All (λ (w : Write). Memᴰ w.0 (filters_at S)) (packet_writes packet)
+    go (Some p) =
         cons (Memᴰ.head refl)
         (cons (Memᴰ.tail (Memᴰ.head refl))
         (cons (Memᴰ.tail (Memᴰ.tail (Memᴰ.head refl))) (cons (Memᴰ.head refl) nil)))
-    go false = cons (Memᴰ.head refl) nil
+    go None = cons (Memᴰ.head refl) nil
 filter_addresses_lem (C b) t = nil
 filter_addresses_lem B t = nil
 

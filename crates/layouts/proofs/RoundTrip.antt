@@ -1,4 +1,5 @@
 -- The writes of a plan, applied to any registers and read, give that plan: `RoundTrip`, by the law of the values that a plan leaves (LeftValues).
+use Rattle.std.specs.Prelude.{Ok}
 use mathlib.Core.Path.{◌≡◌, refl, ap, ◌∙◌}
 use Prim.Native.Nat.{ℕ}
 use borrow.Author.Tests.{lt-ltb}
@@ -7,15 +8,13 @@ use Rattle.requests.specs.Choice.{pick}
 use Rattle.requests.specs.declared.Device.{Device}
 use Rattle.requests.specs.declared.Device.TheVariants.{G, S, C, B}
 use Rattle.requests.specs.declared.Setup.{Setup}
-use Rattle.requests.specs.declared.Answer.TheVariants.{Accepted}
 use Rattle.requests.specs.Devices.{counter_count, capacity, opening_of}
 use Rattle.layouts.specs.Layout.{control_at}
 use Rattle.layouts.specs.Writes.{writes, apply}
-use Rattle.layouts.specs.Read.{reading_of}
+use Rattle.layouts.specs.Read.{reading_of, answer_of}
 use Rattle.layouts.specs.Told.{told_by}
 use Rattle.layouts.specs.RoundTrip.{values_in, RoundTrip}
 use Rattle.layouts.specs.ExactReader.{FiltersShow, Shows, LeavesValues}
-use Rattle.layouts.specs.declared.Reading.{Reading}
 use Rattle.layouts.proofs.Tabulated.{get_d_tabulate}
 use Rattle.layouts.proofs.DeviceFacts.{in_room}
 use Rattle.layouts.proofs.UsableSets.{usable_within}
@@ -41,7 +40,7 @@ values_show d r =
       pebs = refl;
     }
 
-answer_accepted : (s : Setup) → (v : _) → (reading_of s v).answer ≡ Accepted
+answer_accepted : (s : Setup) → (v : _) → answer_of (reading_of s v) ≡ Ok tt
 unfolding reading_of
 answer_accepted s v = refl
 
@@ -53,6 +52,6 @@ round_trip s rs ps opened formed legal registers =
     record { requests = rs; places = ps; before = registers; formed = formed; legal = legal; shown = values_show s.device (apply (writes s rs ps) registers) } in
     let read = read_accepted (opening_of s) s v opened (left_accepted s v within plan) in
     record {
-      accepted = ap (λ (r : Reading). r.answer) read ∙ answer_accepted s v;
+      accepted = ap answer_of read ∙ answer_accepted s v;
       plan = ap told_by read ∙ left_told s v within plan;
     }

@@ -1,16 +1,14 @@
 -- The frame of the U-Box: `UBox`. The list that asks something is the other one, write by write, with pmi_en where a counter is switched on.
+use Rattle.std.specs.Prelude.{Option, None, Some}
 use mathlib.Core.Path.{◌≡◌, refl, sym, ap, ap₂, ◌∙◌}
 use mathlib.Core.Logic.{◌≢◌, ⊎_elim}
 use mathlib.Core.Bool.{Bool, true, false, not, false≢true}
 use mathlib.Core.List.{List, [], ◌∷◌, ◌++◌, map, map-append}
-use mathlib.Core.Option.{none, some}
 use Prim.Native.Nat.{ℕ, zero, suc, ◌+◌, ◌*◌, ◌^◌, ◌≤◌, ◌<◌}
 use native.Mathlib.Omega.{arith}
 use lib.Dec.{eqb}
 use lib.ListN.{get_or}
 use borrow.Author.Tests.{ne_eqb}
-use Rattle.requests.specs.declared.Core.{Core}
-use Rattle.requests.specs.declared.Core.TheVariants.{NoCore, At}
 use Rattle.requests.specs.declared.CounterSet.{CounterSet}
 use Rattle.requests.specs.declared.Device.{Device}
 use Rattle.requests.specs.declared.Device.TheVariants.{G, S, C, B}
@@ -35,7 +33,7 @@ use Rattle.plans.proofs.Sets.{all_imp}
 use Rattle.layouts.specs.Layout.{tabulate, layout_of, control_at, ubox_at, pebs_on, frz_all, en_all, core_sel, pmi_enable, enabled, event_word, offcore_code, rsp_mask, rsp_word, packet_word}
 use Rattle.layouts.specs.Settings.{uses_of, word_at, settings_of}
 use Rattle.layouts.specs.Writes.{Write, rows, zeros, fixed_enables, unusable, first_global, last_global, filter_writes, precise_writes, core_bit, ubox_value, box_writes, writes_for, writes}
-use Rattle.layouts.specs.Read.{read_of}
+use Rattle.layouts.specs.Read.{read_of, answer_of}
 use Rattle.layouts.specs.UBox.{asking_nothing, with_pmi, core_field, last_value, UBox}
 use Rattle.layouts.specs.declared.RegisterValues.{RegisterValues}
 use Rattle.layouts.proofs.ListLaws.{all_member, tabulate_member, map_same, map_joined, table_in, zero_at}
@@ -58,20 +56,20 @@ freeze_is zero l = refl
 freeze_is (suc zero) l = refl
 freeze_is (suc (suc f)) l = absurd (omega arith)
 
-core_is : (c : Core) → CoreInField c → core_bit c ≡ 2 * core_field c
+core_is : (c : Option ℕ) → CoreInField c → core_bit c ≡ 2 * core_field c
 unfolding core_bit core_count core_sel core_field
-core_is NoCore l = refl
-core_is (At zero) l = refl
-core_is (At (suc zero)) l = refl
-core_is (At (suc (suc zero))) l = refl
-core_is (At (suc (suc (suc zero)))) l = refl
-core_is (At (suc (suc (suc (suc zero))))) l = refl
-core_is (At (suc (suc (suc (suc (suc zero)))))) l = refl
-core_is (At (suc (suc (suc (suc (suc (suc zero))))))) l = refl
-core_is (At (suc (suc (suc (suc (suc (suc (suc zero)))))))) l = refl
-core_is (At (suc (suc (suc (suc (suc (suc (suc (suc c))))))))) l = absurd (let z = l in omega arith)
+core_is None l = refl
+core_is (Some zero) l = refl
+core_is (Some (suc zero)) l = refl
+core_is (Some (suc (suc zero))) l = refl
+core_is (Some (suc (suc (suc zero)))) l = refl
+core_is (Some (suc (suc (suc (suc zero))))) l = refl
+core_is (Some (suc (suc (suc (suc (suc zero)))))) l = refl
+core_is (Some (suc (suc (suc (suc (suc (suc zero))))))) l = refl
+core_is (Some (suc (suc (suc (suc (suc (suc (suc zero)))))))) l = refl
+core_is (Some (suc (suc (suc (suc (suc (suc (suc (suc c))))))))) l = absurd (let z = l in omega arith)
 
-value_is : (o : Opening) (s : Setup) → setup_of o ≡ some s → ¬ NothingAsked o.overflow → ubox_value s ≡ last_value o.overflow
+value_is : (o : Opening) (s : Setup) → setup_of o ≡ Some s → ¬ NothingAsked o.overflow → ubox_value s ≡ last_value o.overflow
 unfolding ubox_value en_all frz_all last_value
 value_is o s e n =
     let h = openings.only o s e in
@@ -217,7 +215,7 @@ module _ (s : Setup) (rs : List Request) (ps : List Place) (legal : Legal s rs p
 word_pmi : (s : Setup) (w : ℕ) → ControlWord s w → bit 20 w ≡ asked s
 word_pmi s w h = bit_high 16 20 w (enabled s) (omega arith) (word_high s w h) ∙ (enables s).pmi
 
-module _ (o : Opening) (s : Setup) (v : RegisterValues) (e : setup_of o ≡ some s) (accepted : answer_number (read_of o v).answer ≡ none) where
+module _ (o : Opening) (s : Setup) (v : RegisterValues) (e : setup_of o ≡ Some s) (accepted : answer_number (answer_of (read_of o v)) ≡ None) where
   read : ¬ NothingAsked o.overflow → v.ubox ≡ last_value o.overflow
   read n =
       let plan = exact_reader.only o s v e accepted in
@@ -239,12 +237,12 @@ module _ (o : Opening) (s : Setup) (v : RegisterValues) (e : setup_of o ≡ some
 
 -- ---- the statement
 
-with_host : (o : Opening) (s : Setup) → setup_of o ≡ some s → NothingAsked o.overflow
+with_host : (o : Opening) (s : Setup) → setup_of o ≡ Some s → NothingAsked o.overflow
     → (rs : List Request) (ps : List Place) → All (λ (w : Write). w.0 ≢ 0x0C00) (writes s rs ps)
 unfolding writes ubox_at
 with_host o s e n rs ps = rw (unasked_writes s (settings_of s rs ps) (openings.nothing o s e n)) (box_other s (settings_of s rs ps))
 
-framed : (o : Opening) (s : Setup) → setup_of o ≡ some s → ¬ NothingAsked o.overflow
+framed : (o : Opening) (s : Setup) → setup_of o ≡ Some s → ¬ NothingAsked o.overflow
     → (rs : List Request) (ps : List Place) → Legal s rs ps
     → writes s rs ps ≡ (0x0C00, 0) ∷ map (with_pmi s) (writes (asking_nothing s) rs ps) ++ (0x0C00, last_value o.overflow) ∷ []
 framed o s e n rs ps legal = rw (← value_is o s e n) (list_more s rs ps legal (openings.something o s e n))

@@ -1,7 +1,7 @@
 -- What open takes says of the usable set: it is a set of the device's counters. Assumes nothing.
+use Rattle.std.specs.Prelude.{Some}
 use mathlib.Core.Path.{◌≡◌, sym, ◌∙◌}
 use mathlib.Core.Bool.{true, true≢false}
-use mathlib.Core.Option.{some}
 use Prim.Native.Nat.{ℕ, ◌^◌, ◌≤◌, ◌<◌}
 use native.Mathlib.Decide.{dec_lt}
 use native.Mathlib.Omega.{arith}
@@ -21,7 +21,7 @@ on d s = record { device = d; usable = s.usable; fixed = s.fixed; overflow = s.o
 abbrev pub Within : Setup → Type 0
 Within s = s.usable.0 ≤ all_counters s.device
 
-pub usable_within : (o : Opening) (s : Setup) → setup_of o ≡ some s → Within s
+pub usable_within : (o : Opening) (s : Setup) → setup_of o ≡ Some s → Within s
 usable_within o s e = (usable_bounds o s e).1
 
 pub usable_counter : (s : Setup) (k : ℕ) → Within s → has s.usable k ≡ true → k < counter_count s.device

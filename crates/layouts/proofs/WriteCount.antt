@@ -1,9 +1,9 @@
 -- The number of writes: at most the device's limit, which a plan that uses every counter has. By the lengths of the parts of the list. Assumes nothing.
+use Rattle.std.specs.Prelude.{None, Some, Option}
 use mathlib.Core.Path.{◌≡◌, refl, ap, ◌∙◌}
 use mathlib.Core.Logic.{◌≢◌, ◌⊎◌, inl, inr}
 use mathlib.Core.Bool.{Bool, true, false, not, false≢true}
 use mathlib.Core.List.{List, [], ◌∷◌, ◌++◌, flat_map}
-use mathlib.Core.Option.{some}
 use Prim.Native.Nat.{ℕ, zero, suc, ◌+◌, ◌*◌, ◌-◌, ◌%◌, ◌^◌, ◌≤◌, ◌<◌}
 use native.Mathlib.Nat.{le_refl, mod-eq_of_lt}
 use native.Mathlib.Omega.{arith}
@@ -13,7 +13,6 @@ use Rattle.requests.specs.Choice.{both, either, first_holding, every, pick}
 use Rattle.requests.specs.declared.CounterSet.{CounterSet}
 use Rattle.requests.specs.declared.Device.{Device}
 use Rattle.requests.specs.declared.Device.TheVariants.{G, S, C, B}
-use Rattle.requests.specs.declared.Core.TheVariants.{NoCore}
 use Rattle.requests.specs.declared.Setup.{Setup}
 use Rattle.requests.specs.declared.Request.{Request}
 use Rattle.requests.specs.declared.Request.TheVariants.{Event, Packet}
@@ -63,11 +62,11 @@ rows_length (suc n) s base step values =
 pub filter_length : (d : Device) (t : Settings) → length (filter_writes d t) ≤ filter_room d
 unfolding filter_writes offcore_writes packet_writes filter_room
 filter_length G t = le_refl 2
-filter_length S t = go t.packets
+filter_length S t = go t.packet
   where
-    go : (b : Bool) → length (packet_writes b t.match_word t.mask_word) ≤ 4
-    go true = le_refl 4
-    go false = omega arith
+    go : (packet : Option (ℕ × ℕ)) → length (packet_writes packet) ≤ 4
+    go (Some p) = le_refl 4
+    go None = omega arith
 filter_length (C b) t = le_refl 0
 filter_length B t = le_refl 0
 
@@ -122,7 +121,7 @@ all_some d = let more : 2 ^ 1 ≤ 2 ^ counter_count d = pow_mono (numbers d).cou
 
 -- with a freeze asked, or nothing
 setup : Device → Bool → Setup
-setup d a = record { device = d; usable = all d; fixed = 0; overflow = pick a (record { freeze = 1; core = NoCore }) unasked }
+setup d a = record { device = d; usable = all d; fixed = 0; overflow = pick a (record { freeze = 1; core = None }) unasked }
 
 -- n places, from counter k on
 places_from : ℕ → ℕ → List Place
@@ -213,7 +212,7 @@ setup_asks d true served = rw (served refl)
 setup_asks d false served = both_false (overflow_on d)
 
 -- open takes it
-setup_taken : (d : Device) (a : Bool) → (a ≡ true → overflow_on d ≡ true) → box_of d ≤ most_box d → setup_of (opening_of (setup d a)) ≡ some (setup d a)
+setup_taken : (d : Device) (a : Bool) → (a ≡ true → overflow_on d ≡ true) → box_of d ≤ most_box d → setup_of (opening_of (setup d a)) ≡ Some (setup d a)
 unfolding setup opening_of all unasked
 setup_taken d a served box =
     openings.taken (opening_of (setup d a)) (setup d a)

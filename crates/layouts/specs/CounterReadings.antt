@@ -1,14 +1,13 @@
 -- The reader's answer at a counter, as it is given: "off, or event with its filter register and words", "An unusable counter is told as not ours".
 -- In numbers, and without `told`, which other statements see it through.
-use Rattle.std.specs.Prelude.{◌≡◌, ◌≢◌, ℕ, ◌+◌, ◌*◌, ◌<◌, get_or}
-use Rattle.std.proofs.Math.Option.{none, some}
+use Rattle.std.specs.Prelude.{◌≡◌, ◌≢◌, ℕ, ◌+◌, ◌*◌, ◌<◌, get_or, None, Some}
 use Rattle.requests.specs.declared.Device.TheVariants.{G, S}
 use Rattle.requests.specs.declared.Opening.{Opening}
 use Rattle.requests.specs.declared.Setup.{Setup}
 use Rattle.requests.specs.Refusals.{answer_number}
 use Rattle.requests.specs.Devices.{setup_of}
 use Rattle.plans.specs.LegalInWords.{InSet}
-use Rattle.layouts.specs.Read.{read_of}
+use Rattle.layouts.specs.Read.{answer_of, states_of, read_of}
 use Rattle.layouts.specs.EventWords.{enabling_of}
 use Rattle.layouts.specs.declared.RegisterValues.{RegisterValues}
 use Rattle.layouts.specs.declared.FilterRead.TheVariants.{NoFilter, Rsp, MatchMask}
@@ -17,11 +16,11 @@ use Rattle.layouts.specs.declared.CounterState.TheVariants.{NotOurs, Off, Counts
 
 -- the reader of the session accepts the values
 abbrev pub Accepts : Opening → Setup → RegisterValues → Type 0
-Accepts o s v = (setup_of o ≡ some s) × (answer_number (read_of o v).answer ≡ none)
+Accepts o s v = (setup_of o ≡ Some s) × (answer_number (answer_of (read_of o v)) ≡ None)
 
 -- what it answers of counter k
 abbrev pub state_at : Opening → RegisterValues → ℕ → CounterState
-state_at o v k = (get_or (read_of o v).counters k (record { state = NotOurs })).state
+state_at o v k = get_or (states_of (read_of o v)) k NotOurs
 
 -- the control value of counter k
 abbrev pub word_in : RegisterValues → ℕ → ℕ

@@ -1,7 +1,5 @@
 -- "An empty queue gives an empty plan and a write list that turns the usable counters off."
-use Rattle.std.specs.Prelude.{◌≡◌, List, [], not, ℕ, ◌+◌, ◌<◌, ltb}
-use Rattle.std.proofs.Math.Option.{some}
-use Rattle.requests.specs.declared.Answer.TheVariants.{Accepted}
+use Rattle.std.specs.Prelude.{◌≡◌, List, [], not, ℕ, ◌+◌, ◌<◌, ltb, Some, Ok}
 use Rattle.requests.specs.declared.Setup.{Setup}
 use Rattle.requests.specs.Choice.{both, pick}
 use Rattle.requests.specs.Bits.{bit}
@@ -9,7 +7,7 @@ use Rattle.requests.specs.Devices.{has, counter_count, fixed_count, capacity, se
 use Rattle.plans.specs.Legal.{Usable}
 use Rattle.layouts.specs.Layout.{tabulate, layout_of, control_at}
 use Rattle.layouts.specs.Writes.{writes, apply}
-use Rattle.layouts.specs.Read.{read_of}
+use Rattle.layouts.specs.Read.{answer_of, read_of}
 use Rattle.layouts.specs.Told.{Told, off, not_ours, told_by}
 use Rattle.layouts.specs.RoundTrip.{values_in}
 
@@ -31,7 +29,7 @@ pub record EmptyPlan : Type 0 where
   pub fixed : (s : Setup) (registers : ℕ → ℕ) (k : ℕ)
       → bit (32 + k) (turned_off s registers (layout_of s.device).global) ≡ both (ltb k (fixed_count s.device)) (bit k s.fixed)
   -- the reader accepts what is left, and tells every usable counter off
-  pub accepted : (s : Setup) (registers : ℕ → ℕ) → setup_of (opening_of s) ≡ some s
-      → (read_of (opening_of s) (values_in s.device (turned_off s registers))).answer ≡ Accepted
-  pub told_off : (s : Setup) (registers : ℕ → ℕ) → setup_of (opening_of s) ≡ some s
+  pub accepted : (s : Setup) (registers : ℕ → ℕ) → setup_of (opening_of s) ≡ Some s
+      → answer_of (read_of (opening_of s) (values_in s.device (turned_off s registers))) ≡ Ok tt
+  pub told_off : (s : Setup) (registers : ℕ → ℕ) → setup_of (opening_of s) ≡ Some s
       → told_by (read_of (opening_of s) (values_in s.device (turned_off s registers))) ≡ all_off s

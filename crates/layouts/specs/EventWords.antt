@@ -1,9 +1,7 @@
 -- "The event word is 430000 + 100 × mask + code (all hex: user, OS and enable bits)", on S and C 400000 + 100 × mask + code, with 100000 more where a
 -- session asks something of the U-Box; "Event B7 with unit mask 01 uses MSR_OFFCORE_RSP0, with 02 RSP1"; for a packet "Event code 0, unit mask 0".
 -- What the control registers hold after a plan's writes, as numbers: no bit more and none less.
-use Rattle.std.specs.Prelude.{◌≡◌, ◌⊎◌, List, ℕ, zero, suc, ◌+◌, ◌*◌, ◌<◌}
-use Rattle.requests.specs.declared.Core.{Core}
-use Rattle.requests.specs.declared.Core.TheVariants.{NoCore, At}
+use Rattle.std.specs.Prelude.{◌≡◌, ◌⊎◌, List, ℕ, zero, suc, ◌+◌, ◌*◌, ◌<◌, Option, None, Some}
 use Rattle.requests.specs.declared.Device.{Device}
 use Rattle.requests.specs.declared.Device.TheVariants.{G, S, C, B}
 use Rattle.requests.specs.declared.Setup.{Setup}
@@ -17,13 +15,13 @@ use Rattle.layouts.specs.Layout.{control_at}
 use Rattle.layouts.specs.Writes.{writes, apply}
 
 -- what every event word of a session has, by its device and what it asks: freeze, and a core
-abbrev pub enabling : Device → ℕ → Core → ℕ
+abbrev pub enabling : Device → ℕ → Option ℕ → ℕ
 enabling G freeze core = 0x430000
-enabling S zero NoCore = 0x400000
-enabling S zero (At c) = 0x500000
+enabling S zero None = 0x400000
+enabling S zero (Some c) = 0x500000
 enabling S (suc f) core = 0x500000
-enabling (C b) zero NoCore = 0x400000
-enabling (C b) zero (At c) = 0x500000
+enabling (C b) zero None = 0x400000
+enabling (C b) zero (Some c) = 0x500000
 enabling (C b) (suc f) core = 0x500000
 enabling B freeze core = 0x430000
 

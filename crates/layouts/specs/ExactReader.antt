@@ -1,6 +1,5 @@
 -- The reader "accepts exactly when some list of well-formed requests (none of 7 to 11 applies) has a legal plan whose writes leave those values".
-use Rattle.std.specs.Prelude.{◌≡◌, List, ℕ, ◌<◌, get_or, replicate}
-use Rattle.std.proofs.Math.Option.{none, some}
+use Rattle.std.specs.Prelude.{◌≡◌, List, ℕ, ◌<◌, get_or, replicate, None, Some}
 use Rattle.requests.specs.declared.Device.{Device}
 use Rattle.requests.specs.declared.Device.TheVariants.{G, S, C, B}
 use Rattle.requests.specs.declared.Opening.{Opening}
@@ -14,11 +13,10 @@ use Rattle.plans.specs.Lists.{All}
 use Rattle.plans.specs.Legal.{Legal}
 use Rattle.layouts.specs.Layout.{layout_of, control_at, rsp0_at, rsp1_at, mm_cfg_at, match_at, mask_at, ubox_at, pebs_at}
 use Rattle.layouts.specs.Writes.{writes, apply}
-use Rattle.layouts.specs.Read.{read_of}
+use Rattle.layouts.specs.Read.{Reading, answer_of, read_of}
 use Rattle.layouts.specs.Told.{told_by, not_ours, told_plan}
 use Rattle.layouts.specs.declared.FilterValues.{FilterValues}
 use Rattle.layouts.specs.declared.RegisterValues.{RegisterValues}
-use Rattle.layouts.specs.declared.Reading.{Reading}
 
 -- the filter values are those of the device's registers
 abbrev pub FiltersShow : Device → FilterValues → (ℕ → ℕ) → Type 0
@@ -46,15 +44,15 @@ pub record LeavesValues (s : Setup) (v : RegisterValues) : Type 0 where
 
 -- refused with the number, and nothing is told of any counter
 abbrev pub RefusedWith : ℕ → Reading → Type 0
-RefusedWith n reading = (answer_number reading.answer ≡ some n) × (told_by reading ≡ replicate capacity not_ours)
+RefusedWith n reading = (answer_number (answer_of reading) ≡ Some n) × (told_by reading ≡ replicate capacity not_ours)
 
 pub record ExactReader : Type 0 where
   -- "the reader gives only 3 and 15, 3 first": 3 where open would refuse, with 3, 7 or 10
-  pub opening : (o : Opening) (v : RegisterValues) → setup_of o ≡ none → RefusedWith 3 (read_of o v)
+  pub opening : (o : Opening) (v : RegisterValues) → setup_of o ≡ None → RefusedWith 3 (read_of o v)
   -- values that some plan leaves are accepted, and told as that plan
-  pub accepted : (o : Opening) (s : Setup) (v : RegisterValues) → setup_of o ≡ some s → (plan : LeavesValues s v)
-      → (answer_number (read_of o v).answer ≡ none) × (told_by (read_of o v) ≡ told_plan s plan.requests plan.places)
+  pub accepted : (o : Opening) (s : Setup) (v : RegisterValues) → setup_of o ≡ Some s → (plan : LeavesValues s v)
+      → (answer_number (answer_of (read_of o v)) ≡ None) × (told_by (read_of o v) ≡ told_plan s plan.requests plan.places)
   -- no others are accepted ..
-  pub only : (o : Opening) (s : Setup) (v : RegisterValues) → setup_of o ≡ some s → answer_number (read_of o v).answer ≡ none → LeavesValues s v
+  pub only : (o : Opening) (s : Setup) (v : RegisterValues) → setup_of o ≡ Some s → answer_number (answer_of (read_of o v)) ≡ None → LeavesValues s v
   -- .. but refused with 15
-  pub refused : (o : Opening) (s : Setup) (v : RegisterValues) → setup_of o ≡ some s → ¬ LeavesValues s v → RefusedWith 15 (read_of o v)
+  pub refused : (o : Opening) (s : Setup) (v : RegisterValues) → setup_of o ≡ Some s → ¬ LeavesValues s v → RefusedWith 15 (read_of o v)

@@ -1,7 +1,6 @@
 -- "Control values of unusable counters are not looked at, nor are MATCH and MASK where MM_CFG is 0." Order 7: "the U-Box value, which it checks
 -- only where something is asked". Order 12: of IA32_PEBS_ENABLE it is given the value, which it looks at on B.
-use Rattle.std.specs.Prelude.{◌≡◌, ◌⊎◌, true, ℕ, get_or}
-use Rattle.std.proofs.Math.Option.{some}
+use Rattle.std.specs.Prelude.{◌≡◌, ◌⊎◌, true, ℕ, get_or, Some}
 use Rattle.requests.specs.declared.Device.{Device}
 use Rattle.requests.specs.declared.Device.TheVariants.{G, S, C, B}
 use Rattle.requests.specs.declared.Opening.{Opening}
@@ -30,4 +29,4 @@ pub record SameLookedAt (s : Setup) (v w : RegisterValues) : Type 0 where
 
 -- the answer depends on nothing else
 abbrev pub NotLookedAt : Type 0
-NotLookedAt = (o : Opening) (s : Setup) (v w : RegisterValues) → setup_of o ≡ some s → SameLookedAt s v w → read_of o v ≡ read_of o w
+NotLookedAt = (o : Opening) (s : Setup) (v w : RegisterValues) → setup_of o ≡ Some s → SameLookedAt s v w → read_of o v ≡ read_of o w

@@ -1,16 +1,14 @@
 -- Plans of orders 3, 7 and 12: whole write lists, computed.
-use Rattle.std.specs.Prelude.{◌≡◌, List, [], ◌∷◌, map, ℕ}
+use Rattle.std.specs.Prelude.{◌≡◌, List, [], ◌∷◌, map, ℕ, Option, Some}
 use Rattle.requests.specs.declared.Device.{Device}
 use Rattle.requests.specs.declared.Device.TheVariants.{S, C, B}
-use Rattle.requests.specs.declared.Core.{Core}
-use Rattle.requests.specs.declared.Core.TheVariants.{At}
 use Rattle.requests.specs.declared.Setup.{Setup}
 use Rattle.requests.specs.declared.Request.TheVariants.{Event, Packet}
 use Rattle.plans.specs.declared.Place.TheVariants.{Counter}
 use Rattle.layouts.specs.Examples.{all, set, opened, Plan, writes_of}
 
 -- a device with a usable set, a freeze and a core
-abbrev asking : Device → ℕ → ℕ → Core → Setup
+abbrev asking : Device → ℕ → ℕ → Option ℕ → Setup
 asking d usable freeze core = record { device = d; usable = set usable; fixed = 0; overflow = record { freeze = freeze; core = core } }
 
 -- plans on C, plans that ask something, and plans on B
@@ -52,7 +50,7 @@ order_plans =
     }
     -- order 7: S with freeze 1 and core 2
     ∷ record {
-      setup = asking S 15 1 (At 2);
+      setup = asking S 15 1 (Some 2);
       requests = Event 0x52 0x00 all ∷ [];
       places = Counter 0 ∷ [];
       written =
@@ -71,7 +69,7 @@ order_plans =
     }
     -- S with core 0 alone: a packet on counter 1
     ∷ record {
-      setup = asking S 2 0 (At 0);
+      setup = asking S 2 0 (Some 0);
       requests = Packet 0x0123456789ABCDEF 0x0000007F00000000 all ∷ [];
       places = Counter 1 ∷ [];
       written =
@@ -90,7 +88,7 @@ order_plans =
     }
     -- C-Box 0 with usable 1 and core 7: the empty plan
     ∷ record {
-      setup = asking (C 0) 1 0 (At 7);
+      setup = asking (C 0) 1 0 (Some 7);
       requests = [];
       places = [];
       written =
@@ -103,7 +101,7 @@ order_plans =
     }
     -- freeze alone, and a core that open refuses: no bit of it
     ∷ record {
-      setup = asking (C 7) 1 1 (At 8);
+      setup = asking (C 7) 1 1 (Some 8);
       requests = [];
       places = [];
       written =

@@ -1,9 +1,8 @@
 -- Order 12: "The enable bits 1, and 3 with 63, go into IA32_PEBS_ENABLE as that page states, written at 03F1 just before the last write to 038F, and 0 is
 -- written there when neither is taken. The list is otherwise G's without 01A6 and 01A7. The reader is given that register too and judges it by the same
 -- rule." And of C0/01: "with every other general counter quiet", which "needs the usable set 15, for the reader too".
-use Rattle.std.specs.Prelude.{◌≡◌, ◌≢◌, false, ℕ, ◌+◌, ◌<◌, get_or}
+use Rattle.std.specs.Prelude.{◌≡◌, ◌≢◌, false, ℕ, ◌+◌, ◌<◌, get_or, None, Some}
 use mathlib.Core.List.{List, [], ◌∷◌, ◌++◌, Memᴰ}
-use Rattle.std.proofs.Math.Option.{none, some}
 use Rattle.requests.specs.declared.CounterSet.{CounterSet}
 use Rattle.requests.specs.declared.Device.TheVariants.{G, B}
 use Rattle.requests.specs.declared.Opening.{Opening}
@@ -18,7 +17,7 @@ use Rattle.plans.specs.declared.Place.{Place}
 use Rattle.plans.specs.Lists.{All}
 use Rattle.plans.specs.Legal.{Legal, Usable}
 use Rattle.layouts.specs.Writes.{Write, writes, apply}
-use Rattle.layouts.specs.Read.{read_of}
+use Rattle.layouts.specs.Read.{answer_of, read_of}
 use Rattle.layouts.specs.ExactReader.{LeavesValues}
 use Rattle.layouts.specs.declared.RegisterValues.{RegisterValues}
 
@@ -57,7 +56,7 @@ on_g s = record { device = G; usable = s.usable; fixed = s.fixed; overflow = s.o
 
 -- the reader of a session on B accepts the values
 abbrev pub AcceptedOnB : Opening → Setup → RegisterValues → Type 0
-AcceptedOnB o s v = (setup_of o ≡ some s) × (s.device ≡ B) × (answer_number (read_of o v).answer ≡ none)
+AcceptedOnB o s v = (setup_of o ≡ Some s) × (s.device ≡ B) × (answer_number (answer_of (read_of o v)) ≡ None)
 
 pub record PreciseEvents : Type 0 where
   -- on B, in the list of every legal plan of well-formed requests

@@ -1,15 +1,14 @@
 -- Document 01, the reader: what it answers.
-use Rattle.std.specs.Prelude.{Bool, true, false, not, ℕ, zero, suc, ◌+◌, ◌%◌, ◌^◌, leb, eqb, get_or, replicate}
-use Rattle.std.proofs.Math.Option.{none, some}
+use Rattle.std.specs.Prelude.{Bool, true, false, not, ℕ, zero, suc, ◌+◌, ◌%◌, ◌^◌, leb, eqb, get_or, replicate, List, None, Some, Result, Ok, Err}
 use Rattle.requests.specs.declared.CounterSet.{CounterSet}
 use Rattle.requests.specs.declared.Device.{Device}
 use Rattle.requests.specs.declared.Device.TheVariants.{G, S, C, B}
 use Rattle.requests.specs.declared.Opening.{Opening}
 use Rattle.requests.specs.declared.Setup.{Setup}
 use Rattle.requests.specs.declared.Request.TheVariants.{Event, Packet, Offcore, Latency}
+use Rattle.requests.specs.Answers.{Answer}
 use Rattle.requests.specs.declared.Refusal.{Refusal}
 use Rattle.requests.specs.declared.Refusal.TheVariants.{BadOpening, NotLeftByPlan}
-use Rattle.requests.specs.declared.Answer.TheVariants.{Accepted, Refused}
 use Rattle.requests.specs.Choice.{both, either, every, pick}
 use Rattle.requests.specs.Bits.{outstanding, latency_word}
 use Rattle.requests.specs.Devices.{has, counter_count, all_counters, capacity, setup_of}
@@ -27,8 +26,6 @@ use Rattle.layouts.specs.declared.FilterRead.{FilterRead}
 use Rattle.layouts.specs.declared.FilterRead.TheVariants.{NoFilter, Rsp, MatchMask}
 use Rattle.layouts.specs.declared.CounterState.{CounterState}
 use Rattle.layouts.specs.declared.CounterState.TheVariants.{NotOurs, Off, Counts}
-use Rattle.layouts.specs.declared.CounterRead.{CounterRead}
-use Rattle.layouts.specs.declared.Reading.{Reading}
 
 -- the control values that are looked at: 0 for a counter that is not usable
 unfoldable pub ours : Setup → RegisterValues → ℕ → ℕ
@@ -144,26 +141,28 @@ filter_of s v w =
 unfoldable pub tell : Setup → FilterValues → ℕ → CounterState
 tell s v w = pick (eqb w 0) Off (Counts (code_of w) (mask_of w) (filter_of s v w))
 
--- a counter's place in the answer
-abbrev pub cell : CounterState → CounterRead
-cell c = record { state = c }
+-- what the reader answers: the state of each counter, or the refusal
+abbrev pub Reading : Type 0
+Reading = Result (List CounterState) Refusal
+
+-- its answer, as that of a call
+abbrev pub answer_of : Reading → Answer
+answer_of (Ok cs) = Ok tt
+answer_of (Err x) = Err x
+
+-- the states that it tells; "not ours" everywhere, where it is refused
+abbrev pub states_of : Reading → List CounterState
+states_of (Ok cs) = cs
+states_of (Err x) = replicate capacity NotOurs
 
 -- an accepted reading: each counter of the usable set, the others "not ours"
 unfoldable pub reading_of : Setup → RegisterValues → Reading
-reading_of s v =
-    record {
-      answer = Accepted;
-      counters = tabulate capacity (λ k. cell (pick (has s.usable k) (tell s v.filters (ours s v k)) NotOurs));
-    }
-
--- a refused reader tells nothing of any counter
-unfoldable pub refused_reading : Refusal → Reading
-refused_reading x = record { answer = Refused x; counters = replicate capacity (cell NotOurs) }
+reading_of s v = Ok (tabulate capacity (λ k. pick (has s.usable k) (tell s v.filters (ours s v k)) NotOurs))
 
 -- the reader's answer
 unfoldable pub read_of : Opening → RegisterValues → Reading
 read_of o v =
     elim (setup_of o) [
-      | none ↦ refused_reading BadOpening
-      | some s ↦ elim (accepts s v) [ true ↦ reading_of s v | false ↦ refused_reading NotLeftByPlan ]
+      | None ↦ Err BadOpening
+      | Some s ↦ elim (accepts s v) [ true ↦ reading_of s v | false ↦ Err NotLeftByPlan ]
     ]

@@ -1,17 +1,13 @@
 -- Readings of values that plans leave, those of document 01's tries A and C among them, and of values that no plan leaves. All computed.
-use Rattle.std.specs.Prelude.{◌≡◌, List, [], ◌∷◌, ◌++◌, map, ℕ, ◌-◌, length, replicate}
-use Rattle.std.proofs.Math.Option.{none, some}
+use Rattle.std.specs.Prelude.{◌≡◌, List, [], ◌∷◌, ◌++◌, map, ℕ, ◌-◌, length, replicate, Option, None, Some}
 use Rattle.requests.specs.Refusals.{answer_number}
 use Rattle.requests.specs.Devices.{capacity}
 use Rattle.requests.specs.Askings.{unasked}
-use Rattle.requests.specs.declared.Core.{Core}
-use Rattle.requests.specs.declared.Core.TheVariants.{NoCore, At}
 use Rattle.requests.specs.declared.Opening.{Opening}
-use Rattle.layouts.specs.Read.{read_of}
+use Rattle.layouts.specs.Read.{Reading, answer_of, read_of}
 use Rattle.layouts.specs.Told.{Told, not_ours, off, counting, told_by}
 use Rattle.layouts.specs.Examples.{set}
 use Rattle.layouts.specs.declared.RegisterValues.{RegisterValues}
-use Rattle.layouts.specs.declared.Reading.{Reading}
 
 -- values on G: control values, RSP0 and RSP1, global control
 abbrev on_g : List ℕ → ℕ → ℕ → ℕ → RegisterValues
@@ -46,7 +42,7 @@ abbrev given_box : ℕ → ℕ → RegisterValues → Given
 given_box box usable v = record { opening = record { device = 67; usable = set usable; fixed = 0; cbox = box; overflow = unasked }; values = v }
 
 -- the letter of a device whose first four counters are usable, a freeze and a core; control and global values, and that of the U-Box
-abbrev asked : ℕ → ℕ → Core → ℕ → ℕ → ℕ → Given
+abbrev asked : ℕ → ℕ → Option ℕ → ℕ → ℕ → ℕ → Given
 asked letter freeze core first global ubox =
     record {
       opening = record { device = letter; usable = set 15; fixed = 0; cbox = 0; overflow = record { freeze = freeze; core = core } };
@@ -74,27 +70,27 @@ acceptances =
     -- try A's values: "off, or event with its filter register and words"
     record {
       given = given 71 15 0 (on_g (0x4300C0 ∷ 0x4301B7 ∷ 0x4302B7 ∷ 0 ∷ []) 0x4000000001 0x10001 7);
-      tells = counting 0xC0 0x00 none [] ∷ counting 0xB7 0x01 (some 0) (0x4000000001 ∷ []) ∷ counting 0xB7 0x02 (some 1) (0x10001 ∷ []) ∷ off ∷ [];
+      tells = counting 0xC0 0x00 None [] ∷ counting 0xB7 0x01 (Some 0) (0x4000000001 ∷ []) ∷ counting 0xB7 0x02 (Some 1) (0x10001 ∷ []) ∷ off ∷ [];
     }
     -- try C's: two counters on RSP1 and one on RSP0
     ∷ record {
       given = given 71 15 0 (on_g (0x4302B7 ∷ 0x4301B7 ∷ 0x4302B7 ∷ 0 ∷ []) 0x4000000001 0x10001 7);
-      tells = counting 0xB7 0x02 (some 1) (0x10001 ∷ []) ∷ counting 0xB7 0x01 (some 0) (0x4000000001 ∷ []) ∷ counting 0xB7 0x02 (some 1) (0x10001 ∷ []) ∷ off ∷ [];
+      tells = counting 0xB7 0x02 (Some 1) (0x10001 ∷ []) ∷ counting 0xB7 0x01 (Some 0) (0x4000000001 ∷ []) ∷ counting 0xB7 0x02 (Some 1) (0x10001 ∷ []) ∷ off ∷ [];
     }
     -- "Equal words may share" and need not: one word in both registers, a counter on each
     ∷ record {
       given = given 71 15 0 (on_g (0x4301B7 ∷ 0x4302B7 ∷ 0 ∷ 0 ∷ []) 0x10001 0x10001 3);
-      tells = counting 0xB7 0x01 (some 0) (0x10001 ∷ []) ∷ counting 0xB7 0x02 (some 1) (0x10001 ∷ []) ∷ off ∷ off ∷ [];
+      tells = counting 0xB7 0x01 (Some 0) (0x10001 ∷ []) ∷ counting 0xB7 0x02 (Some 1) (0x10001 ∷ []) ∷ off ∷ off ∷ [];
     }
     -- order 1: L2_HIT in RSP0
     ∷ record {
       given = given 71 15 0 (on_g (0x4301B7 ∷ 0 ∷ 0 ∷ 0 ∷ []) 0x40001 0 1);
-      tells = counting 0xB7 0x01 (some 0) (0x40001 ∷ []) ∷ off ∷ off ∷ off ∷ [];
+      tells = counting 0xB7 0x01 (Some 0) (0x40001 ∷ []) ∷ off ∷ off ∷ off ∷ [];
     }
     -- usable 14 on S: "An unusable counter is told as not ours", and its control value is not looked at
     ∷ record {
       given = given 83 14 0 (on_s (0xFFFF ∷ 0x400000 ∷ 0x400351 ∷ 0 ∷ []) 0x8000000000000000 0x0123456789ABCDEF 0x0000007F00000000 7);
-      tells = not_ours ∷ counting 0x00 0x00 none (0x0123456789ABCDEF ∷ 0x0000007F00000000 ∷ []) ∷ counting 0x51 0x03 none [] ∷ off ∷ [];
+      tells = not_ours ∷ counting 0x00 0x00 None (0x0123456789ABCDEF ∷ 0x0000007F00000000 ∷ []) ∷ counting 0x51 0x03 None [] ∷ off ∷ [];
     }
     -- all off; "nor are MATCH and MASK where MM_CFG is 0"
     ∷ record { given = given 83 15 0 (on_s (0 ∷ 0 ∷ 0 ∷ 0 ∷ []) 0 0xFFFFFFFFFFFFFFFF 0xFFFFFFFFFFFFFFFF 0); tells = off ∷ off ∷ off ∷ off ∷ [] }
@@ -103,18 +99,18 @@ acceptances =
     -- order 3: six control values and no filter registers
     ∷ record {
       given = given_box 7 63 (on_c (0x40180B ∷ 0x400019 ∷ 0 ∷ 0 ∷ 0 ∷ 0x40FF28 ∷ []) 0x23);
-      tells = counting 0x0B 0x18 none [] ∷ counting 0x19 0x00 none [] ∷ off ∷ off ∷ off ∷ counting 0x28 0xFF none [] ∷ [];
+      tells = counting 0x0B 0x18 None [] ∷ counting 0x19 0x00 None [] ∷ off ∷ off ∷ off ∷ counting 0x28 0xFF None [] ∷ [];
     }
-    ∷ record { given = given_box 1 48 (on_c (0xFFFF ∷ 0 ∷ 0 ∷ 0 ∷ 0x40001F ∷ 0 ∷ []) 0x1F); tells = not_ours ∷ not_ours ∷ not_ours ∷ not_ours ∷ counting 0x1F 0x00 none [] ∷ off ∷ [] }
+    ∷ record { given = given_box 1 48 (on_c (0xFFFF ∷ 0 ∷ 0 ∷ 0 ∷ 0x40001F ∷ 0 ∷ []) 0x1F); tells = not_ours ∷ not_ours ∷ not_ours ∷ not_ours ∷ counting 0x1F 0x00 None [] ∷ off ∷ [] }
     -- order 7: the value of the U-Box where a freeze is asked, and any value where nothing is
-    ∷ record { given = asked 83 1 NoCore 0x500052 1 0x90000000; tells = counting 0x52 0x00 none [] ∷ off ∷ off ∷ off ∷ [] }
-    ∷ record { given = asked 83 0 NoCore 0x400052 1 0xFFFFFFFF; tells = counting 0x52 0x00 none [] ∷ off ∷ off ∷ off ∷ [] }
-    ∷ record { given = asked 71 0 NoCore 0x4300C0 1 0x90000000; tells = counting 0xC0 0x00 none [] ∷ off ∷ off ∷ off ∷ [] }
+    ∷ record { given = asked 83 1 None 0x500052 1 0x90000000; tells = counting 0x52 0x00 None [] ∷ off ∷ off ∷ off ∷ [] }
+    ∷ record { given = asked 83 0 None 0x400052 1 0xFFFFFFFF; tells = counting 0x52 0x00 None [] ∷ off ∷ off ∷ off ∷ [] }
+    ∷ record { given = asked 71 0 None 0x4300C0 1 0x90000000; tells = counting 0xC0 0x00 None [] ∷ off ∷ off ∷ off ∷ [] }
     -- order 12: C0/01 in counter 1 alone; CD/02 in counter 3, beside others and with another usable set; neither, with C0/00 in counter 1
-    ∷ record { given = given 66 15 0 (on_b (0 ∷ 0x4301C0 ∷ 0 ∷ 0 ∷ []) 2 2); tells = off ∷ counting 0xC0 0x01 none [] ∷ off ∷ off ∷ [] }
-    ∷ record { given = given 66 15 0 (on_b (0x43003C ∷ 0 ∷ 0 ∷ 0x4302CD ∷ []) 9 0x8000000000000008); tells = counting 0x3C 0x00 none [] ∷ off ∷ off ∷ counting 0xCD 0x02 none [] ∷ [] }
-    ∷ record { given = given 66 14 2 (on_b (0x4301C0 ∷ 0 ∷ 0 ∷ 0x4302CD ∷ []) 0x200000009 0x8000000000000008); tells = not_ours ∷ off ∷ off ∷ counting 0xCD 0x02 none [] ∷ [] }
-    ∷ record { given = given 66 15 0 (on_b (0 ∷ 0x4300C0 ∷ 0 ∷ 0 ∷ []) 2 0); tells = off ∷ counting 0xC0 0x00 none [] ∷ off ∷ off ∷ [] }
+    ∷ record { given = given 66 15 0 (on_b (0 ∷ 0x4301C0 ∷ 0 ∷ 0 ∷ []) 2 2); tells = off ∷ counting 0xC0 0x01 None [] ∷ off ∷ off ∷ [] }
+    ∷ record { given = given 66 15 0 (on_b (0x43003C ∷ 0 ∷ 0 ∷ 0x4302CD ∷ []) 9 0x8000000000000008); tells = counting 0x3C 0x00 None [] ∷ off ∷ off ∷ counting 0xCD 0x02 None [] ∷ [] }
+    ∷ record { given = given 66 14 2 (on_b (0x4301C0 ∷ 0 ∷ 0 ∷ 0x4302CD ∷ []) 0x200000009 0x8000000000000008); tells = not_ours ∷ off ∷ off ∷ counting 0xCD 0x02 None [] ∷ [] }
+    ∷ record { given = given 66 15 0 (on_b (0 ∷ 0x4300C0 ∷ 0 ∷ 0 ∷ []) 2 0); tells = off ∷ counting 0xC0 0x00 None [] ∷ off ∷ off ∷ [] }
     ∷ []
 
 -- what is told of an example; the counters past the device's are not ours
@@ -173,13 +169,13 @@ refusals =
     -- order 5: a bit outside the fields of the mask register
     ∷ refused_as_lem 15 (given 83 15 0 (on_s (0x400000 ∷ 0 ∷ 0 ∷ 0 ∷ []) 0x8000000000000000 0 0x8000000000 1))
     -- order 7: another value of the U-Box; pmi_en left out, and where nothing is asked; "3 where opening would refuse them"
-    ∷ refused_as_lem 15 (asked 83 1 NoCore 0x500052 1 0x10000000)
-    ∷ refused_as_lem 15 (asked 83 0 (At 2) 0x500052 1 0x10000004)
-    ∷ refused_as_lem 15 (asked 83 1 NoCore 0x400052 1 0x90000000)
-    ∷ refused_as_lem 15 (asked 83 0 NoCore 0x500052 1 0)
-    ∷ refused_as_lem 3 (asked 83 2 NoCore 0x500052 1 0x90000000)
-    ∷ refused_as_lem 3 (asked 83 1 (At 8) 0x500052 1 0x90000000)
-    ∷ refused_as_lem 3 (asked 71 1 NoCore 0x4300C0 1 0x90000000)
+    ∷ refused_as_lem 15 (asked 83 1 None 0x500052 1 0x10000000)
+    ∷ refused_as_lem 15 (asked 83 0 (Some 2) 0x500052 1 0x10000004)
+    ∷ refused_as_lem 15 (asked 83 1 None 0x400052 1 0x90000000)
+    ∷ refused_as_lem 15 (asked 83 0 None 0x500052 1 0)
+    ∷ refused_as_lem 3 (asked 83 2 None 0x500052 1 0x90000000)
+    ∷ refused_as_lem 3 (asked 83 1 (Some 8) 0x500052 1 0x90000000)
+    ∷ refused_as_lem 3 (asked 71 1 None 0x4300C0 1 0x90000000)
     -- order 12: another value beside C0/01; another event beside it; in another counter; with another usable set
     ∷ refused_as_lem 15 (given 66 15 0 (on_b (0 ∷ 0x4301C0 ∷ 0 ∷ 0 ∷ []) 2 0))
     ∷ refused_as_lem 15 (given 66 15 0 (on_b (0 ∷ 0x4301C0 ∷ 0 ∷ 0 ∷ []) 2 0xA))
@@ -193,11 +189,11 @@ refusals =
     ∷ refused_as_lem 15 (given 66 15 0 (on_b (0 ∷ 0 ∷ 0x4302CD ∷ 0 ∷ []) 4 0x8000000000000004))
     ∷ refused_as_lem 15 (given 66 15 0 (on_b (0x43003C ∷ 0 ∷ 0 ∷ 0 ∷ []) 1 0x8000000000000000))
     ∷ refused_as_lem 15 (given 71 15 0 (on_g (0 ∷ 0x4301C0 ∷ 0 ∷ 0 ∷ []) 0 0 2))
-    ∷ refused_as_lem 3 (asked 66 1 NoCore 0x43003C 1 0x90000000)
+    ∷ refused_as_lem 3 (asked 66 1 None 0x43003C 1 0x90000000)
     ∷ []
 
 pub record ReadingExamples : Type 0 where
   -- what each reading tells
   pub told_as : map (λ (e : AcceptedAs). told_by (reading_for e.given)) acceptances ≡ map tells_of acceptances
   -- the number of each refusal
-  pub numbered : map (λ (e : RefusedAs). answer_number (reading_for e.given).answer) refusals ≡ map (λ (e : RefusedAs). some e.number) refusals
+  pub numbered : map (λ (e : RefusedAs). answer_number (answer_of (reading_for e.given))) refusals ≡ map (λ (e : RefusedAs). Some e.number) refusals

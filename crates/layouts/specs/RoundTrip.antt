@@ -1,10 +1,8 @@
 -- "Writes of a turn, applied to any registers and read, give that turn's plan counter by counter."
-use Rattle.std.specs.Prelude.{◌≡◌, List, ℕ, ltb}
-use Rattle.std.proofs.Math.Option.{some}
+use Rattle.std.specs.Prelude.{◌≡◌, List, ℕ, ltb, Some, Ok}
 use Rattle.requests.specs.declared.Device.{Device}
 use Rattle.requests.specs.declared.Setup.{Setup}
 use Rattle.requests.specs.declared.Request.{Request}
-use Rattle.requests.specs.declared.Answer.TheVariants.{Accepted}
 use Rattle.requests.specs.Choice.{pick}
 use Rattle.requests.specs.Devices.{counter_count, capacity, setup_of, opening_of}
 use Rattle.requests.specs.Checks.{Formed}
@@ -13,7 +11,7 @@ use Rattle.plans.specs.Lists.{All}
 use Rattle.plans.specs.Legal.{Legal}
 use Rattle.layouts.specs.Layout.{tabulate, layout_of, control_at, rsp0_at, rsp1_at, mm_cfg_at, match_at, mask_at, ubox_at, pebs_at}
 use Rattle.layouts.specs.Writes.{Write, writes, apply}
-use Rattle.layouts.specs.Read.{read_of}
+use Rattle.layouts.specs.Read.{answer_of, read_of}
 use Rattle.layouts.specs.Told.{told_by, told_plan}
 use Rattle.layouts.specs.declared.RegisterValues.{RegisterValues}
 
@@ -30,14 +28,14 @@ values_in d r =
 
 -- from any registers, the writes are read as the plan
 pub record ReadBack (s : Setup) (rs : List Request) (ps : List Place) (ws : List Write) (registers : ℕ → ℕ) : Type 0 where
-  pub accepted : (read_of (opening_of s) (values_in s.device (apply ws registers))).answer ≡ Accepted
+  pub accepted : answer_of (read_of (opening_of s) (values_in s.device (apply ws registers))) ≡ Ok tt
   pub plan : told_by (read_of (opening_of s) (values_in s.device (apply ws registers))) ≡ told_plan s rs ps
 
 -- the writes of every legal plan of well-formed requests, under every setup that open takes
 abbrev pub RoundTrip : Type 0
 RoundTrip =
     (s : Setup) (rs : List Request) (ps : List Place)
-    → setup_of (opening_of s) ≡ some s
+    → setup_of (opening_of s) ≡ Some s
     → All (Formed s) rs
     → Legal s rs ps
     → (registers : ℕ → ℕ)

@@ -1,6 +1,6 @@
 -- The register values of a plan.
 use mathlib.Core.List.{List, [], ◌∷◌, flat_map}
-use Rattle.std.specs.Prelude.{Bool, true, false, ℕ, zero, suc, ◌+◌, ◌*◌, eqb}
+use Rattle.std.specs.Prelude.{Option, None, Some, Bool, true, false, ℕ, zero, suc, ◌+◌, ◌*◌, eqb}
 use Rattle.requests.specs.declared.Setup.{Setup}
 use Rattle.requests.specs.declared.Request.{Request}
 use Rattle.requests.specs.declared.Request.TheVariants.{Event, Packet, Offcore, Latency}
@@ -35,6 +35,11 @@ abbrev pub head_or : {A : Type 0} → A → List A → A
 head_or a [] = a
 head_or a (x ∷ xs) = x
 
+-- the first element, if there is one
+abbrev pub head_of : {A : Type 0} → List A → Option A
+head_of [] = None
+head_of (x ∷ xs) = Some x
+
 -- whether there is an element
 abbrev pub nonempty : {A : Type 0} → List A → Bool
 nonempty [] = false
@@ -48,7 +53,5 @@ settings_of s rs ps =
       words = tabulate capacity (word_at (of_all (uses_of s) rs ps));
       rsp0 = head_or 0 (of_all (words_of 0) rs ps);
       rsp1 = head_or 0 (of_all (words_of 1) rs ps);
-      packets = nonempty (flat_map packets_of rs);
-      match_word = (head_or (0, 0) (flat_map packets_of rs)).0;
-      mask_word = (head_or (0, 0) (flat_map packets_of rs)).1;
+      packet = head_of (flat_map packets_of rs);
     }

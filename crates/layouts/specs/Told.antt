@@ -1,6 +1,5 @@
 -- What the reader tells of a counter, in document 01's values; and what a plan has at each counter, written off its requests and places.
-use Rattle.std.specs.Prelude.{List, [], ◌∷◌, map, Bool, true, false, ℕ, eqb}
-use Rattle.std.proofs.Math.Option.{Option, none, some}
+use Rattle.std.specs.Prelude.{List, [], ◌∷◌, map, Bool, true, false, ℕ, eqb, Option, None, Some}
 use Rattle.requests.specs.declared.Setup.{Setup}
 use Rattle.requests.specs.declared.Request.{Request}
 use Rattle.requests.specs.declared.Request.TheVariants.{Event, Packet, Offcore, Latency}
@@ -14,8 +13,7 @@ use Rattle.layouts.specs.Layout.{tabulate, offcore_code, rsp_mask}
 use Rattle.layouts.specs.declared.FilterRead.TheVariants.{NoFilter, Rsp, MatchMask}
 use Rattle.layouts.specs.declared.CounterState.{CounterState}
 use Rattle.layouts.specs.declared.CounterState.TheVariants.{NotOurs, Off, Counts}
-use Rattle.layouts.specs.declared.CounterRead.{CounterRead}
-use Rattle.layouts.specs.declared.Reading.{Reading}
+use Rattle.layouts.specs.Read.{Reading, states_of}
 
 -- whether the counter is ours; its event (code, unit mask) unless it is off; its RSP register; the words of its filter
 pub record Told : Type 0 where
@@ -26,35 +24,35 @@ pub record Told : Type 0 where
 
 -- "not ours"
 abbrev pub not_ours : Told
-not_ours = record { ours = false; event = none; register = none; words = [] }
+not_ours = record { ours = false; event = None; register = None; words = [] }
 
 -- "off"
 abbrev pub off : Told
-off = record { ours = true; event = none; register = none; words = [] }
+off = record { ours = true; event = None; register = None; words = [] }
 
 -- "event with its filter register and words"
 abbrev pub counting : ℕ → ℕ → Option ℕ → List ℕ → Told
-counting c m i ws = record { ours = true; event = some (c, m); register = i; words = ws }
+counting c m i ws = record { ours = true; event = Some (c, m); register = i; words = ws }
 
 -- the values of each case
 unfoldable pub told : CounterState → Told
 told NotOurs = not_ours
 told Off = off
-told (Counts c m NoFilter) = counting c m none []
-told (Counts c m (Rsp i w)) = counting c m (some i) (w ∷ [])
-told (Counts c m (MatchMask x y)) = counting c m none (x ∷ y ∷ [])
+told (Counts c m NoFilter) = counting c m None []
+told (Counts c m (Rsp i w)) = counting c m (Some i) (w ∷ [])
+told (Counts c m (MatchMask x y)) = counting c m None (x ∷ y ∷ [])
 
 -- what a reading tells, counter by counter
 unfoldable pub told_by : Reading → List Told
-told_by reading = map (λ (c : CounterRead). told c.state) reading.counters
+told_by reading = map told (states_of reading)
 
 -- the counters of a placed request, with what is to be told of them
 unfoldable pub told_of : Request → Place → List (ℕ × Told)
-told_of (Event c m a) p = (first p, counting c m none []) ∷ []
-told_of (Packet x y a) p = (first p, counting 0 0 none (x ∷ y ∷ [])) ∷ []
-told_of (Offcore w a) p = (first p, counting offcore_code (rsp_mask (second p)) (some (second p)) (w ∷ [])) ∷ []
+told_of (Event c m a) p = (first p, counting c m None []) ∷ []
+told_of (Packet x y a) p = (first p, counting 0 0 None (x ∷ y ∷ [])) ∷ []
+told_of (Offcore w a) p = (first p, counting offcore_code (rsp_mask (second p)) (Some (second p)) (w ∷ [])) ∷ []
 told_of (Latency t a b) p =
-    (first p, counting offcore_code (rsp_mask 0) (some 0) (latency_word 0 t ∷ [])) ∷ (second p, counting offcore_code (rsp_mask 1) (some 1) (latency_word 1 t ∷ [])) ∷ []
+    (first p, counting offcore_code (rsp_mask 0) (Some 0) (latency_word 0 t ∷ [])) ∷ (second p, counting offcore_code (rsp_mask 1) (Some 1) (latency_word 1 t ∷ [])) ∷ []
 
 -- counter k's, off where no request has it
 unfoldable pub told_at : List (ℕ × Told) → ℕ → Told

@@ -1,6 +1,5 @@
 -- "01A6 then 01A7, 0 where unused", and of the reader "an unused RSP must be 0": each RSP register by itself, whatever the other holds.
-use Rattle.std.specs.Prelude.{◌≡◌, ◌≢◌, List, ℕ, ◌+◌, ◌<◌, get_or}
-use Rattle.std.proofs.Math.Option.{none, some}
+use Rattle.std.specs.Prelude.{◌≡◌, ◌≢◌, List, ℕ, ◌+◌, ◌<◌, get_or, None, Some}
 use Rattle.requests.specs.declared.Device.TheVariants.{G}
 use Rattle.requests.specs.declared.Opening.{Opening}
 use Rattle.requests.specs.declared.Setup.{Setup}
@@ -11,12 +10,12 @@ use Rattle.plans.specs.declared.Place.{Place}
 use Rattle.plans.specs.Legal.{Legal}
 use Rattle.plans.specs.LegalInWords.{Nth, Asks, InSet}
 use Rattle.layouts.specs.Writes.{writes, apply}
-use Rattle.layouts.specs.Read.{read_of}
+use Rattle.layouts.specs.Read.{answer_of, read_of}
 use Rattle.layouts.specs.declared.RegisterValues.{RegisterValues}
 
 -- the reader of a session on G accepts the values
 abbrev pub AcceptedOnG : Opening → Setup → RegisterValues → Type 0
-AcceptedOnG o s v = (setup_of o ≡ some s) × (s.device ≡ G) × (answer_number (read_of o v).answer ≡ none)
+AcceptedOnG o s v = (setup_of o ≡ Some s) × (s.device ≡ G) × (answer_number (answer_of (read_of o v)) ≡ None)
 
 -- no usable counter has the control word
 abbrev pub NoCounterHas : Setup → RegisterValues → ℕ → Type 0

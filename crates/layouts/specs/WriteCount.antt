@@ -1,7 +1,6 @@
 -- "At most 16 writes on G and 18 on S." On C 20: six counters, and no filter registers. On B 15: G's without 01A6 and 01A7, and with 03F1.
 -- Two more where something is asked of the U-Box.
-use Rattle.std.specs.Prelude.{◌≡◌, List, Bool, true, false, ℕ, ◌≤◌, length}
-use Rattle.std.proofs.Math.Option.{some}
+use Rattle.std.specs.Prelude.{◌≡◌, List, Bool, true, false, ℕ, ◌≤◌, length, Some}
 use Rattle.requests.specs.declared.Device.{Device}
 use Rattle.requests.specs.declared.Device.TheVariants.{G, S, C, B}
 use Rattle.requests.specs.declared.Setup.{Setup}
@@ -31,7 +30,7 @@ pub record Reached (d : Device) (a : Bool) : Type 0 where
   pub places : List Place
   pub device : setup.device ≡ d
   pub asking : asked setup ≡ a
-  pub taken : box_of d ≤ most_box d → setup_of (opening_of setup) ≡ some setup
+  pub taken : box_of d ≤ most_box d → setup_of (opening_of setup) ≡ Some setup
   pub formed : All (Formed setup) requests
   pub legal : Legal setup requests places
   pub length_is : length (writes setup requests places) ≡ write_limit d a

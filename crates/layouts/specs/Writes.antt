@@ -1,10 +1,8 @@
 -- Document 01, 'Writes, in order', order 7's frame, and order 12's IA32_PEBS_ENABLE.
-use Rattle.std.specs.Prelude.{List, [], ◌∷◌, ◌++◌, Bool, true, false, ℕ, zero, suc, ◌+◌, ◌*◌, ◌-◌, ◌%◌, ◌^◌, ltb, eqb, length, get_or, drop, replicate}
+use Rattle.std.specs.Prelude.{List, [], ◌∷◌, ◌++◌, Bool, true, false, ℕ, zero, suc, ◌+◌, ◌*◌, ◌-◌, ◌%◌, ◌^◌, ltb, eqb, length, get_or, drop, replicate, Option, None, Some}
 use Rattle.requests.specs.declared.CounterSet.{CounterSet}
 use Rattle.requests.specs.declared.Device.{Device}
 use Rattle.requests.specs.declared.Device.TheVariants.{G, S, C, B}
-use Rattle.requests.specs.declared.Core.{Core}
-use Rattle.requests.specs.declared.Core.TheVariants.{NoCore, At}
 use Rattle.requests.specs.declared.Setup.{Setup}
 use Rattle.requests.specs.declared.Request.{Request}
 use Rattle.requests.specs.Choice.{pick}
@@ -58,14 +56,14 @@ unfoldable pub offcore_writes : ℕ → ℕ → List Write
 offcore_writes w v = (rsp0_at, w) ∷ (rsp1_at, v) ∷ []
 
 -- "if a packet request is taken, MM_CFG = 0, MATCH, MASK, MM_CFG = 2^63, otherwise MM_CFG = 0 alone"
-unfoldable pub packet_writes : Bool → ℕ → ℕ → List Write
-packet_writes true x y = (mm_cfg_at, 0) ∷ (match_at, x) ∷ (mask_at, y) ∷ (mm_cfg_at, 2 ^ mm_enable) ∷ []
-packet_writes false x y = (mm_cfg_at, 0) ∷ []
+unfoldable pub packet_writes : Option (ℕ × ℕ) → List Write
+packet_writes (Some p) = (mm_cfg_at, 0) ∷ (match_at, p.0) ∷ (mask_at, p.1) ∷ (mm_cfg_at, 2 ^ mm_enable) ∷ []
+packet_writes None = (mm_cfg_at, 0) ∷ []
 
 -- the writes of the filter registers
 unfoldable pub filter_writes : Device → Settings → List Write
 filter_writes G t = offcore_writes t.rsp0 t.rsp1
-filter_writes S t = packet_writes t.packets t.match_word t.mask_word
+filter_writes S t = packet_writes t.packet
 filter_writes (C b) t = []
 filter_writes B t = []
 
@@ -79,9 +77,9 @@ unfoldable pub precise_writes : Device → Settings → List Write
 precise_writes d t = row (pebs_on d) pebs_at (pebs_enable (λ k. get_or t.words k 0))
 
 -- the bit of a core in pmi_core_sel
-unfoldable pub core_bit : Core → ℕ
-core_bit NoCore = 0
-core_bit (At c) = pick (ltb c core_count) (2 ^ (core_sel + c)) 0
+unfoldable pub core_bit : Option ℕ → ℕ
+core_bit None = 0
+core_bit (Some c) = pick (ltb c core_count) (2 ^ (core_sel + c)) 0
 
 -- the last value of the U-Box: "en_all and what was asked there"
 unfoldable pub ubox_value : Setup → ℕ

@@ -1,7 +1,7 @@
 // What is written into registers, and what is read from them: the types of the register tables, the writer and the reader.
 #![tactic(auto)]
 
-use requests::{Answer, CAPACITY, CounterSet};
+use requests::{CAPACITY, CounterSet, Refusal};
 
 // Where a device's registers are: counter k's control is at control + step * k, its count at counter + step * k.
 #[derive(Clone, Copy)]
@@ -12,23 +12,15 @@ pub struct Layout {
     pub step: u64,
 }
 
-// The register values of a plan: the used counters, the control word of each counter, the filter words.
+// The register values of a plan: the used counters, the control word of each counter, the words of the RSP registers, and the match and the mask
+// of a packet, if there is one.
 #[derive(Clone, Copy)]
 pub struct Settings {
     pub used: CounterSet,
     pub words: [u64; CAPACITY],
     pub rsp0: u64,
     pub rsp1: u64,
-    pub packets: bool,
-    pub match_word: u64,
-    pub mask_word: u64,
-}
-
-// The answer of the writer: the number of writes, or that the slice is shorter than twice that number.
-#[derive(Clone, Copy)]
-pub enum WriteAnswer {
-    Written(usize),
-    TooShort,
+    pub packet: Option<(u64, u64)>,
 }
 
 // The values of the filter registers of G and S, and none of C. Those that the device has not are not looked at.
@@ -53,7 +45,7 @@ pub struct RegisterValues {
 }
 
 // The filter of an event that is counted.
-#[derive(Clone, Copy)]
+#[derive(Clone, Copy, PartialEq, Eq)]
 pub enum FilterRead {
     NoFilter,
     Rsp(u64, u64),
@@ -61,7 +53,7 @@ pub enum FilterRead {
 }
 
 // What a counter does.
-#[derive(Clone, Copy)]
+#[derive(Clone, Copy, PartialEq, Eq)]
 pub enum CounterState {
     NotOurs,
     Off,
@@ -72,14 +64,5 @@ pub enum CounterState {
     },
 }
 
-#[derive(Clone, Copy)]
-pub struct CounterRead {
-    pub state: CounterState,
-}
-
-// The reader's answer: accepted with the state of each counter, or refused.
-#[derive(Clone, Copy)]
-pub struct Reading {
-    pub answer: Answer,
-    pub counters: [CounterRead; CAPACITY],
-}
+// The reader's answer: the state of each counter, or the refusal.
+pub type Reading = Result<[CounterState; CAPACITY], Refusal>;

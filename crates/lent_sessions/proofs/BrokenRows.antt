@@ -1,8 +1,8 @@
 -- What is refused for the records' sake. Assumes nothing.
+use Rattle.std.specs.Prelude.{Option, None, Some, Ok, Err}
 use mathlib.Core.Path.{◌≡◌, refl, ap, ◌∙◌}
 use mathlib.Core.List.{List, [], ◌∷◌, foldl}
 use mathlib.Core.Bool.{true, false, not}
-use mathlib.Core.Option.{Option, none, some}
 use mathlib.Mathlib.Data.Bool.Basic.{eq-false_of_not-eq-true}
 use Prim.Native.Nat.{ℕ, ◌-◌}
 use native.Mathlib.Omega.{arith}
@@ -12,7 +12,6 @@ use Rattle.requests.specs.declared.Setup.{Setup}
 use Rattle.requests.specs.declared.Entry.{Entry}
 use Rattle.requests.specs.declared.Refusal.{Refusal}
 use Rattle.requests.specs.declared.Refusal.TheVariants.{CallOrder, BadOpening}
-use Rattle.requests.specs.declared.Answer.TheVariants.{Accepted, Refused}
 use Rattle.requests.specs.Refusals.{answer_for}
 use Rattle.requests.specs.Devices.{setup_of}
 use Rattle.sessions.specs.Calls.{Call, Open, Add, Drop, Turn, Turns, Plain, not_open_lem, opened, waiting}
@@ -37,17 +36,17 @@ pub answered_so : (x : State) (c : Call) (r : Option Refusal) → lent_refusal x
 answered_so x c r h = answer_by x c ∙ ap answer_for h
 
 -- 2, of every call but open
-unopened : (s : LentSession) (rows : List Entry) (c : Call) → out_of_order_lem s c ≡ true → lent_answer (s, rows) c ≡ Refused CallOrder
+unopened : (s : LentSession) (rows : List Entry) (c : Call) → out_of_order_lem s c ≡ true → lent_answer (s, rows) c ≡ Err CallOrder
 unfolding answer_for
-unopened s rows c h = answered_so (s, rows) c (some CallOrder) (order_first s rows c h)
+unopened s rows c h = answered_so (s, rows) c (Some CallOrder) (order_first s rows c h)
 
-before : (s : LentSession) (rows : List Entry) → s.opened ≡ false → (c : Call) → UsesQueue c → lent_answer (s, rows) c ≡ Refused CallOrder
+before : (s : LentSession) (rows : List Entry) → s.opened ≡ false → (c : Call) → UsesQueue c → lent_answer (s, rows) c ≡ Err CallOrder
 unfolding out_of_order_lem
 before s rows h c adds = unopened s rows c (ap not h)
 before s rows h c drops = unopened s rows c (ap not h)
 before s rows h c turns = unopened s rows c (ap not h)
 
-again : (s : LentSession) (rows : List Entry) → s.opened ≡ true → (o : Opening) → lent_answer (s, rows) (Open o) ≡ Refused CallOrder
+again : (s : LentSession) (rows : List Entry) → s.opened ≡ true → (o : Opening) → lent_answer (s, rows) (Open o) ≡ Err CallOrder
 unfolding out_of_order_lem
 again s rows h o = unopened s rows (Open o) h
 
@@ -58,17 +57,17 @@ not_count : (n : ℕ) → ¬ IsCount n → not (is_count n) ≡ true
 not_count n out = ap not (eq-false_of_not-eq-true {b = is_count n} (λ c. out (row_rules.count n c)))
 
 -- 3, for the records
-spoiled : (s : LentSession) (rows : List Entry) (c : Call) → out_of_order_lem s c ≡ false → bad_rows s.setup rows c ≡ true → lent_answer (s, rows) c ≡ Refused BadOpening
+spoiled : (s : LentSession) (rows : List Entry) (c : Call) → out_of_order_lem s c ≡ false → bad_rows s.setup rows c ≡ true → lent_answer (s, rows) c ≡ Err BadOpening
 unfolding answer_for
-spoiled s rows c h b = answered_so (s, rows) c (some BadOpening) (rows_next s rows c h b)
+spoiled s rows c h b = answered_so (s, rows) c (Some BadOpening) (rows_next s rows c h b)
 
-broken : (s : LentSession) (rows : List Entry) → s.opened ≡ true → ¬ SoundRows s.setup rows → (c : Call) → UsesQueue c → lent_answer (s, rows) c ≡ Refused BadOpening
+broken : (s : LentSession) (rows : List Entry) → s.opened ≡ true → ¬ SoundRows s.setup rows → (c : Call) → UsesQueue c → lent_answer (s, rows) c ≡ Err BadOpening
 unfolding out_of_order_lem bad_rows
 broken s rows h n c adds = spoiled s rows c (ap not h) (not_sound s rows n)
 broken s rows h n c drops = spoiled s rows c (ap not h) (not_sound s rows n)
 broken s rows h n c turns = spoiled s rows c (ap not h) (not_sound s rows n)
 
-too_many : (s : LentSession) (rows : List Entry) → s.opened ≡ false → ¬ IsCount (length rows) → (o : Opening) → lent_answer (s, rows) (Open o) ≡ Refused BadOpening
+too_many : (s : LentSession) (rows : List Entry) → s.opened ≡ false → ¬ IsCount (length rows) → (o : Opening) → lent_answer (s, rows) (Open o) ≡ Err BadOpening
 unfolding out_of_order_lem bad_rows
 too_many s rows h n o = spoiled s rows (Open o) h (not_count (length rows) n)
 
@@ -80,17 +79,17 @@ no_records n = ap (λ (k : ℕ). replicate k vacant) (less n)
     less : (k : ℕ) → k - 0 ≡ k
     less k = omega arith
 
-opens : (s : LentSession) (rows : List Entry) → s.opened ≡ false → IsCount (length rows) → (o : Opening) (t : Setup) → setup_of o ≡ some t
-    → (lent_answer (s, rows) (Open o) ≡ Accepted) × (next_lent (s, rows) (Open o) ≡ (record { opened = true; setup = t }, replicate (length rows) Vacant))
+opens : (s : LentSession) (rows : List Entry) → s.opened ≡ false → IsCount (length rows) → (o : Opening) (t : Setup) → setup_of o ≡ Some t
+    → (lent_answer (s, rows) (Open o) ≡ Ok tt) × (next_lent (s, rows) (Open o) ≡ (record { opened = true; setup = t }, replicate (length rows) Vacant))
 unfolding answer_for out_of_order_lem bad_rows change waiting vacant
 opens s rows h n o t e =
     let plain : plain_with s rows ≡ not_open_lem = with_closed s rows h in
-    let accepted : lent_refusal s rows (Open o) ≡ none =
+    let accepted : lent_refusal s rows (Open o) ≡ None =
     table_last s rows (Open o) h (ap not (row_rules.counts (length rows) n))
     ∙ ap (λ (p : Plain). refusal (length rows) p (Open o)) plain
     ∙ open_accepted (length rows) o t e in
     let made : change not_open_lem (Open o) ≡ opened t [] = rw (e, change) in (
-      answered_so (s, rows) (Open o) none accepted,
+      answered_so (s, rows) (Open o) None accepted,
       next_by s rows (Open o)
           ∙ ap (λ (x : LentSession). (x, rows_after s rows (Open o))) (opens_with s rows o t accepted e)
           ∙ ap (λ (l : List Entry). (record { opened = true; setup = t }, l)) (

@@ -3,10 +3,11 @@
 --     sound-of, rows-of              sound rows are a sound queue in records, and back
 --     answer-by, session-by, next-by     the answer to a call, and what it leaves, by the row that refuses it
 --     next-is, lends-next, count-next    one call keeps the session and its records standing for the plain queue, and the records sound
+use Rattle.std.proofs.lemmas.Option.{none-some}
+use Rattle.std.specs.Prelude.{Option, None, Some}
 use mathlib.Core.Path.{◌≡◌, refl, ap, sym, subst, ◌∙◌}
 use mathlib.Core.List.{List, [], ◌∷◌, ◌++◌}
 use mathlib.Core.Bool.{Bool, true, false, not, false≢true}
-use mathlib.Core.Option.{Option, none, some, none-ne-some}
 use Prim.Native.Nat.{ℕ, ◌-◌, ◌≤◌}
 use native.Mathlib.Omega.{arith}
 use lib.ListN.{length, replicate, length-append, length-replicate}
@@ -49,7 +50,7 @@ with_opened s rows h = rw (h, plain_with)
 -- ---- the table
 
 module _ {A : Type 0} where
-  pub first_row : (b : Bool) (x : A) (rows : List (Row A)) → b ≡ true → first_holding ((b, x) ∷ rows) ≡ some x
+  pub first_row : (b : Bool) (x : A) (rows : List (Row A)) → b ≡ true → first_holding ((b, x) ∷ rows) ≡ Some x
   unfolding first_holding
   first_row b x rows h = rw (h, first_holding)
 
@@ -58,12 +59,12 @@ module _ {A : Type 0} where
   later_row b x rows h = rw (h, first_holding)
 
 -- 2 comes first
-pub order_first : (s : LentSession) (rows : List Entry) (c : Call) → out_of_order_lem s c ≡ true → lent_refusal s rows c ≡ some CallOrder
+pub order_first : (s : LentSession) (rows : List Entry) (c : Call) → out_of_order_lem s c ≡ true → lent_refusal s rows c ≡ Some CallOrder
 unfolding lent_refusal lent_table
 order_first s rows c h = first_row (out_of_order_lem s c) CallOrder _ h
 
 -- 3 for the records comes next
-pub rows_next : (s : LentSession) (rows : List Entry) (c : Call) → out_of_order_lem s c ≡ false → bad_rows s.setup rows c ≡ true → lent_refusal s rows c ≡ some BadOpening
+pub rows_next : (s : LentSession) (rows : List Entry) (c : Call) → out_of_order_lem s c ≡ false → bad_rows s.setup rows c ≡ true → lent_refusal s rows c ≡ Some BadOpening
 unfolding lent_refusal lent_table
 rows_next s rows c h b = later_row (out_of_order_lem s c) CallOrder _ h ∙ first_row (bad_rows s.setup rows c) BadOpening _ b
 
@@ -74,7 +75,7 @@ unfolding lent_refusal lent_table refusal
 table_last s rows c h b = later_row (out_of_order_lem s c) CallOrder _ h ∙ later_row (bad_rows s.setup rows c) BadOpening _ b
 
 -- the plain queue refuses with 2 where the session does
-pub plain_order : (limit : ℕ) (s : LentSession) (rows : List Entry) (c : Call) → out_of_order_lem s c ≡ true → refusal limit (plain_with s rows) c ≡ some CallOrder
+pub plain_order : (limit : ℕ) (s : LentSession) (rows : List Entry) (c : Call) → out_of_order_lem s c ≡ true → refusal limit (plain_with s rows) c ≡ Some CallOrder
 unfolding out_of_order_lem
 plain_order limit s rows (Open o) h = rw (with_opened s rows h) (open_again limit s.setup (standing rows) o)
 plain_order limit s rows (Add id r) h = rw (with_closed s rows (not-true s.opened h)) (add_closed limit id r)
@@ -150,8 +151,8 @@ standing_records n t q k = standing_placed t (n - length q) q k.ids
 turn_by : (s : LentSession) (rows : List Entry) (room : ℕ) (x : Option Refusal) → lent_refusal s rows (Turn room) ≡ x
     → ((lent_turned s rows room).answer ≡ answer_for x) × ((lent_turned s rows room).session ≡ s)
 unfolding lent_turned lent_turn
-turn_by s rows room none e = (rw (e, lent_turned), rw (e, lent_turned))
-turn_by s rows room (some x) e = (rw (e, lent_turned), rw (e, lent_turned))
+turn_by s rows room None e = (rw (e, lent_turned), rw (e, lent_turned))
+turn_by s rows room (Some x) e = (rw (e, lent_turned), rw (e, lent_turned))
 
 pub answer_by : (x : State) (c : Call) → lent_answer x c ≡ answer_for (lent_refusal x.0 x.1 c)
 unfolding lent_answer lent_answered
@@ -164,8 +165,8 @@ answer_by (s, rows) (Turns n room places) = refl
 -- add, drop and turn leave the session as it is, refused or not
 turn_after : (s : LentSession) (rows : List Entry) (room : ℕ) (x : Option Refusal) → lent_refusal s rows (Turn room) ≡ x → s ≡ lent_after s rows (Turn room)
 unfolding lent_after lent_changed
-turn_after s rows room none e = rw e
-turn_after s rows room (some x) e = rw e
+turn_after s rows room None e = rw e
+turn_after s rows room (Some x) e = rw e
 
 pub session_by_lem : (s : LentSession) (rows : List Entry) (c : Call) → next_session (s, rows) c ≡ lent_after s rows c
 unfolding next_session lent_answered
@@ -178,19 +179,19 @@ session_by_lem s rows (Turns n room places) = refl
 pub next_by : (s : LentSession) (rows : List Entry) (c : Call) → next_lent (s, rows) c ≡ (lent_after s rows c, rows_after s rows c)
 next_by s rows c = ap (λ (t : LentSession). (t, rows_after s rows c)) (session_by_lem s rows c)
 
-pub rows_refused : (s : LentSession) (rows : List Entry) (c : Call) (x : Refusal) → lent_refusal s rows c ≡ some x → (lent_after s rows c ≡ s) × (rows_after s rows c ≡ rows)
+pub rows_refused : (s : LentSession) (rows : List Entry) (c : Call) (x : Refusal) → lent_refusal s rows c ≡ Some x → (lent_after s rows c ≡ s) × (rows_after s rows c ≡ rows)
 unfolding lent_after rows_after
 rows_refused s rows c x h = (rw h, rw h)
 
-pub rows_accepted : (s : LentSession) (rows : List Entry) (c : Call) → lent_refusal s rows c ≡ none → rows_after s rows c ≡ records_of (length rows) (waiting (change (plain_with s rows) c))
+pub rows_accepted : (s : LentSession) (rows : List Entry) (c : Call) → lent_refusal s rows c ≡ None → rows_after s rows c ≡ records_of (length rows) (waiting (change (plain_with s rows) c))
 unfolding rows_after
 rows_accepted s rows c h = rw h
 
-pub session_accepted : (s : LentSession) (rows : List Entry) (c : Call) → lent_refusal s rows c ≡ none → lent_after s rows c ≡ lent_changed s c
+pub session_accepted : (s : LentSession) (rows : List Entry) (c : Call) → lent_refusal s rows c ≡ None → lent_after s rows c ≡ lent_changed s c
 unfolding lent_after
 session_accepted s rows c h = rw h
 
-pub opens_with : (s : LentSession) (rows : List Entry) (o : Opening) (t : Setup) → lent_refusal s rows (Open o) ≡ none → setup_of o ≡ some t
+pub opens_with : (s : LentSession) (rows : List Entry) (o : Opening) (t : Setup) → lent_refusal s rows (Open o) ≡ None → setup_of o ≡ Some t
     → lent_after s rows (Open o) ≡ record { opened = true; setup = t }
 unfolding lent_changed
 opens_with s rows o t h e = session_accepted s rows (Open o) h ∙ rw (e, lent_changed)
@@ -201,10 +202,10 @@ record Left (s : LentSession) (rows : List Entry) (c : Call) : Type 0 where
   lends : Lends (lent_after s rows c) (rows_after s rows c)
   count : length (rows_after s rows c) ≡ length rows
 
-left_refused : (s : LentSession) (rows : List Entry) → Lends s rows → (c : Call) (x : Refusal) → lent_refusal s rows c ≡ some x → Left s rows c
+left_refused : (s : LentSession) (rows : List Entry) → Lends s rows → (c : Call) (x : Refusal) → lent_refusal s rows c ≡ Some x → Left s rows c
 left_refused s rows l c x h =
     let t = rows_refused s rows c x h in
-    let r : refusal (length rows) (plain_with s rows) c ≡ some x = sym (refused_as s rows (in_order l) c) ∙ h in
+    let r : refusal (length rows) (plain_with s rows) c ≡ Some x = sym (refused_as s rows (in_order l) c) ∙ h in
     record {
       stands = rw (t.0, t.1) (sym (step_refused (length rows) (plain_with s rows) c x r));
       lends = rw (t.0, t.1) l;
@@ -212,7 +213,7 @@ left_refused s rows l c x h =
     }
 
 -- an accepted add, drop or turn of a session that is open
-left_queue : (s : LentSession) (rows : List Entry) → IsOpened s → SoundRows s.setup rows → (c : Call) (q : List Entry) → lent_refusal s rows c ≡ none
+left_queue : (s : LentSession) (rows : List Entry) → IsOpened s → SoundRows s.setup rows → (c : Call) (q : List Entry) → lent_refusal s rows c ≡ None
     → lent_after s rows c ≡ s → change (opened s.setup (standing rows)) c ≡ opened s.setup q → Left s rows c
 unfolding waiting
 left_queue s rows o k c q h stays made =
@@ -229,15 +230,15 @@ left_queue s rows o k c q h stays made =
     }
 
 -- an accepted open
-left_open : (s : LentSession) (rows : List Entry) → s.opened ≡ false → IsCount (length rows) → (o : Opening) → lent_refusal s rows (Open o) ≡ none → Left s rows (Open o)
+left_open : (s : LentSession) (rows : List Entry) → s.opened ≡ false → IsCount (length rows) → (o : Opening) → lent_refusal s rows (Open o) ≡ None → Left s rows (Open o)
 unfolding change waiting
 left_open s rows h n o accepted =
     let k : ℕ = length rows in
     let plain : plain_with s rows ≡ not_open_lem = with_closed s rows h in
-    let ok : refusal k not_open_lem (Open o) ≡ none = ap (λ (p : Plain). refusal k p (Open o)) (sym plain) ∙ sym (refused_as s rows (before h n) (Open o)) ∙ accepted in
+    let ok : refusal k not_open_lem (Open o) ≡ None = ap (λ (p : Plain). refusal k p (Open o)) (sym plain) ∙ sym (refused_as s rows (before h n) (Open o)) ∙ accepted in
     let found = accepted_open k o ok in
     let t : Setup = found.0 in
-    let opening : setup_of o ≡ some t = found.1 in
+    let opening : setup_of o ≡ Some t = found.1 in
     let made : change not_open_lem (Open o) ≡ opened t [] = rw (opening, change) in
     let session-is : lent_after s rows (Open o) ≡ record { opened = true; setup = t } = opens_with s rows o t accepted opening in
     let rows_are : rows_after s rows (Open o) ≡ records_of k [] = rows_accepted s rows (Open o) accepted ∙ ap (λ (p : Plain). records_of k (waiting (change p (Open o)))) plain ∙ ap (λ (p : Plain). records_of k (waiting p)) made in
@@ -248,10 +249,10 @@ left_open s rows h n o accepted =
       count = ap length rows_are ∙ length_records k [] sound.within;
     }
 
-no_order : (s : LentSession) (rows : List Entry) (c : Call) → out_of_order_lem s c ≡ true → lent_refusal s rows c ≡ none → ⊥
-no_order s rows c h e = none-ne-some CallOrder (sym e ∙ order_first s rows c h)
+no_order : (s : LentSession) (rows : List Entry) (c : Call) → out_of_order_lem s c ≡ true → lent_refusal s rows c ≡ None → ⊥
+no_order s rows c h e = none-some CallOrder (sym e ∙ order_first s rows c h)
 
-left_accepted : (s : LentSession) (rows : List Entry) → Lends s rows → (c : Call) → lent_refusal s rows c ≡ none → Left s rows c
+left_accepted : (s : LentSession) (rows : List Entry) → Lends s rows → (c : Call) → lent_refusal s rows c ≡ None → Left s rows c
 unfolding out_of_order_lem change on_queue lent_changed
 left_accepted s rows (closed h n) (Open o) e = left_open s rows h n o e
 left_accepted s rows (closed h n) (Add id r) e = absurd (no_order s rows (Add id r) (ap not h) e)
@@ -270,8 +271,8 @@ left : (s : LentSession) (rows : List Entry) → Lends s rows → (c : Call) →
 left s rows l c = go (lent_refusal s rows c) refl
   where
     go : (x : Option Refusal) → lent_refusal s rows c ≡ x → Left s rows c
-    go (some x) h = left_refused s rows l c x h
-    go none h = left_accepted s rows l c h
+    go (Some x) h = left_refused s rows l c x h
+    go None h = left_accepted s rows l c h
 
 module _ (s : LentSession) (rows : List Entry) (l : Lends s rows) (c : Call) where
   pub next_is : plain_in (next_lent (s, rows) c) ≡ step (length rows) (plain_with s rows) c

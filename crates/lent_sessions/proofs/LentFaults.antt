@@ -1,9 +1,10 @@
 -- The table of a lent session with fields is its refusal table with the field of each refusal, and the field is the leftmost: by the table of the plain
 -- queue, and the rules of the records. Assumes nothing.
+use Rattle.std.proofs.lemmas.Option.{same_Some}
+use Rattle.std.specs.Prelude.{Some}
 use mathlib.Core.Path.{◌≡◌, refl, ap, sym, subst, ◌∙◌}
 use mathlib.Core.Bool.{Bool, true, false, not}
 use mathlib.Core.List.{List}
-use mathlib.Core.Option.{some, some-injective}
 use mathlib.Mathlib.Data.Bool.Basic.{eq-false_of_not-eq-true}
 use Prim.Native.Nat.{ℕ, ◌<◌}
 use native.Mathlib.Omega.{arith}
@@ -36,11 +37,11 @@ use Rattle.lent_sessions.proofs.LentCalls.{with_closed, with_opened, first_row, 
 module _ (s : LentSession) (rows : List Entry) where
   -- ---- the rows
 
-  order_fault : (c : Call) → out_of_order_lem s c ≡ true → lent_fault s rows c ≡ some (at CallOrder 0)
+  order_fault : (c : Call) → out_of_order_lem s c ≡ true → lent_fault s rows c ≡ Some (at CallOrder 0)
   unfolding lent_fault lent_fault_table
   order_fault c h = first_row (out_of_order_lem s c) (at CallOrder 0) _ h
 
-  rows_fault : (c : Call) → out_of_order_lem s c ≡ false → bad_rows s.setup rows c ≡ true → lent_fault s rows c ≡ some (at BadOpening 0)
+  rows_fault : (c : Call) → out_of_order_lem s c ≡ false → bad_rows s.setup rows c ≡ true → lent_fault s rows c ≡ Some (at BadOpening 0)
   unfolding lent_fault lent_fault_table
   rows_fault c h b = later_row (out_of_order_lem s c) (at CallOrder 0) _ h ∙ first_row (bad_rows s.setup rows c) (at BadOpening 0) _ b
 
@@ -89,7 +90,7 @@ module _ (s : LentSession) (rows : List Entry) where
       go true h y b = order_fault c h ∙ ap (with_field (lent_fields_of s.setup.device (length rows) c)) (sym (order_first s rows c h))
       go false h true b =
           rows_fault c h b
-          ∙ ap (λ (k : ℕ). some (at BadOpening k)) (sym (rows_field c b))
+          ∙ ap (λ (k : ℕ). Some (at BadOpening k)) (sym (rows_field c b))
           ∙ ap (with_field (lent_fields_of s.setup.device (length rows) c)) (sym (rows_next s rows c h b))
       go false h false b =
           table_fault c h b ∙ plain_fields c
@@ -139,10 +140,10 @@ module _ (s : LentSession) (rows : List Entry) where
   at_verb : (c : Call) (x : Refusal) → LentAppliesAt s rows c x 0 → Leftmost c (at x 0)
   at_verb c x h = record { applies = h; first = λ k l a. absurd (omega arith) }
 
-  found : (c : Call) (g f : Fault) → some g ≡ some f → Leftmost c g → Leftmost c f
-  found c g f e l = subst (Leftmost c) (some-injective g f e) l
+  found : (c : Call) (g f : Fault) → Some g ≡ Some f → Leftmost c g → Leftmost c f
+  found c g f e l = subst (Leftmost c) (same_Some g f e) l
 
-  lent_leftmost : (c : Call) (f : Fault) → lent_fault s rows c ≡ some f → Leftmost c f
+  lent_leftmost : (c : Call) (f : Fault) → lent_fault s rows c ≡ Some f → Leftmost c f
   lent_leftmost c f e = go (out_of_order_lem s c) refl (bad_rows s.setup rows c) refl
     where
       go : (x : Bool) → out_of_order_lem s c ≡ x → (y : Bool) → bad_rows s.setup rows c ≡ y → Leftmost c f
@@ -157,7 +158,7 @@ module _ (s : LentSession) (rows : List Entry) where
 
   -- ---- 3 for the records
 
-  number_first : (o : Opening) → s.opened ≡ false → ¬ IsCount (length rows) → lent_fault s rows (Open o) ≡ some (at BadOpening 0)
+  number_first : (o : Opening) → s.opened ≡ false → ¬ IsCount (length rows) → lent_fault s rows (Open o) ≡ Some (at BadOpening 0)
   unfolding out_of_order_lem bad_rows
   number_first o h n = rows_fault (Open o) h (ap not (eq-false_of_not-eq-true (λ t. n (row_rules.count (length rows) t))))
 
@@ -169,7 +170,7 @@ module _ (s : LentSession) (rows : List Entry) where
   in_order (Turn room) l h = ap not h
   in_order (Turns n room places) l h = ap not h
 
-  rows_first : (c : Call) → s.opened ≡ true → Later c → ¬ SoundRows s.setup rows → lent_fault s rows c ≡ some (at BadOpening 0)
+  rows_first : (c : Call) → s.opened ≡ true → Later c → ¬ SoundRows s.setup rows → lent_fault s rows c ≡ Some (at BadOpening 0)
   rows_first c h l n = rows_fault c (in_order c l h) (go (bad_rows s.setup rows c) refl)
     where
       go : (y : Bool) → bad_rows s.setup rows c ≡ y → bad_rows s.setup rows c ≡ true

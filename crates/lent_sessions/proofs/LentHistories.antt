@@ -2,10 +2,10 @@
 --     Stands, faithful    it is a faithful machine, so
 --     lent-demand3        it keeps the promise of demand 3
 --     lent-shorter        and the shorter one
+use Rattle.std.specs.Prelude.{None}
 use mathlib.Core.Path.{◌≡◌, refl, ap, ap₂, sym, ◌∙◌}
 use mathlib.Core.List.{List}
 use mathlib.Core.Bool.{Bool, true, false}
-use mathlib.Core.Option.{none}
 use Prim.Native.Nat.{ℕ}
 use native.Mathlib.Omega.{arith}
 use lib.ListN.{length}
@@ -59,7 +59,7 @@ module _ (n : ℕ) where
         count = count_next s rows w.lent c ∙ w.count;
       }
 
-  plans : (x : State) (t : Setup) (q : List Entry) → Stands n x (opened t q) → (room : ℕ) → refusal n (opened t q) (Turn room) ≡ none
+  plans : (x : State) (t : Setup) (q : List Entry) → Stands n x (opened t q) → (room : ℕ) → refusal n (opened t q) (Turn room) ≡ None
       → lent_plan (lent_turned x.0 x.1 room) ≡ plan_for t q
   plans (s, rows) t q w room h =
       let same = stands_for s rows t q w.plain in

@@ -1,7 +1,7 @@
 -- Demand 2 of every accepted turn of a lent session, by what is known of a turn with any limit. Assumes nothing.
+use Rattle.std.specs.Prelude.{None}
 use mathlib.Core.Path.{◌≡◌, ap, sym, ◌∙◌}
 use mathlib.Core.List.{List}
-use mathlib.Core.Option.{none}
 use Prim.Native.Nat.{ℕ}
 use lib.ListN.{length}
 use Rattle.requests.specs.declared.Entry.{Entry}
@@ -30,8 +30,8 @@ lent_turn_plan s rows o k slice answer =
     let q : List Entry = k.queue in
     let same : standing rows ≡ q = sym (row_rules.stands s.setup rows k) in
     let plain : plain_with s rows ≡ opened s.setup q = with_opened s rows o.is_open ∙ ap (opened s.setup) same in
-    let row : lent_refusal s rows (Turn room) ≡ none = answer_none (lent_refusal s rows (Turn room)) (sym (answer_by (s, rows) (Turn room)) ∙ answer) in
-    let accepted : refusal n (opened s.setup q) (Turn room) ≡ none =
+    let row : lent_refusal s rows (Turn room) ≡ None = answer_none (lent_refusal s rows (Turn room)) (sym (answer_by (s, rows) (Turn room)) ∙ answer) in
+    let accepted : refusal n (opened s.setup q) (Turn room) ≡ None =
     ap (λ (p : Plain). refusal n p (Turn room)) (sym plain) ∙ sym (refused_as s rows (since o.is_open k) (Turn room)) ∙ row in
     turn_done n s.setup q slice (lent_result s rows slice) (sound_rows_lem s rows o k) accepted
     (turn_plan_is s rows room row ∙ ap (λ (l : List Entry). assign (taken s.setup l) (places_of s.setup (taken s.setup l))) same)

@@ -2,11 +2,11 @@
 --     vacant-is, vacant-test         a record passes as vacant exactly where it is the vacant one
 --     stands-kept                    records that keep the rules are the queue that they stand for, and vacant ones
 --     standing-placed                a queue of waiting records is read back from its records
+use Rattle.std.specs.Prelude.{Option, None, Some}
 use mathlib.Core.Path.{◌≡◌, refl, ap, ap₂, sym, ◌∙◌}
 use mathlib.Core.Logic.{◌≢◌}
 use mathlib.Core.List.{List, [], ◌∷◌, ◌++◌, map}
 use mathlib.Core.Bool.{Bool, true, false, not, false≢true}
-use mathlib.Core.Option.{Option, none, some}
 use Prim.Native.Nat.{ℕ, zero, suc}
 use native.Mathlib.Omega.{arith}
 use lib.Dec.{eqb, leb}
@@ -114,9 +114,9 @@ formed_is : (s : Setup) (r : Request) → formed s r ≡ true → Formed s r
 unfolding formed
 formed_is s r h = go (request_refusal s r) refl
   where
-    go : (x : Option Refusal) → request_refusal s r ≡ x → request_refusal s r ≡ none
-    go none e = e
-    go (some x) e = let z : not (is_some (some x)) ≡ true = rw e at h in absurd (false≢true z)
+    go : (x : Option Refusal) → request_refusal s r ≡ x → request_refusal s r ≡ None
+    go None e = e
+    go (Some x) e = let z : not (is_some (Some x)) ≡ true = rw e at h in absurd (false≢true z)
 
 is_formed_lem : (s : Setup) (r : Request) → Formed s r → formed s r ≡ true
 unfolding formed

@@ -1,15 +1,15 @@
 -- A lent session of 16 records and a small session do the same on the same queue. Assumes nothing.
+use Rattle.std.proofs.lemmas.Option.{none-some}
+use Rattle.std.specs.Prelude.{Option, None, Some, Ok, Err}
 use mathlib.Core.Path.{◌≡◌, refl, ap, ap₂, sym, ◌∙◌}
 use mathlib.Core.List.{List, [], ◌∷◌}
 use mathlib.Core.Bool.{Bool, true, false}
-use mathlib.Core.Option.{Option, none, some, none-ne-some}
 use Prim.Native.Nat.{ℕ}
 use native.Mathlib.Omega.{arith}
 use lib.ListN.{length}
 use Rattle.requests.specs.declared.Entry.{Entry}
 use Rattle.requests.specs.declared.Refusal.{Refusal}
 use Rattle.requests.specs.declared.Refusal.TheVariants.{CallOrder}
-use Rattle.requests.specs.declared.Answer.TheVariants.{Accepted, Refused}
 use Rattle.requests.specs.Refusals.{answer_for}
 use Rattle.requests.proofs.AnswerTests.{answer_none}
 use Rattle.sessions.specs.Calls.{Call, Turn, Plain, opened, waiting}
@@ -52,7 +52,7 @@ module _ (x : State) (l : Lends x.0 x.1) where
 answers_as : (x : State) → InOrder x.0 x.1 → (c : Call) → lent_answer x c ≡ answer_for (refusal (length x.1) (plain_in x) c)
 answers_as (s, rows) l c = answer_by (s, rows) c ∙ ap answer_for (refused_as s rows l c)
 
-rows_left : (x : State) (c : Call) → lent_answer x c ≡ Accepted → (next_lent x c).1 ≡ records_of (length x.1) (waiting (change (plain_in x) c))
+rows_left : (x : State) (c : Call) → lent_answer x c ≡ (Ok tt) → (next_lent x c).1 ≡ records_of (length x.1) (waiting (change (plain_in x) c))
 rows_left (s, rows) c e = rows_accepted s rows c (answer_none (lent_refusal s rows c) (sym (answer_by (s, rows) c) ∙ e))
 
 -- ---- 16 of them
@@ -79,24 +79,24 @@ module _ (s : LentSession) (rows : List Entry) (small : Session) (alike : Alike 
       }
 
   -- a session that accepts a turn is open
-  open_turn : (room : ℕ) → refused_by small (Turn room) ≡ none → s.opened ≡ true
+  open_turn : (room : ℕ) → refused_by small (Turn room) ≡ None → s.opened ≡ true
   unfolding refused_by
   open_turn room h = go s.opened refl
     where
       go : (b : Bool) → s.opened ≡ b → b ≡ true
       go true e = refl
       go false e =
-          absurd (none-ne-some CallOrder (sym h ∙ ap (λ (p : Plain). refusal queue_limit p (Turn room)) (alike.same ∙ with_closed s rows e) ∙ turn_closed queue_limit room))
+          absurd (none-some CallOrder (sym h ∙ ap (λ (p : Plain). refusal queue_limit p (Turn room)) (alike.same ∙ with_closed s rows e) ∙ turn_closed queue_limit room))
 
   module _ (room : ℕ) where
-    stands : refused_by small (Turn room) ≡ none → plain_of small ≡ opened s.setup (standing rows)
+    stands : refused_by small (Turn room) ≡ None → plain_of small ≡ opened s.setup (standing rows)
     stands h = alike.same ∙ with_opened s rows (open_turn room h)
 
-    plain_accepts : refused_by small (Turn room) ≡ none → refusal queue_limit (opened s.setup (standing rows)) (Turn room) ≡ none
+    plain_accepts : refused_by small (Turn room) ≡ None → refusal queue_limit (opened s.setup (standing rows)) (Turn room) ≡ None
     unfolding refused_by
     plain_accepts h = ap (λ (p : Plain). refusal queue_limit p (Turn room)) (sym (stands h)) ∙ h
 
-    refused_answer : (x : Refusal) → refused_by small (Turn room) ≡ some x → (turn_of small room).answer ≡ Refused x
+    refused_answer : (x : Refusal) → refused_by small (Turn room) ≡ Some x → (turn_of small room).answer ≡ Err x
     unfolding answer_to answer_for
     refused_answer x h = answer_is small (Turn room) ∙ ap answer_for h
 
@@ -104,24 +104,24 @@ module _ (s : LentSession) (rows : List Entry) (small : Session) (alike : Alike 
     plan = go (refused_by small (Turn room)) refl
       where
         go : (x : Option Refusal) → refused_by small (Turn room) ≡ x → lent_plan (lent_turned s rows room) ≡ plan_of (turn_of small room)
-        go none h = lent.turn_plan_is s rows room (one_row (Turn room) ∙ h) ∙ sym (turn_plan_is small s.setup (standing rows) (stands h) room (plain_accepts h))
-        go (some x) h = lent.refused_plan_is s rows room x (one_row (Turn room) ∙ h) ∙ sym (unchanged.plan small room x (refused_answer x h))
+        go None h = lent.turn_plan_is s rows room (one_row (Turn room) ∙ h) ∙ sym (turn_plan_is small s.setup (standing rows) (stands h) room (plain_accepts h))
+        go (Some x) h = lent.refused_plan_is s rows room x (one_row (Turn room) ∙ h) ∙ sym (unchanged.plan small room x (refused_answer x h))
 
     writes : (lent_turned s rows room).writes ≡ (turn_of small room).writes
     writes = go (refused_by small (Turn room)) refl
       where
         go : (x : Option Refusal) → refused_by small (Turn room) ≡ x → (lent_turned s rows room).writes ≡ (turn_of small room).writes
-        go none h = lent.turn_count_is s rows room (one_row (Turn room) ∙ h) ∙ sym (turn_count_is small s.setup (standing rows) (stands h) room (plain_accepts h))
-        go (some x) h = lent.refused_count_is s rows room x (one_row (Turn room) ∙ h) ∙ sym (unchanged.writes small room x (refused_answer x h))
+        go None h = lent.turn_count_is s rows room (one_row (Turn room) ∙ h) ∙ sym (turn_count_is small s.setup (standing rows) (stands h) room (plain_accepts h))
+        go (Some x) h = lent.refused_count_is s rows room x (one_row (Turn room) ∙ h) ∙ sym (unchanged.writes small room x (refused_answer x h))
 
   slice_is : (slice : List ℕ) → lent_slice s rows slice ≡ turn_slice small slice
   slice_is slice = go (refused_by small (Turn (length slice))) refl
     where
       go : (x : Option Refusal) → refused_by small (Turn (length slice)) ≡ x → lent_slice s rows slice ≡ turn_slice small slice
-      go none h =
+      go None h =
           lent.turn_slice_is s rows slice (one_row (Turn (length slice)) ∙ h)
           ∙ sym (turn_slice_is small s.setup (standing rows) (stands (length slice) h) slice (plain_accepts (length slice) h))
-      go (some x) h = lent.refused_slice_is s rows slice x (one_row (Turn (length slice)) ∙ h) ∙ sym (unchanged.slice small slice x (refused_answer (length slice) x h))
+      go (Some x) h = lent.refused_slice_is s rows slice x (one_row (Turn (length slice)) ∙ h) ∙ sym (unchanged.slice small slice x (refused_answer (length slice) x h))
 
 alike_after : (x : State) (small : Session) → Alike x small → (cs : List Call) → Alike (state_after lent_session x cs) (session_after small cs)
 unfolding session_after

@@ -1,9 +1,8 @@
 -- A lent session as a machine that is fed calls, each with the session and the records that the last one left. `Call` has n turns at once,
 -- which are the small session's: the table and the plain queue say what they would be here, and no function of a lent session makes them.
-use Rattle.std.specs.Prelude.{◌≡◌, List, true, false, length}
-use Rattle.std.proofs.Math.Option.{some}
+use Rattle.std.specs.Prelude.{◌≡◌, List, true, false, length, Some}
 use Rattle.requests.specs.declared.Entry.{Entry}
-use Rattle.requests.specs.declared.Answer.{Answer}
+use Rattle.requests.specs.Answers.{Answer}
 use Rattle.requests.specs.Refusals.{answer_for}
 use Rattle.requests.specs.Devices.{setup_of, opening_of}
 use Rattle.sessions.specs.Calls.{Call, Open, Add, Drop, Turn, Turns, Plain}
@@ -53,7 +52,7 @@ pub data InOrder (s : LentSession) (rows : List Entry) : Type 0 where
 -- an open session whose setup is one that open takes
 pub record IsOpened (s : LentSession) : Type 0 where
   pub is_open : s.opened ≡ true
-  pub setup : setup_of (opening_of s.setup) ≡ some s.setup
+  pub setup : setup_of (opening_of s.setup) ≡ Some s.setup
 
 -- a session that calls have left, whatever records each of them was lent
 pub data Reached : LentSession → Type 0 where

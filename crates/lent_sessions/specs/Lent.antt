@@ -1,12 +1,11 @@
 -- What the calls of a lent session answer, and what they leave in the records, for every session, row set and argument.
-use Rattle.std.specs.Prelude.{List, [], ◌∷◌, ◌++◌, Bool, true, false, not, ℕ, ◌-◌, length, take, replicate}
-use Rattle.std.proofs.Math.Option.{Option, none, some}
+use Rattle.std.specs.Prelude.{List, [], ◌∷◌, ◌++◌, Bool, true, false, not, ℕ, ◌-◌, length, take, replicate, Option, None, Some}
 use Rattle.requests.specs.declared.Device.TheVariants.{G}
 use Rattle.requests.specs.declared.Setup.{Setup}
 use Rattle.requests.specs.declared.Entry.{Entry}
 use Rattle.requests.specs.declared.Refusal.{Refusal}
 use Rattle.requests.specs.declared.Refusal.TheVariants.{CallOrder, BadOpening}
-use Rattle.requests.specs.declared.Answer.{Answer}
+use Rattle.requests.specs.Answers.{Answer}
 use Rattle.requests.specs.Refusals.{answer_for}
 use Rattle.requests.specs.Choice.{Row, first_holding}
 use Rattle.requests.specs.Askings.{unasked}
@@ -65,7 +64,7 @@ rows_after s rows c = unless_refused (lent_refusal s rows c) rows (records_of (l
 
 -- the session that an accepted call leaves: open alone changes it
 unfoldable pub lent_changed : LentSession → Call → LentSession
-lent_changed s (Open o) = elim (setup_of o) [ none ↦ s | some t ↦ record { opened = true; setup = t } ]
+lent_changed s (Open o) = elim (setup_of o) [ None ↦ s | Some t ↦ record { opened = true; setup = t } ]
 lent_changed s (Add id r) = s
 lent_changed s (Drop id) = s
 lent_changed s (Turn room) = s
@@ -89,9 +88,9 @@ lent_turn a s plan n = record { answer = a; session = s; plan = plan ++ replicat
 unfoldable pub lent_turned : LentSession → List Entry → ℕ → LentTurned
 lent_turned s rows room =
     elim (lent_refusal s rows (Turn room)) [
-      | none ↦ let es = taken s.setup (standing rows) in
-          lent_turn (answer_for none) s (assign es (places_of s.setup es)) (length (writes_of s.setup es))
-      | some x ↦ lent_turn (answer_for (some x)) s [] 0
+      | None ↦ let es = taken s.setup (standing rows) in
+          lent_turn (answer_for None) s (assign es (places_of s.setup es)) (length (writes_of s.setup es))
+      | Some x ↦ lent_turn (answer_for (Some x)) s [] 0
     ]
 
 -- what the slice of a turn holds afterwards

@@ -1,7 +1,6 @@
 -- Document 02, order 11: the refusal table of a lent session with the field at fault. "3 for the lent records" gives field 0, before the fields of an
 -- opening.
-use Rattle.std.specs.Prelude.{List, ◌∷◌, ℕ, length}
-use Rattle.std.proofs.Math.Option.{Option}
+use Rattle.std.specs.Prelude.{List, ◌∷◌, ℕ, length, Option}
 use Rattle.requests.specs.declared.Device.{Device}
 use Rattle.requests.specs.declared.Opening.{Opening}
 use Rattle.requests.specs.declared.Entry.{Entry}

@@ -1,7 +1,6 @@
 -- Document 02, order 11, for a lent session: the field of each row of its table, and what it settles. "Refusals 2, 7, 12, 13 and 14, and 3 for the
 -- lent records, give field 0".
-use Rattle.std.specs.Prelude.{◌≡◌, true, false, List, ℕ, ◌<◌, length}
-use Rattle.std.proofs.Math.Option.{some}
+use Rattle.std.specs.Prelude.{◌≡◌, true, false, List, ℕ, ◌<◌, length, Some}
 use Rattle.requests.specs.declared.Opening.{Opening}
 use Rattle.requests.specs.declared.Entry.{Entry}
 use Rattle.requests.specs.declared.Refusal.{Refusal}
@@ -35,10 +34,10 @@ pub record LentFaults : Type 0 where
   -- "Numbers and their order stay": without the field it is the lent session's refusal table
   pub numbers : (s : LentSession) (rows : List Entry) (c : Call) → refusal_in (lent_fault s rows c) ≡ lent_refusal s rows c
   -- the row applies in the field that is given, and in no field left of it
-  pub applies : (s : LentSession) (rows : List Entry) (c : Call) (f : Fault) → lent_fault s rows c ≡ some f → LentAppliesAt s rows c f.refusal f.field
-  pub leftmost : (s : LentSession) (rows : List Entry) (c : Call) (f : Fault) → lent_fault s rows c ≡ some f → (k : ℕ) → k < f.field → ¬ LentAppliesAt s rows c f.refusal k
+  pub applies : (s : LentSession) (rows : List Entry) (c : Call) (f : Fault) → lent_fault s rows c ≡ Some f → LentAppliesAt s rows c f.refusal f.field
+  pub leftmost : (s : LentSession) (rows : List Entry) (c : Call) (f : Fault) → lent_fault s rows c ≡ Some f → (k : ℕ) → k < f.field → ¬ LentAppliesAt s rows c f.refusal k
   -- 3 for the records is at 0, whatever an opening is given
-  pub bad_number : (s : LentSession) (rows : List Entry) (o : Opening) → s.opened ≡ false → ¬ IsCount (length rows) → lent_fault s rows (Open o) ≡ some (at BadOpening 0)
-  pub broken_rows : (s : LentSession) (rows : List Entry) (c : Call) → s.opened ≡ true → Later c → ¬ SoundRows s.setup rows → lent_fault s rows c ≡ some (at BadOpening 0)
+  pub bad_number : (s : LentSession) (rows : List Entry) (o : Opening) → s.opened ≡ false → ¬ IsCount (length rows) → lent_fault s rows (Open o) ≡ Some (at BadOpening 0)
+  pub broken_rows : (s : LentSession) (rows : List Entry) (c : Call) → s.opened ≡ true → Later c → ¬ SoundRows s.setup rows → lent_fault s rows c ≡ Some (at BadOpening 0)
   -- once the number is known, the field depends on the arguments of the call, the number of records and the device alone
   pub fields : (s : LentSession) (rows : List Entry) (c : Call) → lent_fault s rows c ≡ with_field (lent_fields_of s.setup.device (length rows) c) (lent_refusal s rows c)

@@ -1,7 +1,6 @@
 -- Demand 2 of every accepted turn of a lent session.
-use Rattle.std.specs.Prelude.{◌≡◌, List, ℕ, length}
+use Rattle.std.specs.Prelude.{◌≡◌, List, ℕ, length, Ok}
 use Rattle.requests.specs.declared.Entry.{Entry}
-use Rattle.requests.specs.declared.Answer.TheVariants.{Accepted}
 use Rattle.sessions.specs.Calls.{Turn}
 use Rattle.sessions.specs.TurnPlan.{TurnResult, TurnDone}
 use Rattle.lent_sessions.specs.RowRules.{SoundRows}
@@ -21,5 +20,5 @@ LentTurnPlan =
     (s : LentSession) (rows : List Entry)
     → IsOpened s
     → (kept : SoundRows s.setup rows) (slice : List ℕ)
-    → (lent_turned s rows (length slice)).answer ≡ Accepted
+    → (lent_turned s rows (length slice)).answer ≡ Ok tt
     → TurnDone s.setup kept.queue slice (lent_result s rows slice)

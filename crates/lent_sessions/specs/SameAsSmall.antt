@@ -1,8 +1,7 @@
 -- "Each call does what a small session with that limit would on the same queue": with any number of records by the table and the plain queue
 -- with that limit, and by `LentTurnPlan`; with 16 records by the small session itself.
-use Rattle.std.specs.Prelude.{◌≡◌, List, ℕ, length}
+use Rattle.std.specs.Prelude.{◌≡◌, List, ℕ, length, Ok}
 use Rattle.requests.specs.declared.Entry.{Entry}
-use Rattle.requests.specs.declared.Answer.TheVariants.{Accepted}
 use Rattle.requests.specs.Refusals.{answer_for}
 use Rattle.sessions.specs.Calls.{Call, waiting}
 use Rattle.sessions.specs.Table.{refusal}
@@ -25,7 +24,7 @@ pub record SameAsSmall : Type 0 where
   -- a call is answered as the table says, with as many places as there are records, whatever the setup
   pub answered : (x : State) → InOrder x.0 x.1 → (c : Call) → lent_answer x c ≡ answer_for (refusal (length x.1) (plain_in x) c)
   -- an accepted one leaves the queue that the call makes, and vacant records after it
-  pub left : (x : State) (c : Call) → lent_answer x c ≡ Accepted → (next_lent x c).1 ≡ records_of (length x.1) (waiting (change (plain_in x) c))
+  pub left : (x : State) (c : Call) → lent_answer x c ≡ (Ok tt) → (next_lent x c).1 ≡ records_of (length x.1) (waiting (change (plain_in x) c))
   -- after every list of calls the session stands for the plain queue, and answers as the table says there
   pub agrees : (x : State) → Lends x.0 x.1 → Agrees lent_session plain_in (length x.1) (plain_in x) x
   -- sound rows stay sound, and their number stays

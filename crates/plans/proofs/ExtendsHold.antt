@@ -1,9 +1,9 @@
 -- One request more behind the first plan: any plan of all has a plan of the front and a place behind it, and neither comes before. Assumes nothing.
+use Rattle.std.specs.Prelude.{Option, None, Some}
 use mathlib.Core.Path.{◌≡◌, refl, sym, ap, subst, ◌∙◌}
 use mathlib.Core.Logic.{◌≢◌, ◌⊎◌, inl, inr}
 use mathlib.Core.List.{List, [], ◌∷◌, ◌++◌, flat_map, append-nil, append_assoc, Memᴰ}
 use mathlib.Core.Bool.{true}
-use mathlib.Core.Option.{Option, none, some}
 use Prim.Native.Nat.{ℕ, suc, ◌+◌, ◌*◌, ◌^◌, ◌<◌}
 use native.Mathlib.Nat.{mul_assoc}
 use native.Mathlib.Omega.{arith}
@@ -224,12 +224,12 @@ no_packet [] c m a = refl
 no_packet (r ∷ rs) c m a = ap (λ (l : List (ℕ × ℕ)). packets_of r ++ l) (no_packet rs c m a)
 
 -- the first plan is the one that is found
-found_first : (s : Setup) (rs : List Request) (ps : List Place) → First s rs ps → first_plan s rs ≡ some ps
+found_first : (s : Setup) (rs : List Request) (ps : List Place) → First s rs ps → first_plan s rs ≡ Some ps
 found_first s rs ps f = go (first_plan s rs) refl
   where
-    go : (o : Option (List Place)) → first_plan s rs ≡ o → o ≡ some ps
-    go none e = absurd (first_plan_lem.complete s rs e (ps, f.legal))
-    go (some qs) e = ap some (first_plan_lem.only s rs qs ps (first_plan_lem.sound s rs qs e) f)
+    go : (o : Option (List Place)) → first_plan s rs ≡ o → o ≡ Some ps
+    go None e = absurd (first_plan_lem.complete s rs e (ps, f.legal))
+    go (Some qs) e = ap Some (first_plan_lem.only s rs qs ps (first_plan_lem.sound s rs qs e) f)
 
 number : (ps : List Place) (k : ℕ) → code_of (ps ++ Counter k ∷ []) ≡ code_of ps + (63 + k * 8) * 2 ^ (6 * length ps)
 unfolding code_of first second

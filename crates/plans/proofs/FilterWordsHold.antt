@@ -1,5 +1,6 @@
 -- Where requests ask for more filter words than the registers hold no plan is legal: the words asked for so far are among those that a legal
 -- plan's registers hold, and of three different words two registers leave one out. Assumes nothing.
+use Rattle.std.specs.Prelude.{Option, None, Some}
 use mathlib.Core.Path.{◌≡◌, refl, sym, ap, ◌∙◌}
 use mathlib.Core.Logic.{◌≢◌, ◌⊎◌, inl, inr}
 use mathlib.Core.List.{List, flat_map}
@@ -14,10 +15,6 @@ use Rattle.requests.specs.Choice.{both, pick}
 use Rattle.requests.specs.Bits.{latency_word}
 use Rattle.plans.specs.declared.Asked.{Asked}
 use Rattle.plans.specs.declared.Place.{Place}
-use Rattle.plans.specs.declared.Register.{Register}
-use Rattle.plans.specs.declared.Register.TheVariants.{Unused, Word}
-use Rattle.plans.specs.declared.Filter.{Filter}
-use Rattle.plans.specs.declared.Filter.TheVariants.{Off, Words}
 use Rattle.plans.specs.Lists.{All, cons, Each, none, and}
 use Rattle.plans.specs.Legal.{Allowed, event, packet, offcore, latency, words_of, packets_of, of_all, HasPlan}
 use Rattle.plans.specs.FilterWords.{none_asked, ask_word, ask_packet, asked_by, asked_from, crowded, FilterWords}
@@ -28,15 +25,15 @@ module _ (v w : ℕ) (p : ℕ × ℕ) where
   OneOf x = (x ≡ v) ⊎ (x ≡ w)
 
   -- the registers hold different ones of both words, the second none before the first
-  data Within : Register → Register → Type 0 where
-    no_word : Within Unused Unused
-    one_word : {x : ℕ} → OneOf x → Within (Word x) Unused
-    two_words : {x y : ℕ} → OneOf x → OneOf y → x ≢ y → Within (Word x) (Word y)
+  data Within : Option ℕ → Option ℕ → Type 0 where
+    no_word : Within None None
+    one_word : {x : ℕ} → OneOf x → Within (Some x) None
+    two_words : {x y : ℕ} → OneOf x → OneOf y → x ≢ y → Within (Some x) (Some y)
 
   -- the match/mask register is off, or holds p
-  data Same : Filter → Type 0 where
-    off : Same Off
-    same : {x y : ℕ} → (x, y) ≡ p → Same (Words x y)
+  data Same : Option (ℕ × ℕ) → Type 0 where
+    off : Same None
+    same : {x y : ℕ} → (x, y) ≡ p → Same (Some (x, y))
 
   -- what is asked for so far
   abbrev Fits : Asked → Type 0
@@ -57,19 +54,19 @@ module _ (v w : ℕ) (p : ℕ × ℕ) where
   fits_pick false a b f g = g refl
 
   -- one word more
-  word_within : (f s : Register) (k : Filter) (c : Bool) (x : ℕ) → Within f s → Same k → c ≡ false → OneOf x
+  word_within : (f s : Option ℕ) (k : Option (ℕ × ℕ)) (c : Bool) (x : ℕ) → Within f s → Same k → c ≡ false → OneOf x
       → Fits (ask_word x (record { first = f; second = s; packet = k; crowded = c }))
   unfolding ask_word
   word_within f s k c x no_word m r o = (one_word o, m, r)
   word_within f s k c x (one_word {x = y} h) m r o =
-      fits_pick (eqb y x) (record { first = Word x; second = Unused; packet = k; crowded = c }) (record { first = Word y; second = Word x; packet = k; crowded = c })
+      fits_pick (eqb y x) (record { first = Some x; second = None; packet = k; crowded = c }) (record { first = Some y; second = Some x; packet = k; crowded = c })
       (λ e. (one_word o, m, r))
       (λ d. (two_words h o (eqb-false y x d), m, r))
   word_within f s k c x (two_words {x = y} {y = z} h g n) m r o =
-      fits_pick (eqb y x) (record { first = Word x; second = Word z; packet = k; crowded = c })
-      (pick (eqb z x) (record { first = Word y; second = Word x; packet = k; crowded = c }) (record { first = Word y; second = Word z; packet = k; crowded = true }))
+      fits_pick (eqb y x) (record { first = Some x; second = Some z; packet = k; crowded = c })
+      (pick (eqb z x) (record { first = Some y; second = Some x; packet = k; crowded = c }) (record { first = Some y; second = Some z; packet = k; crowded = true }))
       (λ e. (two_words o g (λ q. n (eqb-true y x e ∙ q)), m, r))
-      (λ d. fits_pick (eqb z x) (record { first = Word y; second = Word x; packet = k; crowded = c }) (record { first = Word y; second = Word z; packet = k; crowded = true })
+      (λ d. fits_pick (eqb z x) (record { first = Some y; second = Some x; packet = k; crowded = c }) (record { first = Some y; second = Some z; packet = k; crowded = true })
       (λ e. (two_words h o (eqb-false y x d), m, r))
       (λ l. absurd (three y z x h g o n (eqb-false y x d) (eqb-false z x l))))
 
@@ -78,7 +75,7 @@ module _ (v w : ℕ) (p : ℕ × ℕ) where
   word_fits a x (t, m, r) o = word_within a.first a.second a.packet a.crowded x t m r o
 
   -- one match and mask more
-  packet_within : (f s : Register) (k : Filter) (c : Bool) (x y : ℕ) → Within f s → Same k → c ≡ false → (x, y) ≡ p
+  packet_within : (f s : Option ℕ) (k : Option (ℕ × ℕ)) (c : Bool) (x y : ℕ) → Within f s → Same k → c ≡ false → (x, y) ≡ p
       → Fits (ask_packet x y (record { first = f; second = s; packet = k; crowded = c }))
   unfolding ask_packet both
   packet_within f s k c x y t off r e = (t, same e, r)

@@ -1,4 +1,5 @@
 -- Requests can be placed one after another exactly where the plan fits. Assumes nothing.
+use Rattle.std.specs.Prelude.{Option, None, Some}
 use mathlib.Core.Path.{◌≡◌, refl, ap, sym, subst, ◌∙◌}
 use mathlib.Core.Bool.{Bool, true, false}
 use mathlib.Core.List.{List, [], ◌∷◌, ◌++◌, flat_map}
@@ -16,12 +17,7 @@ use Rattle.requests.specs.Devices.{has, counter_count}
 use Rattle.requests.proofs.Tests.{both_parts, true_both}
 use Rattle.plans.specs.declared.Place.{Place}
 use Rattle.plans.specs.declared.Place.TheVariants.{Counter, WithRsp, Pair}
-use Rattle.plans.specs.declared.Register.TheVariants.{Unused, Word}
-use Rattle.plans.specs.declared.Filter.{Filter}
-use Rattle.plans.specs.declared.Filter.TheVariants.{Off, Words}
 use Rattle.plans.specs.declared.Room.{Room}
-use Rattle.plans.specs.declared.Admission.{Admission}
-use Rattle.plans.specs.declared.Admission.TheVariants.{Admitted, NoRoom}
 use Rattle.plans.specs.Lists.{All, nil, cons, OneValue, Each, none, and}
 use Rattle.plans.specs.Places.{counted_of, counters_of}
 use Rattle.plans.specs.Legal.{Allowed, event, packet, offcore, latency, words_of, packets_of, of_all, counters}
@@ -54,26 +50,26 @@ module _ {A S : Type 0} (ok : S → A → Bool) (put : A → S) (start : S) (any
   same_agree v [] h = tt
   same_agree v (w ∷ ws) (cons h hs) = (free w, put_agree w ws (all_imp (λ x g. g ∙ sym h) hs))
 
-pick_told : (b : Bool) (t k : Room) → pick b (Admitted t) NoRoom ≡ Admitted k → (b ≡ true) × (k ≡ t)
+pick_told : (b : Bool) (t k : Room) → pick b (Some t) None ≡ Some k → (b ≡ true) × (k ≡ t)
 pick_told true t k e = (refl, (cc))
 pick_told false t k e = let z : ◌≡◌ {A = ℕ} 0 1 = cc in absurd (omega arith)
 
-then_told : (a : Admission) (f : Room → Admission) (k : Room) → and_then a f ≡ Admitted k → (m : Room) × (a ≡ Admitted m) × (f m ≡ Admitted k)
-then_told (Admitted m) f k e = (m, refl, e)
-then_told NoRoom f k e = let z : ◌≡◌ {A = ℕ} 0 1 = cc in absurd (omega arith)
+then_told : (a : Option Room) (f : Room → Option Room) (k : Room) → and_then a f ≡ Some k → (m : Room) × (a ≡ Some m) × (f m ≡ Some k)
+then_told (Some m) f k e = (m, refl, e)
+then_told None f k e = let z : ◌≡◌ {A = ℕ} 0 1 = cc in absurd (omega arith)
 
-abbrev ok_packet : Filter → ℕ × ℕ → Bool
+abbrev ok_packet : Option (ℕ × ℕ) → ℕ × ℕ → Bool
 ok_packet f w = holds_packet f w.0 w.1
 
-abbrev put_packet : ℕ × ℕ → Filter
-put_packet w = Words w.0 w.1
+abbrev put_packet : ℕ × ℕ → Option (ℕ × ℕ)
+put_packet w = Some (w.0, w.1)
 
 -- what is asked can be had in the room
 abbrev Can : Room → List ℕ → List ℕ → List ℕ → List (ℕ × ℕ) → Type 0
-Can m cs v w p = Takes m.free cs × Agree holds Word m.rsp0 v × Agree holds Word m.rsp1 w × Agree ok_packet put_packet m.packet p
+Can m cs v w p = Takes m.free cs × Agree holds Some m.rsp0 v × Agree holds Some m.rsp1 w × Agree ok_packet put_packet m.packet p
 
 module _ (cs v w : List ℕ) (p : List (ℕ × ℕ)) where
-  counter_can : (a : CounterSet) (j : ℕ) (m k : Room) → take_counter a j m ≡ Admitted k → Can k cs v w p → Can m (j ∷ cs) v w p
+  counter_can : (a : CounterSet) (j : ℕ) (m k : Room) → take_counter a j m ≡ Some k → Can k cs v w p → Can m (j ∷ cs) v w p
   unfolding take_counter
   counter_can a j m k e h =
       let t = pick_told (both (has a j) (has m.free j)) (record { free = less m.free j; rsp0 = m.rsp0; rsp1 = m.rsp1; packet = m.packet }) k e in
@@ -81,47 +77,47 @@ module _ (cs v w : List ℕ) (p : List (ℕ × ℕ)) where
       let g = subst (λ x. Can x cs v w p) t.1 h in
       ((b.1, g.0), g.1, g.2, g.3)
 
-  can_counter : (a : CounterSet) (j : ℕ) (m : Room) → has a j ≡ true → Can m (j ∷ cs) v w p → (k : Room) × (take_counter a j m ≡ Admitted k) × Can k cs v w p
+  can_counter : (a : CounterSet) (j : ℕ) (m : Room) → has a j ≡ true → Can m (j ∷ cs) v w p → (k : Room) × (take_counter a j m ≡ Some k) × Can k cs v w p
   unfolding take_counter
   can_counter a j m l h =
       (record { free = less m.free j; rsp0 = m.rsp0; rsp1 = m.rsp1; packet = m.packet }, rw (true_both (has a j) (has m.free j) l h.0.0), (h.0.1, h.1, h.2, h.3))
 
-  packet_can : (a b : ℕ) (m k : Room) → take_packet a b m ≡ Admitted k → Can k cs v w p → Can m cs v w ((a, b) ∷ p)
+  packet_can : (a b : ℕ) (m k : Room) → take_packet a b m ≡ Some k → Can k cs v w p → Can m cs v w ((a, b) ∷ p)
   unfolding take_packet
   packet_can a b m k e h =
-      let t = pick_told (holds_packet m.packet a b) (record { free = m.free; rsp0 = m.rsp0; rsp1 = m.rsp1; packet = Words a b }) k e in
+      let t = pick_told (holds_packet m.packet a b) (record { free = m.free; rsp0 = m.rsp0; rsp1 = m.rsp1; packet = Some (a, b) }) k e in
       let g = subst (λ x. Can x cs v w p) t.1 h in
       (g.0, g.1, g.2, (t.0, g.3))
 
-  can_packet : (a b : ℕ) (m : Room) → Can m cs v w ((a, b) ∷ p) → (k : Room) × (take_packet a b m ≡ Admitted k) × Can k cs v w p
+  can_packet : (a b : ℕ) (m : Room) → Can m cs v w ((a, b) ∷ p) → (k : Room) × (take_packet a b m ≡ Some k) × Can k cs v w p
   unfolding take_packet
   can_packet a b m h =
-      (record { free = m.free; rsp0 = m.rsp0; rsp1 = m.rsp1; packet = Words a b }, rw h.3.0, (h.0, h.1, h.2, h.3.1))
+      (record { free = m.free; rsp0 = m.rsp0; rsp1 = m.rsp1; packet = Some (a, b) }, rw h.3.0, (h.0, h.1, h.2, h.3.1))
 
-  word_can : (x a : ℕ) (m k : Room) → x < 2 → take_word x a m ≡ Admitted k → Can k cs v w p
+  word_can : (x a : ℕ) (m k : Room) → x < 2 → take_word x a m ≡ Some k → Can k cs v w p
       → Can m cs (pick (eqb x 0) (a ∷ []) [] ++ v) (pick (eqb x 1) (a ∷ []) [] ++ w) p
   unfolding take_word
   word_can zero a m k l e h =
-      let t = pick_told (holds m.rsp0 a) (record { free = m.free; rsp0 = Word a; rsp1 = m.rsp1; packet = m.packet }) k e in
+      let t = pick_told (holds m.rsp0 a) (record { free = m.free; rsp0 = Some a; rsp1 = m.rsp1; packet = m.packet }) k e in
       let g = subst (λ x. Can x cs v w p) t.1 h in
       (g.0, (t.0, g.1), g.2, g.3)
   word_can (suc zero) a m k l e h =
-      let t = pick_told (holds m.rsp1 a) (record { free = m.free; rsp0 = m.rsp0; rsp1 = Word a; packet = m.packet }) k e in
+      let t = pick_told (holds m.rsp1 a) (record { free = m.free; rsp0 = m.rsp0; rsp1 = Some a; packet = m.packet }) k e in
       let g = subst (λ x. Can x cs v w p) t.1 h in
       (g.0, g.1, (t.0, g.2), g.3)
   word_can (suc (suc x)) a m k l e h = absurd (omega arith)
 
   can_word : (x a : ℕ) (m : Room) → x < 2 → Can m cs (pick (eqb x 0) (a ∷ []) [] ++ v) (pick (eqb x 1) (a ∷ []) [] ++ w) p
-      → (k : Room) × (take_word x a m ≡ Admitted k) × Can k cs v w p
+      → (k : Room) × (take_word x a m ≡ Some k) × Can k cs v w p
   unfolding take_word
   can_word zero a m l h =
-      (record { free = m.free; rsp0 = Word a; rsp1 = m.rsp1; packet = m.packet }, rw h.1.0, (h.0, h.1.1, h.2, h.3))
+      (record { free = m.free; rsp0 = Some a; rsp1 = m.rsp1; packet = m.packet }, rw h.1.0, (h.0, h.1.1, h.2, h.3))
   can_word (suc zero) a m l h =
-      (record { free = m.free; rsp0 = m.rsp0; rsp1 = Word a; packet = m.packet }, rw h.2.0, (h.0, h.1, h.2.1, h.3))
+      (record { free = m.free; rsp0 = m.rsp0; rsp1 = Some a; packet = m.packet }, rw h.2.0, (h.0, h.1, h.2.1, h.3))
   can_word (suc (suc x)) a m l h = absurd (omega arith)
 
 -- a counter that is taken is allowed
-counter_allowed : (a : CounterSet) (j : ℕ) (m k : Room) → take_counter a j m ≡ Admitted k → has a j ≡ true
+counter_allowed : (a : CounterSet) (j : ℕ) (m k : Room) → take_counter a j m ≡ Some k → has a j ≡ true
 unfolding take_counter
 counter_allowed a j m k e =
     (both_parts (has a j) (has m.free j) (pick_told (both (has a j) (has m.free j)) (record { free = less m.free j; rsp0 = m.rsp0; rsp1 = m.rsp1; packet = m.packet }) k e).0).0
@@ -143,7 +139,7 @@ module _ (n : ℕ) (rs : List Request) (ps : List Place) where
   q = flat_map packets_of rs
 
   -- a request that is admitted has an allowed place, and what it asks for can be had
-  admit_can : (r : Request) (k j : ℕ) (m room : Room) → j < width n r → admit r k j m ≡ Admitted room → CanAll room rs ps
+  admit_can : (r : Request) (k j : ℕ) (m room : Room) → j < width n r → admit r k j m ≡ Some room → CanAll room rs ps
       → Allowed r (place_of r k j) × CanAll m (r ∷ rs) (place_of r k j ∷ ps)
   unfolding admit width place_of counters counters_of counted_of of_all words_of packets_of flat_map
   admit_can (Event c u a) k j m room l e h = (event (counter_allowed a k m room e), counter_can cs v w q a k m room e h)
@@ -231,10 +227,10 @@ packet_made : (v w : ℕ × ℕ) → v ≡ w → ok_packet (put_packet v) w ≡ 
 packet_made v w e =
     true_both (eqb v.0 w.0) (eqb v.1 w.1) (eq-eqb v.0 w.0 (ap (λ (x : ℕ × ℕ). x.0) e)) (eq-eqb v.1 w.1 (ap (λ (x : ℕ × ℕ). x.1) e))
 
-one_word : (rs : List Request) (ps : List Place) → Agree holds Word Unused (of_all (words_of 0) rs ps) → Agree holds Word Unused (of_all (words_of 1) rs ps)
+one_word : (rs : List Request) (ps : List Place) → Agree holds Some None (of_all (words_of 0) rs ps) → Agree holds Some None (of_all (words_of 1) rs ps)
     → (i : ℕ) → i < 2 → OneValue (of_all (words_of i) rs ps)
-one_word rs ps g h zero l = agree_same holds Word Unused 0 (λ w. refl) eqb-true eq-eqb (of_all (words_of 0) rs ps) g
-one_word rs ps g h (suc zero) l = agree_same holds Word Unused 0 (λ w. refl) eqb-true eq-eqb (of_all (words_of 1) rs ps) h
+one_word rs ps g h zero l = agree_same holds Some None 0 (λ w. refl) eqb-true eq-eqb (of_all (words_of 0) rs ps) g
+one_word rs ps g h (suc zero) l = agree_same holds Some None 0 (λ w. refl) eqb-true eq-eqb (of_all (words_of 1) rs ps) h
 one_word rs ps g h (suc (suc i)) l = absurd (omega arith)
 
 pub placed_fits : (s : Setup) (rs : List Request) (ps : List Place) → Placed (counter_count s.device) rs (empty_room s) ps → Fits s rs ps
@@ -246,7 +242,7 @@ placed_fits s rs ps d =
       usable_only = all_join (λ k l g. (l, g)) h.below t.0;
       allowed = h.allowed;
       one_word = one_word rs ps h.can.1 h.can.2;
-      one_packet = agree_same ok_packet put_packet Off (0, 0) (λ w. refl) packet_told packet_made (flat_map packets_of rs) h.can.3;
+      one_packet = agree_same ok_packet put_packet None (0, 0) (λ w. refl) packet_told packet_made (flat_map packets_of rs) h.can.3;
     }
 
 pub fits_placed : (s : Setup) (rs : List Request) (ps : List Place) → Fits s rs ps → Placed (counter_count s.device) rs (empty_room s) ps
@@ -255,7 +251,7 @@ fits_placed s rs ps l =
     let w1 = l.one_word 1 (omega arith) in
     has_placed (counter_count s.device) (empty_room s) l.allowed (all_imp (λ k u. u.0) l.usable_only) (
       all_takes s.usable (counters ps) (all_imp (λ k u. u.1) l.usable_only) l.differ,
-      same_agree holds Word Unused 0 (λ w. refl) eqb-true eq-eqb w0.0 (of_all (words_of 0) rs ps) w0.1,
-      same_agree holds Word Unused 0 (λ w. refl) eqb-true eq-eqb w1.0 (of_all (words_of 1) rs ps) w1.1,
-      same_agree ok_packet put_packet Off (0, 0) (λ w. refl) packet_told packet_made l.one_packet.0 (flat_map packets_of rs) l.one_packet.1,
+      same_agree holds Some None 0 (λ w. refl) eqb-true eq-eqb w0.0 (of_all (words_of 0) rs ps) w0.1,
+      same_agree holds Some None 0 (λ w. refl) eqb-true eq-eqb w1.0 (of_all (words_of 1) rs ps) w1.1,
+      same_agree ok_packet put_packet None (0, 0) (λ w. refl) packet_told packet_made l.one_packet.0 (flat_map packets_of rs) l.one_packet.1,
     )

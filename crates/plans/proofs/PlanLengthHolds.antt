@@ -1,7 +1,7 @@
 -- How many places and counters a plan has: each request has a counter of its own, and by `differ-at-most` these are at most the usable ones. Assumes nothing.
+use Rattle.std.specs.Prelude.{Some}
 use mathlib.Core.Path.{◌≡◌, refl}
 use mathlib.Core.List.{List, [], ◌∷◌, ◌++◌, flat_map}
-use mathlib.Core.Option.{some}
 use Prim.Native.Nat.{◌<◌, ◌≤◌}
 use native.Mathlib.Omega.{arith}
 use lib.ListN.{length, length-append}
@@ -55,10 +55,10 @@ module _ (s : Setup) where
   full : (rs : List Request) (r : Request) → usable_count s ≤ length rs → ¬ HasPlan s (rs ++ r ∷ [])
   full rs r b h = omega (arith, b, at_most (rs ++ r ∷ []) h, length-append rs (r ∷ []))
 
-  found_legal : (rs : List Request) (ps : List Place) → first_plan s rs ≡ some ps → Legal s rs ps
+  found_legal : (rs : List Request) (ps : List Place) → first_plan s rs ≡ Some ps → Legal s rs ps
   found_legal rs ps e = (first_plan_lem.sound s rs ps e).legal
 
-  found_at_most : (rs : List Request) (ps : List Place) → first_plan s rs ≡ some ps → length rs ≤ capacity
+  found_at_most : (rs : List Request) (ps : List Place) → first_plan s rs ≡ Some ps → length rs ≤ capacity
   found_at_most rs ps e = omega (arith, at_most rs (ps, found_legal rs ps e), usable_at_most, device_at_most s.device)
 
 pub plan_length : PlanLength

@@ -1,8 +1,8 @@
 -- `hasPlan` says exactly whether some plan is legal, from `first-plan`: what is found is legal, and where nothing is found no plan is. Assumes nothing.
+use Rattle.std.specs.Prelude.{Option, None, Some}
 use mathlib.Core.Path.{◌≡◌, refl}
 use mathlib.Core.List.{List}
 use mathlib.Core.Bool.{Bool, true, false}
-use mathlib.Core.Option.{Option, none, some}
 use Prim.Native.Nat.{ℕ}
 use native.Mathlib.Omega.{arith}
 use Rattle.requests.specs.declared.Setup.{Setup}
@@ -23,8 +23,8 @@ unfolding has_plan_lem
 says s rs = go (first_plan s rs) refl
   where
     go : (o : Option (List Place)) → first_plan s rs ≡ o → Says s rs (has_plan_lem s rs)
-    go none e = rw e (no_plan (first_plan_lem.complete s rs e))
-    go (some ps) e = rw e (some_plan (ps, (first_plan_lem.sound s rs ps e).legal))
+    go None e = rw e (no_plan (first_plan_lem.complete s rs e))
+    go (Some ps) e = rw e (some_plan (ps, (first_plan_lem.sound s rs ps e).legal))
 
 module _ (s : Setup) (rs : List Request) where
   planned : {b : Bool} → Says s rs b → HasPlan s rs → b ≡ true

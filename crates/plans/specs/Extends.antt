@@ -1,9 +1,8 @@
 -- The first plan with one request more: an event or a packet request takes the least counter that it allows and the plan leaves, and the
 -- others keep their places. So nothing is searched for it. Where the plan leaves it no counter, nothing is claimed: the others may move. Nor is
 -- anything of an event that runs on one counter only, or behind a request that has none beside it.
-use Rattle.std.specs.Prelude.{◌≡◌, ◌≢◌, true, ℕ, ◌+◌, ◌*◌, ◌^◌, ◌≤◌, length}
+use Rattle.std.specs.Prelude.{◌≡◌, ◌≢◌, true, ℕ, ◌+◌, ◌*◌, ◌^◌, ◌≤◌, length, Some}
 use mathlib.Core.List.{List, [], ◌∷◌, ◌++◌, flat_map}
-use Rattle.std.proofs.Math.Option.{some}
 use Rattle.requests.specs.declared.CounterSet.{CounterSet}
 use Rattle.requests.specs.declared.Setup.{Setup}
 use Rattle.requests.specs.declared.Request.{Request}
@@ -44,6 +43,6 @@ pub record Extends : Type 0 where
       → OneValue (flat_map packets_of (rs ++ r ∷ [])) → LeastUnused s a ps k → First s rs ps → First s (rs ++ r ∷ []) (ps ++ Counter k ∷ [])
   -- so an event, which asks for no match and mask
   pub event : (s : Setup) (rs : List Request) (c m : ℕ) (a : CounterSet) (ps : List Place) (k : ℕ) → MayFollow s rs (Event c m a)
-      → LeastUnused s a ps k → first_plan s rs ≡ some ps → first_plan s (rs ++ Event c m a ∷ []) ≡ some (ps ++ Counter k ∷ [])
+      → LeastUnused s a ps k → first_plan s rs ≡ Some ps → first_plan s (rs ++ Event c m a ∷ []) ≡ Some (ps ++ Counter k ∷ [])
   -- its number has six bits more, below the bit 1
   pub number : (ps : List Place) (k : ℕ) → code_of (ps ++ Counter k ∷ []) ≡ code_of ps + (63 + k * 8) * 2 ^ (6 * length ps)

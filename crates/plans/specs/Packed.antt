@@ -1,6 +1,5 @@
 -- Plans packed into one number: six bits for each place, the first place lowest, below a bit 1. No plan is 0.
-use Rattle.std.specs.Prelude.{List, [], ◌∷◌, ℕ, ◌+◌, ◌*◌, ◌/◌, ◌%◌, ◌^◌}
-use Rattle.std.proofs.Math.Option.{Option, none, some}
+use Rattle.std.specs.Prelude.{List, [], ◌∷◌, ℕ, ◌+◌, ◌*◌, ◌/◌, ◌%◌, ◌^◌, Option, None, Some}
 use Rattle.requests.specs.declared.Request.{Request}
 use Rattle.plans.specs.declared.Place.{Place}
 use Rattle.plans.specs.Places.{first, second}
@@ -13,8 +12,8 @@ code_of (p ∷ ps) = code_of ps * 64 + first p * 8 + second p
 
 -- the number of what the search finds
 unfoldable pub packed : Option (List Place) → ℕ
-packed none = 0
-packed (some ps) = code_of ps
+packed None = 0
+packed (Some ps) = code_of ps
 
 -- the place of the request r whose number in the plan is i
 unfoldable pub place_at_lem : ℕ → ℕ → Request → Place

@@ -1,6 +1,5 @@
 -- How many places and counters a plan has: so a turn searches no further once as many requests are taken as counters are usable, and a plan fits an array.
-use Rattle.std.specs.Prelude.{◌≡◌, List, [], ◌∷◌, ◌++◌, ◌≤◌, length}
-use Rattle.std.proofs.Math.Option.{some}
+use Rattle.std.specs.Prelude.{◌≡◌, List, [], ◌∷◌, ◌++◌, ◌≤◌, length, Some}
 use Rattle.requests.specs.declared.Device.{Device}
 use Rattle.requests.specs.declared.Setup.{Setup}
 use Rattle.requests.specs.declared.Request.{Request}
@@ -21,5 +20,5 @@ pub record PlanLength : Type 0 where
   -- where as many requests are taken as counters are usable, no further request fits
   pub full : (s : Setup) (rs : List Request) (r : Request) → usable_count s ≤ length rs → ¬ HasPlan s (rs ++ r ∷ [])
   -- the first plan has one place for each request, and arrays have room for it
-  pub found_places : (s : Setup) (rs : List Request) (ps : List Place) → first_plan s rs ≡ some ps → length ps ≡ length rs
-  pub found_at_most : (s : Setup) (rs : List Request) (ps : List Place) → first_plan s rs ≡ some ps → length rs ≤ capacity
+  pub found_places : (s : Setup) (rs : List Request) (ps : List Place) → first_plan s rs ≡ Some ps → length ps ≡ length rs
+  pub found_at_most : (s : Setup) (rs : List Request) (ps : List Place) → first_plan s rs ≡ Some ps → length rs ≤ capacity

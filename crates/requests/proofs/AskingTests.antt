@@ -1,14 +1,13 @@
 -- The tests of what an opening asks, both ways. Assumes nothing.
+use Rattle.std.specs.Prelude.{Option, None, Some, ℕ}
 use mathlib.Core.Path.{◌≡◌, refl}
 use mathlib.Core.Bool.{Bool, true, false, not, true≢false, false≢true}
 use native.Mathlib.Omega.{arith}
-use lib.Dec.{eqb, ltb}
+use lib.Dec.{eqb}
 use borrow.Author.Tests.{eqb-true, lt-ltb, le-leb, ltb-true, leb-true}
 use Rattle.requests.specs.Choice.{either}
 use Rattle.requests.specs.Askings.{overflow_on, core_count, core_given, asks, core_fits, overflow_fits}
 use Rattle.requests.specs.Openings.{MayAsk, NothingAsked, CoreInField, InRange}
-use Rattle.requests.specs.declared.Core.{Core}
-use Rattle.requests.specs.declared.Core.TheVariants.{NoCore, At}
 use Rattle.requests.specs.declared.Device.{Device}
 use Rattle.requests.specs.declared.Device.TheVariants.{G, S, C, B}
 use Rattle.requests.specs.declared.Overflow.{Overflow}
@@ -41,10 +40,10 @@ pub asks_nothing : (a : Overflow) → NothingAsked a → asks a ≡ false
 unfolding asks core_given either
 asks_nothing a h = rw (h.0, h.1)
 
-no_core : (c : Core) → core_given c ≡ false → c ≡ NoCore
+no_core : (c : Option ℕ) → core_given c ≡ false → c ≡ None
 unfolding core_given
-no_core NoCore h = refl
-no_core (At c) h = absurd (true≢false h)
+no_core None h = refl
+no_core (Some c) h = absurd (true≢false h)
 
 pub nothing_asked : (a : Overflow) → asks a ≡ false → NothingAsked a
 unfolding asks
@@ -64,15 +63,15 @@ asks_some a n = go (asks a) refl
     go false h = absurd (n (nothing_asked a h))
 
 -- a core that fits the field
-core_in_field : (c : Core) → core_fits c ≡ true → CoreInField c
+core_in_field : (c : Option ℕ) → core_fits c ≡ true → CoreInField c
 unfolding core_fits core_count
-core_in_field NoCore h = tt
-core_in_field (At c) h = omega (arith, ltb-true c 8 h)
+core_in_field None h = tt
+core_in_field (Some c) h = omega (arith, ltb-true c 8 h)
 
-core_fits_lem : (c : Core) → CoreInField c → core_fits c ≡ true
+core_fits_lem : (c : Option ℕ) → CoreInField c → core_fits c ≡ true
 unfolding core_fits core_count
-core_fits_lem NoCore h = refl
-core_fits_lem (At c) h = lt-ltb c 8 (let z = h in omega arith)
+core_fits_lem None h = refl
+core_fits_lem (Some c) h = lt-ltb c 8 (let z = h in omega arith)
 
 -- askings in range
 pub in_range : (a : Overflow) → overflow_fits a ≡ true → InRange a

@@ -9,12 +9,9 @@ use Prim.Native.Nat.{ℕ, zero, suc, ◌+◌, ◌%◌, ◌^◌, ◌≤◌, ◌<�
 use native.Mathlib.Decide.{dec_lt}
 use native.Mathlib.Nat.{mod-eq_of_lt, mod-lt, lt_of_lt_of_le, zero-add, suc-add, pow-succ'}
 use native.Mathlib.Omega.{arith}
-use native.Mathlib.Numerals.{add-one}
 use lib.Dec.{ltb}
-use lib.ListN.{length, get_or, drop, drop_of_length-le}
-use lib.Seq.{drop-cons}
 use lib.Pow.{pow_pos, pow_mono}
-use borrow.Author.Tests.{eqb-true, eq-eqb, ne_eqb, ltb-true, ltb-false, not-false}
+use borrow.Author.Tests.{eqb-true, eq-eqb, ltb-true, ltb-false, not-false}
 use Rattle.requests.specs.Choice.{both, either, every}
 use Rattle.requests.specs.Bits.{bit, in_list, any_bit, only_bits, type_bits, rsp0_bits, match_bits, mask_bits}
 use Rattle.requests.specs.Masks.{bits_of, type_mask, permitted_mask, match_mask, mask_mask}
@@ -36,19 +33,6 @@ unfolding in_list
 member_in (j ∷ ks) k (Memᴰ.head e) = either_left _ _ (eq-eqb j k (sym e))
 member_in (j ∷ ks) k (Memᴰ.tail m) = either_right _ _ (member_in ks k m)
 member_in [] k x' = elim x' [ ]
-
--- the list from i on, by the number there
-pub in_here : (ks : List ℕ) (i k : ℕ) → i < length ks → get_or ks i 0 ≡ k → in_list (drop i ks) k ≡ true
-unfolding in_list
-in_here ks i k l e = rw (drop-cons ks i 0 l) (either_left _ _ (eq-eqb _ _ e))
-
-pub in_later : (ks : List ℕ) (i k : ℕ) → i < length ks → (get_or ks i 0 ≡ k → ⊥) → in_list (drop i ks) k ≡ in_list (drop (i + 1) ks) k
-unfolding in_list either
-in_later ks i k l f = rw (drop-cons ks i 0 l, ne_eqb _ _ f, add-one)
-
-pub in_none : (ks : List ℕ) (i k : ℕ) → length ks ≤ i → in_list (drop i ks) k ≡ false
-unfolding in_list
-in_none ks i k l = rw (drop_of_length-le ks l)
 
 -- ---- a bit of the list
 

@@ -1,14 +1,14 @@
 -- The catalogue of the C-Box lists what its pages print: antt computes the two over every page and every byte. Assumes nothing.
 --     as-printed     the computed test
 --     cbox-pages     what it says of every code and mask
+use Rattle.std.specs.Prelude.{Option, None, Some}
 use mathlib.Core.Path.{◌≡◌, refl, ap, ap₂, sym, ◌∙◌}
 use mathlib.Core.Logic.{◌↔◌, ⊎_elim}
 use mathlib.Core.Bool.{Bool, true, false, not, false≢true}
-use mathlib.Core.Option.{Option, none, some}
 use mathlib.Mathlib.Data.Bool.Basic.{eq-false_of_not-eq-true}
 use mathlib.Core.List.{List, [], ◌∷◌, Memᴰ}
 use Prim.Native.Nat.{ℕ, ◌≤◌, ◌<◌}
-use lib.Dec.{leb, eqb}
+use lib.Dec.{eqb}
 use borrow.Author.Tests.{eqb-true, eq-eqb, ne_eqb, le-ltb, not-true}
 use Rattle.requests.specs.Choice.{both, either, every, first_holding}
 use Rattle.requests.specs.Bits.{bit, in_list}
@@ -194,10 +194,10 @@ pairs n c m l =
 
 -- the number, by whether the code is listed, whether the pair is, and whether the mask is 0
 unfoldable answer : Bool → Bool → Bool → Option ℕ
-answer false pair none-given = some 8
-answer true true none-given = none
-answer true false true = some 9
-answer true false false = some 10
+answer false pair none-given = Some 8
+answer true true none-given = None
+answer true false true = Some 9
+answer true false false = Some 10
 
 not_wide : (n : ℕ) (a : CounterSet) → a.0 ≤ 63 → too_wide (C n) a ≡ false
 unfolding too_wide all_counters counter_count
@@ -222,22 +222,22 @@ module _ (s : Setup) (c m : ℕ) (a : CounterSet) (asked : Asked s m a) where
   pair_unlisted : ¬ Accepted c m → pair_in (events_of (C n)) c m ≡ false
   pair_unlisted out = eq-false_of_not-eq-true (λ h. out ((pairs n c m asked.byte).0 h))
 
-  pub taken : Accepted c m → event_number s c m a ≡ none
+  pub taken : Accepted c m → event_number s c m a ≡ None
   unfolding answer
   taken ok =
       let pair : pair_in (events_of (C n)) c m ≡ true = (pairs n c m asked.byte).1 ok in
       let row = pair_row (events_of (C n)) c m pair in
       answered n s c m a true true (eqb m 0) asked.cbox.1 asked.within (row_code (events_of (C n)) c row.0 row.1) pair refl
 
-  pub eight : ¬ Paged c → event_number s c m a ≡ some 8
+  pub eight : ¬ Paged c → event_number s c m a ≡ Some 8
   unfolding answer
   eight out = answered n s c m a false _ _ asked.cbox.1 asked.within (eq-false_of_not-eq-true (λ h. out ((codes n c).0 h))) refl refl
 
-  pub nine : m ≡ 0 → Paged c → ¬ Accepted c m → event_number s c m a ≡ some 9
+  pub nine : m ≡ 0 → Paged c → ¬ Accepted c m → event_number s c m a ≡ Some 9
   unfolding answer
   nine e there out = answered n s c m a true false true asked.cbox.1 asked.within (code_listed there) (pair_unlisted out) (eq-eqb m 0 e)
 
-  pub ten : Paged c → ¬ Accepted c m → ¬ (m ≡ 0) → event_number s c m a ≡ some 10
+  pub ten : Paged c → ¬ Accepted c m → ¬ (m ≡ 0) → event_number s c m a ≡ Some 10
   unfolding answer
   ten there out other = answered n s c m a true false false asked.cbox.1 asked.within (code_listed there) (pair_unlisted out) (ne_eqb m 0 other)
 

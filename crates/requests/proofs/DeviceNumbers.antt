@@ -1,6 +1,6 @@
 -- What the laws ask of a device's counters and letter: one record a device, cited wherever one of its facts is needed. Assumes nothing.
+use Rattle.std.specs.Prelude.{Some}
 use mathlib.Core.Path.{◌≡◌, refl}
-use mathlib.Core.Option.{some}
 use Prim.Native.Nat.{ℕ, ◌+◌, ◌≤◌, ◌<◌}
 use native.Mathlib.Omega.{arith}
 use Rattle.requests.specs.Devices.{counter_count, all_counters, fixed_count, all_fixed, letter_of, box_count, box_of, devices, named, device_of}
@@ -20,7 +20,7 @@ pub record DeviceNumbers (d : Device) : Type 0 where
   -- "a number that document 004 does not have is refused"
   pub box_most : box_count d ≡ most_box d + 1
   -- its letter names it, with its box
-  pub letter_names : (n : ℕ) → n ≡ box_of d → device_of (letter_of d) n ≡ some d
+  pub letter_names : (n : ℕ) → n ≡ box_of d → device_of (letter_of d) n ≡ Some d
   -- it is a printed ASCII character
   pub letter_printed : (32 < letter_of d) × (letter_of d < 127)
 

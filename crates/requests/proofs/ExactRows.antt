@@ -6,10 +6,9 @@ use mathlib.Core.List.Memᴰ
 use mathlib.Core.List.{[], ◌∷◌}
 use mathlib.Mathlib.Data.Bool.Basic.{eq-false_of_not-eq-true, eq-true_of_not-eq-false}
 use Prim.Native.Nat.{ℕ}
-use native.Mathlib.Omega.{arith}
 use lib.Dec.{eqb}
 use borrow.Author.Tests.{not-true, eqb-true, eqb-false, ne_eqb, ltb-true, lt-ltb}
-use Rattle.requests.specs.Choice.{both, either, pick}
+use Rattle.requests.specs.Choice.{both, either}
 use Rattle.requests.specs.Bits.{any_bit, type_bits, any_response, answer_bits, outstanding, rsp0_bits, match_bits, mask_bits}
 use Rattle.requests.specs.Devices.{packets_on, offcore_on, pairs_judged}
 use Rattle.requests.specs.MaskRules.{MaskRule}

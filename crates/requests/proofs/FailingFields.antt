@@ -1,8 +1,9 @@
 -- What the checks of a request give fails in that field, and under that number in no field left of it: by the tests of each row. Assumes nothing.
+use Rattle.std.proofs.lemmas.Option.{none-some, same_Some}
+use Rattle.std.specs.Prelude.{Some}
 use mathlib.Core.Path.{◌≡◌, refl, ap, sym}
 use mathlib.Core.Bool.{Bool, true, false, not}
 use mathlib.Core.List.{[], ◌∷◌}
-use mathlib.Core.Option.{some, none-ne-some, some-injective}
 use Prim.Native.Nat.{ℕ, ◌<◌}
 use native.Mathlib.Omega.{arith}
 use lib.Dec.{eqb}
@@ -34,8 +35,8 @@ pub record Leftmost (d : Device) (r : Request) (f : Fault) : Type 0 where
   pub first : (k : ℕ) → k < f.field → ¬ FailsAt d r f.refusal k
 
 -- a fault that is found
-found : {d : Device} {r : Request} (g f : Fault) → some g ≡ some f → Leftmost d r g → Leftmost d r f
-found {d} {r} g f e l = rw (sym (some-injective g f e)) l
+found : {d : Device} {r : Request} (g f : Fault) → Some g ≡ Some f → Leftmost d r g → Leftmost d r f
+found {d} {r} g f e l = rw (sym (same_Some g f e)) l
 
 -- ---- the tests under 10
 
@@ -128,14 +129,14 @@ type_lack_left k l (type_lacks h) = absurd (omega arith)
 kind_fault : (d : Device) (r : Request) → kind_not_on d r ≡ true → Leftmost d r (at KindNotOnDevice 0)
 kind_fault d r h = record { fails = kind ((refused_requests.seven d r).0 h); first = none_left }
 
-event_fault : (d : Device) (c m : ℕ) (a : CounterSet) (f : Fault) → first_holding (request_faults d (Event c m a)) ≡ some f → Leftmost d (Event c m a) f
+event_fault : (d : Device) (c m : ℕ) (a : CounterSet) (f : Fault) → first_holding (request_faults d (Event c m a)) ≡ Some f → Leftmost d (Event c m a) f
 unfolding request_faults first_holding
 event_fault d c m a f e =
     go (kind_not_on d (Event c m a)) (not_listed_lem d (Event c m a)) (both (not (eqb m 0)) (mask_not_listed d c m)) (too_wide d a) (incomplete d (Event c m a)) refl refl refl refl refl e
   where
     go : (k n r w i : Bool) → kind_not_on d (Event c m a) ≡ k → not_listed_lem d (Event c m a) ≡ n → both (not (eqb m 0)) (mask_not_listed d c m) ≡ r → too_wide d a ≡ w
         → incomplete d (Event c m a) ≡ i
-        → first_holding ((k, at KindNotOnDevice 0) ∷ (n, at NotListed 2) ∷ (r, at OutOfRange 3) ∷ (w, at OutOfRange 4) ∷ (i, at Incomplete 3) ∷ []) ≡ some f
+        → first_holding ((k, at KindNotOnDevice 0) ∷ (n, at NotListed 2) ∷ (r, at OutOfRange 3) ∷ (w, at OutOfRange 4) ∷ (i, at Incomplete 3) ∷ []) ≡ Some f
         → Leftmost d (Event c m a) f
     go true n r w i ek en er ew ei e = found (at KindNotOnDevice 0) f e (kind_fault d (Event c m a) ek)
     go false true r w i ek en er ew ei e =
@@ -144,28 +145,28 @@ event_fault d c m a f e =
     go false false false true i ek en er ew ei e = found (at OutOfRange 4) f e (record { fails = event_allowed (wide d a ew); first = event_left d c m a er })
     go false false false false true ek en er ew ei e =
         found (at Incomplete 3) f e (record { fails = mask_lacks ((refused_requests.nine d (Event c m a)).0 ei); first = mask_lack_left })
-    go false false false false false ek en er ew ei e = absurd (none-ne-some f e)
+    go false false false false false ek en er ew ei e = absurd (none-some f e)
 
-packet_fault : (d : Device) (x y : ℕ) (a : CounterSet) (f : Fault) → first_holding (request_faults d (Packet x y a)) ≡ some f → Leftmost d (Packet x y a) f
+packet_fault : (d : Device) (x y : ℕ) (a : CounterSet) (f : Fault) → first_holding (request_faults d (Packet x y a)) ≡ Some f → Leftmost d (Packet x y a) f
 unfolding request_faults first_holding
 packet_fault d x y a f e = go (kind_not_on d (Packet x y a)) (only_bits match_bits x) (only_bits mask_bits y) (too_wide d a) refl refl refl refl e
   where
     go : (k p q w : Bool) → kind_not_on d (Packet x y a) ≡ k → only_bits match_bits x ≡ p → only_bits mask_bits y ≡ q → too_wide d a ≡ w
-        → first_holding ((k, at KindNotOnDevice 0) ∷ (not p, at OutOfRange 2) ∷ (not q, at OutOfRange 3) ∷ (w, at OutOfRange 4) ∷ []) ≡ some f
+        → first_holding ((k, at KindNotOnDevice 0) ∷ (not p, at OutOfRange 2) ∷ (not q, at OutOfRange 3) ∷ (w, at OutOfRange 4) ∷ []) ≡ Some f
         → Leftmost d (Packet x y a) f
     go true p q w ek ep eq ew e = found (at KindNotOnDevice 0) f e (kind_fault d (Packet x y a) ek)
     go false false q w ek ep eq ew e = found (at OutOfRange 2) f e (record { fails = packet_match (match_reserved x ep); first = packet_match_left })
     go false true false w ek ep eq ew e = found (at OutOfRange 3) f e (record { fails = packet_mask (mask_reserved y eq); first = packet_mask_left d x y a ep })
     go false true true true ek ep eq ew e = found (at OutOfRange 4) f e (record { fails = packet_allowed (wide d a ew); first = packet_left d x y a ep eq })
-    go false true true false ek ep eq ew e = absurd (none-ne-some f e)
+    go false true true false ek ep eq ew e = absurd (none-some f e)
 
-offcore_fault : (d : Device) (w : ℕ) (a : CounterSet) (f : Fault) → first_holding (request_faults d (Offcore w a)) ≡ some f → Leftmost d (Offcore w a) f
+offcore_fault : (d : Device) (w : ℕ) (a : CounterSet) (f : Fault) → first_holding (request_faults d (Offcore w a)) ≡ Some f → Leftmost d (Offcore w a) f
 unfolding request_faults first_holding
 offcore_fault d w a f e =
     go (kind_not_on d (Offcore w a)) (only_bits rsp0_bits w) (too_wide d a) (incomplete d (Offcore w a)) (conflicting d (Offcore w a)) refl refl refl refl refl e
   where
     go : (k o t i x : Bool) → kind_not_on d (Offcore w a) ≡ k → only_bits rsp0_bits w ≡ o → too_wide d a ≡ t → incomplete d (Offcore w a) ≡ i → conflicting d (Offcore w a) ≡ x
-        → first_holding ((k, at KindNotOnDevice 0) ∷ (not o, at OutOfRange 2) ∷ (t, at OutOfRange 3) ∷ (i, at Incomplete 2) ∷ (x, at Conflicting 2) ∷ []) ≡ some f
+        → first_holding ((k, at KindNotOnDevice 0) ∷ (not o, at OutOfRange 2) ∷ (t, at OutOfRange 3) ∷ (i, at Incomplete 2) ∷ (x, at Conflicting 2) ∷ []) ≡ Some f
         → Leftmost d (Offcore w a) f
     go true o t i x ek eo et ei ex e = found (at KindNotOnDevice 0) f e (kind_fault d (Offcore w a) ek)
     go false false t i x ek eo et ei ex e = found (at OutOfRange 2) f e (record { fails = offcore_word (permitted_reserved w eo); first = word_left })
@@ -174,15 +175,15 @@ offcore_fault d w a f e =
         found (at Incomplete 2) f e (record { fails = word_lacks ((refused_requests.nine d (Offcore w a)).0 ei); first = word_lack_left })
     go false true false false true ek eo et ei ex e =
         found (at Conflicting 2) f e (record { fails = word_conflicts ((refused_requests.eleven d (Offcore w a)).0 ex); first = word_conflict_left })
-    go false true false false false ek eo et ei ex e = absurd (none-ne-some f e)
+    go false true false false false ek eo et ei ex e = absurd (none-some f e)
 
-latency_fault : (d : Device) (t : ℕ) (a b : CounterSet) (f : Fault) → first_holding (request_faults d (Latency t a b)) ≡ some f → Leftmost d (Latency t a b) f
+latency_fault : (d : Device) (t : ℕ) (a b : CounterSet) (f : Fault) → first_holding (request_faults d (Latency t a b)) ≡ Some f → Leftmost d (Latency t a b) f
 unfolding request_faults first_holding
 latency_fault d t a b f e =
     go (kind_not_on d (Latency t a b)) (only_bits type_bits t) (too_wide d a) (too_wide d b) (incomplete d (Latency t a b)) refl refl refl refl refl e
   where
     go : (k o v w i : Bool) → kind_not_on d (Latency t a b) ≡ k → only_bits type_bits t ≡ o → too_wide d a ≡ v → too_wide d b ≡ w → incomplete d (Latency t a b) ≡ i
-        → first_holding ((k, at KindNotOnDevice 0) ∷ (not o, at OutOfRange 2) ∷ (v, at OutOfRange 3) ∷ (w, at OutOfRange 4) ∷ (i, at Incomplete 2) ∷ []) ≡ some f
+        → first_holding ((k, at KindNotOnDevice 0) ∷ (not o, at OutOfRange 2) ∷ (v, at OutOfRange 3) ∷ (w, at OutOfRange 4) ∷ (i, at Incomplete 2) ∷ []) ≡ Some f
         → Leftmost d (Latency t a b) f
     go true o v w i ek eo ev ew ei e = found (at KindNotOnDevice 0) f e (kind_fault d (Latency t a b) ek)
     go false false v w i ek eo ev ew ei e = found (at OutOfRange 2) f e (record { fails = latency_type (types_reserved t eo); first = type_left })
@@ -190,9 +191,9 @@ latency_fault d t a b f e =
     go false true false true i ek eo ev ew ei e = found (at OutOfRange 4) f e (record { fails = latency_second (wide d b ew); first = second_left d t a b eo ev })
     go false true false false true ek eo ev ew ei e =
         found (at Incomplete 2) f e (record { fails = type_lacks ((refused_requests.nine d (Latency t a b)).0 ei); first = type_lack_left })
-    go false true false false false ek eo ev ew ei e = absurd (none-ne-some f e)
+    go false true false false false ek eo ev ew ei e = absurd (none-some f e)
 
-pub request_leftmost : (s : Setup) (r : Request) (f : Fault) → request_fault s r ≡ some f → Leftmost s.device r f
+pub request_leftmost : (s : Setup) (r : Request) (f : Fault) → request_fault s r ≡ Some f → Leftmost s.device r f
 unfolding request_fault
 request_leftmost s (Event c m a) f e = event_fault s.device c m a f e
 request_leftmost s (Packet x y a) f e = packet_fault s.device x y a f e

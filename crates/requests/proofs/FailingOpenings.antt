@@ -1,9 +1,10 @@
 -- What an opening is refused for fails in that field, and under that number in no field left of it: by the device of its letter, and the tests of its
 -- rows. Assumes nothing.
+use Rattle.std.proofs.lemmas.Option.{none-some, same_Some}
+use Rattle.std.specs.Prelude.{Option, None, Some}
 use mathlib.Core.Path.{◌≡◌, refl, sym, subst, ◌∙◌}
 use mathlib.Core.Bool.{Bool, true, false, not, true≢false}
 use mathlib.Core.List.{[], ◌∷◌}
-use mathlib.Core.Option.{Option, none, some, none-ne-some, some-injective}
 use Prim.Native.Nat.{ℕ, suc, ◌+◌, ◌≤◌, ◌<◌}
 use native.Mathlib.Omega.{arith}
 use lib.Dec.{leb, ltb}
@@ -14,8 +15,6 @@ use Rattle.requests.specs.Devices.{all_counters, all_fixed, letter_of, box_count
 use Rattle.requests.specs.Openings.{letter_code, most_usable, most_fixed, most_box, GivenFor}
 use Rattle.requests.specs.Faults.{at, freeze_field, opening_faults, opening_fault_table, opening_fault}
 use Rattle.requests.specs.FaultFields.{freeze_at, OpeningFailsAt, letter, none_usable, usable_above, fixed_above, box_above, asked_elsewhere, freeze_above, core_above}
-use Rattle.requests.specs.declared.Core.{Core}
-use Rattle.requests.specs.declared.Core.TheVariants.{NoCore, At}
 use Rattle.requests.specs.declared.Device.{Device}
 use Rattle.requests.specs.declared.Device.TheVariants.{G, S, C, B}
 use Rattle.requests.specs.declared.Opening.{Opening}
@@ -31,8 +30,8 @@ pub record OpeningLeftmost (o : Opening) (f : Fault) : Type 0 where
   pub fails : OpeningFailsAt o f.refusal f.field
   pub first : (k : ℕ) → k < f.field → ¬ OpeningFailsAt o f.refusal k
 
-found : {o : Opening} (g f : Fault) → some g ≡ some f → OpeningLeftmost o g → OpeningLeftmost o f
-found {o} g f e l = rw (sym (some-injective g f e)) l
+found : {o : Opening} (g f : Fault) → Some g ≡ Some f → OpeningLeftmost o g → OpeningLeftmost o f
+found {o} g f e l = rw (sym (same_Some g f e)) l
 
 -- ---- devices of one letter
 
@@ -54,30 +53,30 @@ record Alike (d e : Device) : Type 0 where
 itself : (d : Device) → Alike d d
 itself d = record { usable = refl; fixed = refl; box = refl; freeze = refl }
 
-alike : (n box : ℕ) (d e : Device) → device_of n box ≡ some d → n ≡ letter_code e → Alike d e
+alike : (n box : ℕ) (d e : Device) → device_of n box ≡ Some d → n ≡ letter_code e → Alike d e
 unfolding device_of named devices letter_of
-alike n box d G h l = subst (λ (x : Device). Alike x G) (some-injective G d (rw l at h)) (itself G)
-alike n box d S h l = subst (λ (x : Device). Alike x S) (some-injective S d (rw l at h)) (itself S)
+alike n box d G h l = subst (λ (x : Device). Alike x G) (same_Some G d (rw l at h)) (itself G)
+alike n box d S h l = subst (λ (x : Device). Alike x S) (same_Some S d (rw l at h)) (itself S)
 alike n box d (C b) h l =
-    subst (λ (x : Device). Alike x (C b)) (some-injective (C box) d (rw l at h)) (record { usable = refl; fixed = refl; box = refl; freeze = refl })
-alike n box d B h l = subst (λ (x : Device). Alike x B) (some-injective B d (rw l at h)) (itself B)
+    subst (λ (x : Device). Alike x (C b)) (same_Some (C box) d (rw l at h)) (record { usable = refl; fixed = refl; box = refl; freeze = refl })
+alike n box d B h l = subst (λ (x : Device). Alike x B) (same_Some B d (rw l at h)) (itself B)
 
 -- the letter of no device
-unknown_letter : (n box : ℕ) → device_of n box ≡ none → (d : Device) → ¬ (n ≡ letter_code d)
+unknown_letter : (n box : ℕ) → device_of n box ≡ None → (d : Device) → ¬ (n ≡ letter_code d)
 unfolding device_of named devices letter_of
-unknown_letter n box h G l = none-ne-some G (sym (rw l at h))
-unknown_letter n box h S l = none-ne-some S (sym (rw l at h))
-unknown_letter n box h (C b) l = none-ne-some (C box) (sym (rw l at h))
-unknown_letter n box h B l = none-ne-some B (sym (rw l at h))
+unknown_letter n box h G l = none-some G (sym (rw l at h))
+unknown_letter n box h S l = none-some S (sym (rw l at h))
+unknown_letter n box h (C b) l = none-some (C box) (sym (rw l at h))
+unknown_letter n box h B l = none-some B (sym (rw l at h))
 
 -- a core that does not fit the field
-pub core_wide : (c : Core) → core_fits c ≡ false → (n : ℕ) × (c ≡ At n) × (7 < n)
+pub core_wide : (c : Option ℕ) → core_fits c ≡ false → (n : ℕ) × (c ≡ Some n) × (7 < n)
 unfolding core_fits core_count
-core_wide NoCore h = absurd (true≢false h)
-core_wide (At n) h = (n, refl, ltb-false n 8 h)
+core_wide None h = absurd (true≢false h)
+core_wide (Some n) h = (n, refl, ltb-false n 8 h)
 
 -- ---- an opening with the letter of a device
-module _ (o : Opening) (d : Device) (on : device_of o.device o.cbox ≡ some d) where
+module _ (o : Opening) (d : Device) (on : device_of o.device o.cbox ≡ Some d) where
   lettered : o.device ≡ letter_code d
   lettered = sym (letter_is o.device o.cbox d on) ∙ openings.letters d
 
@@ -153,14 +152,14 @@ module _ (o : Opening) (d : Device) (on : device_of o.device o.cbox ≡ some d) 
   core_left z k l (freeze_above e p h) = absurd (omega (arith, leb-true o.overflow.freeze 1 z))
   core_left z k l (core_above e c p q h) = absurd (omega (arith, freeze_is d, (same e p).freeze))
 
-  known_fault : (f : Fault) → first_holding (opening_faults d o) ≡ some f → OpeningLeftmost o f
+  known_fault : (f : Fault) → first_holding (opening_faults d o) ≡ Some f → OpeningLeftmost o f
   unfolding opening_faults first_holding
   known_fault f e =
       go (usable_set d o.usable) (leb o.fixed (all_fixed d)) (ltb o.cbox (box_count d)) (overflow_not_on d o.overflow) (leb o.overflow.freeze 1) (core_fits o.overflow.core) refl refl refl refl refl refl e
     where
       go : (u x b k z c : Bool) → usable_set d o.usable ≡ u → leb o.fixed (all_fixed d) ≡ x → ltb o.cbox (box_count d) ≡ b → overflow_not_on d o.overflow ≡ k
           → leb o.overflow.freeze 1 ≡ z → core_fits o.overflow.core ≡ c
-          → first_holding ((not u, at BadOpening 2) ∷ (not x, at BadOpening 3) ∷ (not b, at BadOpening 4) ∷ (k, at KindNotOnDevice 0) ∷ (not z, at OutOfRange (freeze_field d)) ∷ (not c, at OutOfRange (freeze_field d + 1)) ∷ []) ≡ some f
+          → first_holding ((not u, at BadOpening 2) ∷ (not x, at BadOpening 3) ∷ (not b, at BadOpening 4) ∷ (k, at KindNotOnDevice 0) ∷ (not z, at OutOfRange (freeze_field d)) ∷ (not c, at OutOfRange (freeze_field d + 1)) ∷ []) ≡ Some f
           → OpeningLeftmost o f
       go false x b k z c eu ex eb ek ez ec e = found (at BadOpening 2) f e (record { fails = usable_out eu; first = usable_left })
       go true false b k z c eu ex eb ek ez ec e = found (at BadOpening 3) f e (record { fails = fixed_out ex; first = fixed_left eu })
@@ -168,7 +167,7 @@ module _ (o : Opening) (d : Device) (on : device_of o.device o.cbox ≡ some d) 
       go true true true true z c eu ex eb ek ez ec e = found (at KindNotOnDevice 0) f e (record { fails = kind_out ek; first = λ k l h. absurd (omega arith) })
       go true true true false false c eu ex eb ek ez ec e = found (at OutOfRange (freeze_field d)) f e (record { fails = freeze_out ez; first = freeze_left })
       go true true true false true false eu ex eb ek ez ec e = found (at OutOfRange (freeze_field d + 1)) f e (record { fails = core_out ec; first = core_left ez })
-      go true true true false true true eu ex eb ek ez ec e = absurd (none-ne-some f e)
+      go true true true false true true eu ex eb ek ez ec e = absurd (none-some f e)
 
 -- ---- every opening
 
@@ -179,13 +178,13 @@ letter_left o k l (usable_above e p h) = absurd (omega arith)
 letter_left o k l (fixed_above e p h) = absurd (omega arith)
 letter_left o k l (box_above e p h) = absurd (omega arith)
 
-pub opening_leftmost : (o : Opening) (f : Fault) → opening_fault o ≡ some f → OpeningLeftmost o f
+pub opening_leftmost : (o : Opening) (f : Fault) → opening_fault o ≡ Some f → OpeningLeftmost o f
 unfolding opening_fault opening_fault_table first_holding
 opening_leftmost o f e = go (device_of o.device o.cbox) refl
   where
     go : (x : Option Device) → device_of o.device o.cbox ≡ x → OpeningLeftmost o f
-    go none h = found (at BadOpening 1) f (rw (h, opening_fault, opening_fault_table) at e) (record { fails = letter (unknown_letter o.device o.cbox h); first = letter_left o })
-    go (some d) h = known_fault o d h f (rw (h, opening_fault, opening_fault_table) at e)
+    go None h = found (at BadOpening 1) f (rw (h, opening_fault, opening_fault_table) at e) (record { fails = letter (unknown_letter o.device o.cbox h); first = letter_left o })
+    go (Some d) h = known_fault o d h f (rw (h, opening_fault, opening_fault_table) at e)
 
 -- what fails under 3 is given for no device
 given_alike : (o : Opening) (d e : Device) → GivenFor o d → o.device ≡ letter_code e → Alike d e

@@ -1,8 +1,8 @@
 -- The field at fault: the statement, from the laws of the rows and of each field. Assumes nothing.
+use Rattle.std.specs.Prelude.{Some}
 use mathlib.Core.Path.{◌≡◌, refl, ap, subst, ◌∙◌}
 use mathlib.Core.Bool.{Bool, true, false}
 use mathlib.Core.Logic.{◌↔◌}
-use mathlib.Core.Option.{some}
 use Prim.Native.Nat.{ℕ, suc}
 use native.Mathlib.Omega.{arith}
 use lib.Dec.{leb}
@@ -104,7 +104,7 @@ opening_three o = (to, λ t d given. not_given o d given t.0 t.1)
   where
     to : ((d : Device) → ¬ GivenFor o d) → (k : ℕ) × OpeningFailsAt o BadOpening k
     to no_device =
-        let refused : first_holding (opening_table o) ≡ some BadOpening = holds _ _ ((device_row o).1 no_device) in
+        let refused : first_holding (opening_table o) ≡ Some BadOpening = holds _ _ ((device_row o).1 no_device) in
         ((opening_fields o).opening, (opening_leftmost o (at BadOpening (opening_fields o).opening) (opening_told o ∙ ap (with_field (opening_fields o)) refused)).fails)
 
 at_opening_seven : (o : Opening) (k : ℕ) → OpeningFailsAt o KindNotOnDevice k → NotAsked o × (¬ NothingAsked o.overflow)

@@ -1,8 +1,8 @@
 -- The first row of a table with fields is the first row without them, with the field of its refusal. Assumes nothing.
+use Rattle.std.specs.Prelude.{Option, None, Some, Ok, Err}
 use mathlib.Core.Path.{◌≡◌, refl, ap, ◌∙◌}
 use mathlib.Core.Bool.{Bool, true, false, not}
 use mathlib.Core.List.{List, [], ◌∷◌}
-use mathlib.Core.Option.{Option, none, some}
 use Prim.Native.Nat.{ℕ, ◌+◌, ◌≤◌}
 use native.Mathlib.Omega.{arith}
 use lib.Dec.{eqb, leb, ltb}
@@ -17,14 +17,10 @@ use Rattle.requests.specs.Faults.{at, refusal_in, checked_as, freeze_field, open
 use Rattle.requests.specs.declared.Device.{Device}
 use Rattle.requests.specs.declared.Setup.{Setup}
 use Rattle.requests.specs.declared.Opening.{Opening}
-use Rattle.requests.specs.declared.Opened.{Opened}
-use Rattle.requests.specs.declared.Opened.TheVariants.{With}
 use Rattle.requests.specs.declared.Request.{Request}
 use Rattle.requests.specs.declared.Request.TheVariants.{Event, Packet, Offcore, Latency}
 use Rattle.requests.specs.declared.Refusal.{Refusal}
 use Rattle.requests.specs.declared.Refusal.TheVariants.{BadOpening, KindNotOnDevice, NotListed, OutOfRange, Incomplete, Conflicting}
-use Rattle.requests.specs.declared.Answer.TheVariants.{Accepted, Refused}
-use Rattle.requests.specs.declared.Checked.TheVariants.{Passed, Failed}
 use Rattle.requests.specs.declared.Fields.{Fields}
 use Rattle.requests.proofs.Openings.{opened_some, opened_none, taken_table}
 
@@ -118,17 +114,17 @@ unfolding opening_fault opening_fault_table opening_faults opening_fields fields
 opening_told o = go (device_of o.device o.cbox) refl
   where
     go : (x : Option Device) → device_of o.device o.cbox ≡ x → opening_fault o ≡ with_field (opening_fields o) (first_holding (opening_table o))
-    go none h = rw (h, opening_fault, opening_fault_table, opening_fields, opening_table, on_device) refl
-    go (some d) h =
+    go None h = rw (h, opening_fault, opening_fault_table, opening_fields, opening_table, on_device) refl
+    go (Some d) h =
         rw (h, opening_fault, opening_fault_table, opening_fields, opening_table, on_device)
         (opening_rows_lem (usable_set d o.usable) (leb o.fixed (all_fixed d)) (ltb o.cbox (box_count d)) (overflow_not_on d o.overflow) (leb o.overflow.freeze 1) (core_fits o.overflow.core) (freeze_field d))
 
 -- the fields of an opening with the letter of a device, or of none
-pub fields_on_lem : (o : Opening) (d : Device) → device_of o.device o.cbox ≡ some d → opening_fields o ≡ fields_on d o
+pub fields_on_lem : (o : Opening) (d : Device) → device_of o.device o.cbox ≡ Some d → opening_fields o ≡ fields_on d o
 unfolding opening_fields
 fields_on_lem o d h = rw (h, opening_fields)
 
-pub fields_none : (o : Opening) → device_of o.device o.cbox ≡ none → opening_fields o ≡ record { opening = 1; range = 0; lack = 0 }
+pub fields_none : (o : Opening) → device_of o.device o.cbox ≡ None → opening_fields o ≡ record { opening = 1; range = 0; lack = 0 }
 unfolding opening_fields
 fields_none o h = rw (h, opening_fields)
 
@@ -137,19 +133,19 @@ fields_none o h = rw (h, opening_fields)
 -- it falls away
 pub field_dropped : (f : Fields) (x : Option Refusal) → refusal_in (with_field f x) ≡ x
 unfolding refusal_in with_field
-field_dropped f none = refl
-field_dropped f (some x) = refl
+field_dropped f None = refl
+field_dropped f (Some x) = refl
 
 -- an answer, and what is told with its field
-pub passed_told : (f : Fields) (x : Option Refusal) → answer_for x ≡ Accepted → checked_as (with_field f x) ≡ Passed
+pub passed_told : (f : Fields) (x : Option Refusal) → answer_for x ≡ (Ok tt) → checked_as (with_field f x) ≡ Ok tt
 unfolding answer_for checked_as with_field
-passed_told f none e = refl
-passed_told f (some x) e = let z : ◌≡◌ {A = ℕ} 0 1 = cc in absurd (omega arith)
+passed_told f None e = refl
+passed_told f (Some x) e = let z : ◌≡◌ {A = ℕ} 0 1 = cc in absurd (omega arith)
 
-pub failed_told : (f : Fields) (x : Option Refusal) (y : Refusal) → answer_for x ≡ Refused y → checked_as (with_field f x) ≡ Failed (at y (field_of y f))
+pub failed_told : (f : Fields) (x : Option Refusal) (y : Refusal) → answer_for x ≡ Err y → checked_as (with_field f x) ≡ Err (at y (field_of y f))
 unfolding answer_for checked_as with_field
-failed_told f none y e = let z : ◌≡◌ {A = ℕ} 0 1 = cc in absurd (omega arith)
-failed_told f (some x) y e = let h : x ≡ y = cc in ap (λ (z : Refusal). Failed (at z (field_of z f))) h
+failed_told f None y e = let z : ◌≡◌ {A = ℕ} 0 1 = cc in absurd (omega arith)
+failed_told f (Some x) y e = let h : x ≡ y = cc in ap (λ (z : Refusal). Err (at z (field_of z f))) h
 
 -- the field of the freeze is a small number
 pub freeze_small : (d : Device) (n : ℕ) → n ≡ freeze_field d → n ≤ 5
@@ -161,10 +157,10 @@ freeze_small d n e = rw e (go (ltb 1 (box_count d)))
     go false = omega arith
 
 -- what an opening opens, and what is told of it with its field
-pub opening_passes : (o : Opening) (s : Setup) → opened_by o ≡ With s → checked_as (opening_fault o) ≡ Passed
+pub opening_passes : (o : Opening) (s : Setup) → opened_by o ≡ Ok s → checked_as (opening_fault o) ≡ Ok tt
 unfolding checked_as with_field
 opening_passes o s e = ap checked_as (opening_told o ∙ ap (with_field (opening_fields o)) (taken_table o s (opened_some o s e)))
 
-pub opening_fails : (o : Opening) (x : Refusal) → opened_by o ≡ Opened.Refused x → checked_as (opening_fault o) ≡ Failed (at x (field_of x (opening_fields o)))
+pub opening_fails : (o : Opening) (x : Refusal) → opened_by o ≡ Err x → checked_as (opening_fault o) ≡ Err (at x (field_of x (opening_fields o)))
 unfolding checked_as with_field
 opening_fails o x e = ap checked_as (opening_told o ∙ ap (with_field (opening_fields o)) (opened_none o x e).1)

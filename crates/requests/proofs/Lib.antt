@@ -8,10 +8,8 @@ pub mod AskingTests
 pub mod Openings
 pub mod OpeningsTaken
 pub mod RuleNumbers
-pub mod Lookups
 pub mod ByCode
 pub mod ListedByCode
-pub mod Roles
 pub mod FirstHolding
 pub mod AcceptanceTests
 pub mod CheckOrder

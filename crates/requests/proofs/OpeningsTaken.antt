@@ -1,8 +1,8 @@
 -- Which openings are taken, and the number of each that is refused: by the cases of the letter, and of the rows of its device.
+use Rattle.std.specs.Prelude.{Option, None, Some, Result, Err}
 use mathlib.Core.Path.{◌≡◌, refl, ap, sym, ◌∙◌}
 use mathlib.Core.Logic.{◌⊎◌, inl, inr, ⊎_elim, ◌↔◌}
 use mathlib.Core.Bool.{Bool, true, false, not, true≢false, false≢true}
-use mathlib.Core.Option.{Option, none, some}
 use Prim.Native.Nat.{◌≤◌}
 use native.Mathlib.Omega.{arith}
 use lib.Dec.{leb, ltb}
@@ -15,7 +15,6 @@ use Rattle.requests.specs.Openings.{letter_code, most_fixed, most_box, MayAsk, N
 use Rattle.requests.specs.declared.CounterSet.{CounterSet}
 use Rattle.requests.specs.declared.Device.{Device}
 use Rattle.requests.specs.declared.Device.TheVariants.{G, S, C, B}
-use Rattle.requests.specs.declared.Opened.{Opened}
 use Rattle.requests.specs.declared.Opening.{Opening}
 use Rattle.requests.specs.declared.Refusal.{Refusal}
 use Rattle.requests.specs.declared.Refusal.TheVariants.{BadOpening, KindNotOnDevice, OutOfRange}
@@ -80,7 +79,7 @@ given_by : (d : Device) (o : Opening) → GivenFor o d → opened_by o ≡ opene
 given_by d o h = opened_on_lem o d (letter_named o.device o.cbox d h.letter h.box)
 
 -- what it asks is refused by no row
-asked_passes : (d : Device) (o : Opening) → GivenFor o d → NothingAsked o.overflow ⊎ (MayAsk d × InRange o.overflow) → first_holding (opening_rows d o) ≡ none
+asked_passes : (d : Device) (o : Opening) → GivenFor o d → NothingAsked o.overflow ⊎ (MayAsk d × InRange o.overflow) → first_holding (opening_rows d o) ≡ None
 unfolding rows_where opening_rows overflow_not_on both
 asked_passes d o h (inl nothing) =
     skips _ _ (ap not (given_tested d o h))
@@ -94,7 +93,7 @@ asked_passes d o h (inr asked) =
     ∙ ends
 
 -- and where no row refuses it, it asks nothing or what the device may be asked
-passes_asked : (d : Device) (o : Opening) → first_holding (opening_rows d o) ≡ none → (opens d o ≡ true) × (NothingAsked o.overflow ⊎ (MayAsk d × InRange o.overflow))
+passes_asked : (d : Device) (o : Opening) → first_holding (opening_rows d o) ≡ None → (opens d o ≡ true) × (NothingAsked o.overflow ⊎ (MayAsk d × InRange o.overflow))
 unfolding rows_where opening_rows overflow_not_on
 passes_asked d o e =
     let given = passed _ _ e in
@@ -110,12 +109,12 @@ passes_asked d o e =
 
 -- ---- the cases
 
-taken : (o : Opening) (s : Setup) → Opens o s → setup_of o ≡ some s
+taken : (o : Opening) (s : Setup) → Opens o s → setup_of o ≡ Some s
 unfolding opened_on setup_on
 taken o s h =
     opened_some o s (given_by s.device o h.given ∙ ap (opened_on s.device o) (asked_passes s.device o h.given h.askings) ∙ rw (h.usable, h.fixed, h.overflow))
 
-only : (o : Opening) (s : Setup) → setup_of o ≡ some s → Opens o s
+only : (o : Opening) (s : Setup) → setup_of o ≡ Some s → Opens o s
 unfolding setup_on
 only o s e =
     let parts = taken_parts o s e in
@@ -130,36 +129,36 @@ only o s e =
     }
 
 -- an opening that is taken has a set of the device's counters
-pub usable_bounds : (o : Opening) (s : Setup) → setup_of o ≡ some s → (1 ≤ s.usable.0) × (s.usable.0 ≤ all_counters s.device)
+pub usable_bounds : (o : Opening) (s : Setup) → setup_of o ≡ Some s → (1 ≤ s.usable.0) × (s.usable.0 ≤ all_counters s.device)
 usable_bounds o s e =
     let h = only o s e in
     (rw (← h.usable) h.given.at_least, rw (← h.usable) h.given.at_most)
 
-refused : (o : Opening) → ((s : Setup) → ¬ Opens o s) → setup_of o ≡ none
+refused : (o : Opening) → ((s : Setup) → ¬ Opens o s) → setup_of o ≡ None
 refused o none-opens = go (setup_of o) refl
   where
-    go : (x : Option Setup) → setup_of o ≡ x → setup_of o ≡ none
-    go none h = h
-    go (some s) h = absurd (none-opens s (only o s h))
+    go : (x : Option Setup) → setup_of o ≡ x → setup_of o ≡ None
+    go None h = h
+    go (Some s) h = absurd (none-opens s (only o s h))
 
 -- the number of an opening that a row of the device's refuses
-by_row : (o : Opening) (d : Device) → GivenFor o d → (x : Refusal) → first_holding (opening_rows d o) ≡ some x → opening_number o ≡ some (number_of x)
+by_row : (o : Opening) (d : Device) → GivenFor o d → (x : Refusal) → first_holding (opening_rows d o) ≡ Some x → opening_number o ≡ Some (number_of x)
 unfolding opened_on opened_answer answer_number
-by_row o d h x e = ap (λ (y : Opened). answer_number (opened_answer y)) (given_by d o h ∙ ap (opened_on d o) e)
+by_row o d h x e = ap (λ (y : Result Setup Refusal). answer_number (opened_answer y)) (given_by d o h ∙ ap (opened_on d o) e)
 
-accepted : (o : Opening) (s : Setup) → Opens o s → opening_number o ≡ none
+accepted : (o : Opening) (s : Setup) → Opens o s → opening_number o ≡ None
 unfolding opened_on opened_answer answer_number
 accepted o s h =
-    ap (λ (y : Opened). answer_number (opened_answer y))
+    ap (λ (y : Result Setup Refusal). answer_number (opened_answer y))
     (given_by s.device o h.given ∙ ap (opened_on s.device o) (asked_passes s.device o h.given h.askings))
 
-seven : (o : Opening) (d : Device) → GivenFor o d → ¬ MayAsk d → ¬ NothingAsked o.overflow → opening_number o ≡ some 7
+seven : (o : Opening) (d : Device) → GivenFor o d → ¬ MayAsk d → ¬ NothingAsked o.overflow → opening_number o ≡ Some 7
 unfolding rows_where opening_rows overflow_not_on number_of
 seven o d h n a =
     by_row o d h KindNotOnDevice
     (skips _ _ (ap not (given_tested d o h)) ∙ holds _ _ (true_both _ _ (asks_some o.overflow a) (ap not (not_asked_on d n))))
 
-ten : (o : Opening) (d : Device) → GivenFor o d → MayAsk d → ¬ InRange o.overflow → opening_number o ≡ some 10
+ten : (o : Opening) (d : Device) → GivenFor o d → MayAsk d → ¬ InRange o.overflow → opening_number o ≡ Some 10
 unfolding rows_where opening_rows overflow_not_on number_of
 ten o d h m n =
     by_row o d h OutOfRange
@@ -167,22 +166,22 @@ ten o d h m n =
     ∙ skips _ _ (ap (λ (b : Bool). both (asks o.overflow) (not b)) (asked_on d m) ∙ both_false (asks o.overflow))
     ∙ holds _ _ (ap not (range_missed o.overflow n)))
 
-three : (o : Opening) → ((d : Device) → ¬ GivenFor o d) → opening_number o ≡ some 3
+three : (o : Opening) → ((d : Device) → ¬ GivenFor o d) → opening_number o ≡ Some 3
 unfolding opened_on opened_answer answer_number number_of rows_where opening_rows opens
 three o no_device = go (device_of o.device o.cbox) refl
   where
-    bad : opened_by o ≡ Opened.Refused BadOpening → opening_number o ≡ some 3
-    bad e = ap (λ (y : Opened). answer_number (opened_answer y)) e
+    bad : opened_by o ≡ Err BadOpening → opening_number o ≡ Some 3
+    bad e = ap (λ (y : Result Setup Refusal). answer_number (opened_answer y)) e
 
-    on : (d : Device) → device_of o.device o.cbox ≡ some d → (b : Bool) → opens d o ≡ b → opening_number o ≡ some 3
+    on : (d : Device) → device_of o.device o.cbox ≡ Some d → (b : Bool) → opens d o ≡ b → opening_number o ≡ Some 3
     on d e true h =
         let box = box_is o.device o.cbox d e (both_parts _ _ (both_parts _ _ h).1).1 in
         absurd (no_device d (given_for d o (sym (letter_is o.device o.cbox d e)) (sym box) h))
     on d e false h = bad (opened_on_lem o d e ∙ ap (opened_on d o) (holds _ _ (ap not h)))
 
-    go : (x : Option Device) → device_of o.device o.cbox ≡ x → opening_number o ≡ some 3
-    go none h = bad (opened_refused o h)
-    go (some d) h = on d h (opens d o) refl
+    go : (x : Option Device) → device_of o.device o.cbox ≡ x → opening_number o ≡ Some 3
+    go None h = bad (opened_refused o h)
+    go (Some d) h = on d h (opens d o) refl
 
 -- ---- the rows of the table, each in its own words
 
@@ -190,14 +189,14 @@ pub device_row : (o : Opening) → (not (on_device o (λ d. opens d o)) ≡ true
 unfolding on_device opens
 device_row o = (λ h d given. to d given (device_of o.device o.cbox) refl h, λ no_device. from no_device (device_of o.device o.cbox) refl)
   where
-    to : (d : Device) → GivenFor o d → (x : Option Device) → device_of o.device o.cbox ≡ x → not (elim x [ none ↦ false | some d ↦ opens d o ]) ≡ true → ⊥
+    to : (d : Device) → GivenFor o d → (x : Option Device) → device_of o.device o.cbox ≡ x → not (elim x [ None ↦ false | Some d ↦ opens d o ]) ≡ true → ⊥
     to d given x e h =
         let named = sym e ∙ letter_named o.device o.cbox d given.letter given.box in
         both_ways (given_tested d o given) (not-true _ (rw named at h))
 
-    from : ((d : Device) → ¬ GivenFor o d) → (x : Option Device) → device_of o.device o.cbox ≡ x → not (elim x [ none ↦ false | some d ↦ opens d o ]) ≡ true
-    from no_device none e = refl
-    from no_device (some d) e = go (opens d o) refl
+    from : ((d : Device) → ¬ GivenFor o d) → (x : Option Device) → device_of o.device o.cbox ≡ x → not (elim x [ None ↦ false | Some d ↦ opens d o ]) ≡ true
+    from no_device None e = refl
+    from no_device (Some d) e = go (opens d o) refl
       where
         go : (b : Bool) → opens d o ≡ b → not b ≡ true
         go false h = refl
@@ -206,7 +205,7 @@ device_row o = (λ h d given. to d given (device_of o.device o.cbox) refl h, λ 
             absurd (no_device d (given_for d o (sym (letter_is o.device o.cbox d e)) (sym box) h))
 
 -- a device that may not be asked is named by its letter, whatever the box
-named_unasked : (o : Opening) (d : Device) → o.device ≡ letter_of d → ¬ MayAsk d → device_of o.device o.cbox ≡ some d
+named_unasked : (o : Opening) (d : Device) → o.device ≡ letter_of d → ¬ MayAsk d → device_of o.device o.cbox ≡ Some d
 unfolding device_of named devices letter_of
 named_unasked o G e n = rw e
 named_unasked o S e n = absurd (n tt)
@@ -217,16 +216,16 @@ pub kind_row : (o : Opening) → (on_device o (λ d. overflow_not_on d o.overflo
 unfolding on_device overflow_not_on
 kind_row o = (to (device_of o.device o.cbox) refl, from)
   where
-    to : (x : Option Device) → device_of o.device o.cbox ≡ x → elim x [ none ↦ false | some d ↦ both (asks o.overflow) (not (overflow_on d)) ] ≡ true
+    to : (x : Option Device) → device_of o.device o.cbox ≡ x → elim x [ None ↦ false | Some d ↦ both (asks o.overflow) (not (overflow_on d)) ] ≡ true
         → NotAsked o × (¬ NothingAsked o.overflow)
-    to none e h = absurd (false≢true h)
-    to (some d) e h =
+    to None e h = absurd (false≢true h)
+    to (Some d) e h =
         let parts = both_parts _ _ h in (
           (d, sym (letter_is o.device o.cbox d e), λ m. both_ways (asked_on d m) (not-true _ parts.1)),
           λ n. both_ways parts.0 (asks_nothing o.overflow n),
         )
 
-    from : NotAsked o × (¬ NothingAsked o.overflow) → elim (device_of o.device o.cbox) [ none ↦ false | some d ↦ both (asks o.overflow) (not (overflow_on d)) ] ≡ true
+    from : NotAsked o × (¬ NothingAsked o.overflow) → elim (device_of o.device o.cbox) [ None ↦ false | Some d ↦ both (asks o.overflow) (not (overflow_on d)) ] ≡ true
     from h =
         rw (named_unasked o h.0.0 h.0.1 h.0.2)
         (true_both _ _ (asks_some o.overflow h.1) (ap not (not_asked_on h.0.0 h.0.2)))
@@ -234,11 +233,11 @@ kind_row o = (to (device_of o.device o.cbox) refl, from)
 pub range_row : (o : Opening) → (not (overflow_fits o.overflow) ≡ true) ↔ (¬ InRange o.overflow)
 range_row o = (λ h r. both_ways (range_fits o.overflow r) (not-true _ h), λ n. ap not (range_missed o.overflow n))
 
-nothing : (o : Opening) (s : Setup) → setup_of o ≡ some s → NothingAsked o.overflow → asked s ≡ false
+nothing : (o : Opening) (s : Setup) → setup_of o ≡ Some s → NothingAsked o.overflow → asked s ≡ false
 unfolding asked
 nothing o s e n = ap (both (overflow_on s.device)) (ap asks (sym (only o s e).overflow) ∙ asks_nothing o.overflow n) ∙ both_false (overflow_on s.device)
 
-something : (o : Opening) (s : Setup) → setup_of o ≡ some s → ¬ NothingAsked o.overflow → asked s ≡ true
+something : (o : Opening) (s : Setup) → setup_of o ≡ Some s → ¬ NothingAsked o.overflow → asked s ≡ true
 unfolding asked
 something o s e n =
     let h = only o s e in

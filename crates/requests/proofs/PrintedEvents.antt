@@ -1,13 +1,13 @@
 -- The catalogues of G, S and B are the rows of document 01 and of order 12: each row as a mask rule, and the tests of a list of such rows. Assumes nothing.
 use mathlib.Core.Path.{◌≡◌, refl, ap, sym, ◌∙◌}
-use mathlib.Core.Logic.{◌↔◌, ⊎_elim}
+use mathlib.Core.Logic.{⊎_elim}
 use mathlib.Core.Bool.{Bool, true, false, false≢true}
 use mathlib.Core.List.{List, [], ◌∷◌, map, Memᴰ}
 use Prim.Native.Nat.{ℕ, ◌≤◌}
 use native.Mathlib.Omega.{arith}
 use lib.Dec.{eqb}
 use borrow.Author.Tests.{eqb-true, eq-eqb, leb-true, le-leb}
-use Rattle.requests.specs.Choice.{both, either, pick}
+use Rattle.requests.specs.Choice.{pick}
 use Rattle.requests.specs.MaskRules.{MaskRule, alone, range, allows, ListedEvent, listed}
 use Rattle.requests.specs.Catalogue.{architectural_events, precise_events, events_of, code_in, pair_in}
 use Rattle.requests.specs.PrintedEvents.{PrintedRow, printed_g, printed_s, printed_b, CodePrinted, PairPrinted, AsPrinted, PrintedEvents}

@@ -5,7 +5,7 @@ use Prim.Native.Nat.{ℕ, ◌<◌, ◌≤◌}
 use native.Mathlib.Decide.{dec_lt}
 use native.Mathlib.Omega.{arith}
 use lib.ListN.{length, get_or}
-use Rattle.requests.specs.ByCode.{places_read, Found, found_in}
+use Rattle.requests.specs.ByCode.{places_read, found_in}
 use Rattle.requests.specs.Rounds.{Rounds}
 use Rattle.requests.proofs.ByCode.{found_within, found_past, read_within, read_past, found_same}
 use Rattle.requests.proofs.ListedByCode.{cbox_apart, cbox_listing}

@@ -6,7 +6,7 @@ use mathlib.Core.List.{List, [], ◌∷◌, ◌++◌}
 use Prim.Native.Nat.{ℕ}
 use lib.Dec.{eqb}
 use borrow.Author.Tests.{eqb-true}
-use Rattle.requests.specs.Choice.{both, either, pick}
+use Rattle.requests.specs.Choice.{both, either}
 use Rattle.requests.specs.MaskRules.{allows, ListedEvent}
 use Rattle.requests.specs.Catalogue.{architectural_events, precise_events, events_of, pair_in}
 use Rattle.requests.specs.EventRules.{rule_on_b, has_rules, rule_of, rule_for, wants_quiet}

@@ -14,7 +14,7 @@ use Rattle.requests.specs.Bits.{bit, in_list, any_bit, only_bits, type_bits, any
 use Rattle.requests.specs.Devices.{all_counters}
 use Rattle.requests.specs.MaskRules.{MaskRule}
 use Rattle.requests.specs.Catalogue.{events_of, pair_in}
-use Rattle.requests.specs.RefusedRequests.{Lists, InCatalogue, PairListed, PairsOn, on_g_lem, CodesOn, on_s_lem, offcore_word, latency_types, AllowedSet, of_event, of_packet, of_offcore, first_of_latency, second_of_latency, KindNotOn, no_packet, no_offcore, no_latency, NotListed, pair, code, Incomplete, mask_0, no_type, no_response, OutOfRange, mask_other, word_bit, type_bit, wide_set, Conflicting, bit_38, bit_16, match_bit, mask_bit}
+use Rattle.requests.specs.RefusedRequests.{Lists, InCatalogue, PairListed, PairsOn, CodesOn, offcore_word, latency_types, AllowedSet, of_event, of_packet, of_offcore, first_of_latency, second_of_latency, no_packet, no_offcore, no_latency, NotListed, pair, code, Incomplete, mask_0, no_type, no_response, OutOfRange, mask_other, word_bit, type_bit, wide_set, Conflicting, bit_38, bit_16, match_bit, mask_bit}
 use Rattle.requests.specs.WellFormedRequests.{OneResponse, Described, event, packet, offcore, latency, WellFormedRequests}
 use Rattle.requests.specs.declared.CounterSet.{CounterSet}
 use Rattle.requests.specs.declared.Device.{Device}

@@ -1,10 +1,8 @@
 -- Order 7: what a session may ask of the U-Box at opening, for the overflow of a counter.
-use Rattle.std.specs.Prelude.{Bool, true, false, not, ℕ, ltb, leb, eqb}
+use Rattle.std.specs.Prelude.{Bool, true, false, not, ℕ, ltb, leb, eqb, Option, None, Some}
 use Rattle.requests.specs.Choice.{both, either}
 use Rattle.requests.specs.declared.Device.{Device}
 use Rattle.requests.specs.declared.Device.TheVariants.{G, S, C, B}
-use Rattle.requests.specs.declared.Core.{Core}
-use Rattle.requests.specs.declared.Core.TheVariants.{NoCore, At}
 use Rattle.requests.specs.declared.Overflow.{Overflow}
 use Rattle.requests.specs.declared.Setup.{Setup}
 
@@ -21,12 +19,12 @@ core_count = 8
 
 -- nothing is asked
 unfoldable pub unasked : Overflow
-unasked = record { freeze = 0; core = NoCore }
+unasked = record { freeze = 0; core = None }
 
 -- whether a core is given
-unfoldable pub core_given : Core → Bool
-core_given NoCore = false
-core_given (At c) = true
+unfoldable pub core_given : Option ℕ → Bool
+core_given None = false
+core_given (Some c) = true
 
 -- "anything but 0 and `-`": whether something is asked
 unfoldable pub asks : Overflow → Bool
@@ -41,9 +39,9 @@ unfoldable pub overflow_not_on : Device → Overflow → Bool
 overflow_not_on d a = both (asks a) (not (overflow_on d))
 
 -- whether a core that is given fits the field
-unfoldable pub core_fits : Core → Bool
-core_fits NoCore = true
-core_fits (At c) = ltb c core_count
+unfoldable pub core_fits : Option ℕ → Bool
+core_fits None = true
+core_fits (Some c) = ltb c core_count
 
 -- "freeze 0 or 1 (else 10)", and a core that fits the field
 unfoldable pub overflow_fits : Overflow → Bool

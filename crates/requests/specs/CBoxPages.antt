@@ -1,8 +1,7 @@
 -- Document 004, 2.3.5: the pages of the C-Box events with their masks as printed, and what is accepted by them.
 -- "listed mask values are the only ones accepted (0 is refused with 9, others with 10; likewise wherever masks are listed, and elsewhere mask 0 alone is accepted)".
-use Rattle.std.specs.Prelude.{◌≡◌, ◌↔◌, Bool, true, false, ℕ, ◌≤◌, ◌<◌}
+use Rattle.std.specs.Prelude.{◌≡◌, ◌↔◌, Bool, true, false, ℕ, ◌≤◌, ◌<◌, Option, None, Some}
 use mathlib.Core.List.{List, [], ◌∷◌, Memᴰ}
-use Rattle.std.proofs.Math.Option.{Option, none, some}
 use Rattle.requests.specs.Bits.{bit}
 use Rattle.requests.specs.Refusals.{answer_for, answer_number}
 use Rattle.requests.specs.Catalogue.{events_of, code_in, pair_in}
@@ -192,9 +191,9 @@ pub record CBoxPages : Type 0 where
   -- every C-Box lists the codes of the pages, and with each code the masks of its page
   pub codes : (n c : ℕ) → (code_in (events_of (C n)) c ≡ true) ↔ Paged c
   pub pairs : (n c m : ℕ) → m < 256 → (pair_in (events_of (C n)) c m ≡ true) ↔ Accepted c m
-  pub taken : (s : Setup) (c m : ℕ) (a : CounterSet) → Asked s m a → Accepted c m → event_number s c m a ≡ none
+  pub taken : (s : Setup) (c m : ℕ) (a : CounterSet) → Asked s m a → Accepted c m → event_number s c m a ≡ None
   -- "8 as on S"
-  pub eight : (s : Setup) (c m : ℕ) (a : CounterSet) → Asked s m a → ¬ Paged c → event_number s c m a ≡ some 8
+  pub eight : (s : Setup) (c m : ℕ) (a : CounterSet) → Asked s m a → ¬ Paged c → event_number s c m a ≡ Some 8
   -- "0 is refused with 9, others with 10"
-  pub nine : (s : Setup) (c : ℕ) (a : CounterSet) → Asked s 0 a → Paged c → ¬ Accepted c 0 → event_number s c 0 a ≡ some 9
-  pub ten : (s : Setup) (c m : ℕ) (a : CounterSet) → Asked s m a → Paged c → ¬ Accepted c m → ¬ (m ≡ 0) → event_number s c m a ≡ some 10
+  pub nine : (s : Setup) (c : ℕ) (a : CounterSet) → Asked s 0 a → Paged c → ¬ Accepted c 0 → event_number s c 0 a ≡ Some 9
+  pub ten : (s : Setup) (c m : ℕ) (a : CounterSet) → Asked s m a → Paged c → ¬ Accepted c m → ¬ (m ≡ 0) → event_number s c m a ≡ Some 10

@@ -1,6 +1,5 @@
 -- Document 01, 'Refusal numbers', 7 to 11: the checks of a request on a device.
-use Rattle.std.specs.Prelude.{List, [], ◌∷◌, ◌++◌, Bool, true, false, not, ◌≡◌, ltb, eqb}
-use Rattle.std.proofs.Math.Option.{Option, none}
+use Rattle.std.specs.Prelude.{List, [], ◌∷◌, ◌++◌, Bool, false, not, ◌≡◌, ltb, eqb, Option, None}
 use Rattle.requests.specs.Choice.{both, either, pick, is_some, Row, first_holding}
 use Rattle.requests.specs.Bits.{only_bits, any_bit, type_bits, any_response, answer_bits, outstanding, rsp0_bits, match_bits, mask_bits}
 use Rattle.requests.specs.Devices.{all_counters, packets_on, offcore_on, pairs_judged}
@@ -73,4 +72,4 @@ formed s r = not (is_some (request_refusal s r))
 
 -- document 01: "well-formed requests (none of 7 to 11 applies)"
 abbrev pub Formed : Setup → Request → Type 0
-Formed s r = request_refusal s r ≡ none
+Formed s r = request_refusal s r ≡ None

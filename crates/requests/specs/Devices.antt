@@ -1,6 +1,5 @@
 -- Document 01, 'What is on the bench' and 'open': devices, their counters, and what open takes.
-use Rattle.std.specs.Prelude.{Bool, true, false, not, List, [], ◌∷◌, ℕ, zero, suc, ◌+◌, ◌-◌, ◌^◌, ltb, leb, eqb}
-use Rattle.std.proofs.Math.Option.{Option, none, some}
+use Rattle.std.specs.Prelude.{Bool, true, false, not, List, [], ◌∷◌, ℕ, zero, suc, ◌+◌, ◌-◌, ◌^◌, ltb, leb, eqb, Option, None, Some, Result, Ok, Err}
 use Rattle.requests.specs.Choice.{both, pick, Row, first_holding}
 use Rattle.requests.specs.Bits.{bit}
 use Rattle.requests.specs.Askings.{overflow_not_on, overflow_fits}
@@ -9,12 +8,9 @@ use Rattle.requests.specs.declared.Device.{Device}
 use Rattle.requests.specs.declared.Device.TheVariants.{G, S, C, B}
 use Rattle.requests.specs.declared.Opening.{Opening}
 use Rattle.requests.specs.declared.Setup.{Setup}
-use Rattle.requests.specs.declared.Opened.{Opened}
-use Rattle.requests.specs.declared.Opened.TheVariants.{With}
 use Rattle.requests.specs.declared.Refusal.{Refusal}
 use Rattle.requests.specs.declared.Refusal.TheVariants.{BadOpening, KindNotOnDevice, OutOfRange}
-use Rattle.requests.specs.declared.Answer.{Answer}
-use Rattle.requests.specs.declared.Answer.TheVariants.{Accepted, Refused}
+use Rattle.requests.specs.Answers.{Answer}
 
 -- "Sets are numbers: counter k is 2^k": whether counter k is in the set
 unfoldable pub has : CounterSet → ℕ → Bool
@@ -78,8 +74,8 @@ devices box = G ∷ S ∷ C box ∷ B ∷ []
 
 -- the first device of the list with the letter's code
 unfoldable pub named : List Device → ℕ → Option Device
-named [] letter = none
-named (d ∷ ds) letter = elim (eqb letter (letter_of d)) [ true ↦ some d | false ↦ named ds letter ]
+named [] letter = None
+named (d ∷ ds) letter = elim (eqb letter (letter_of d)) [ true ↦ Some d | false ↦ named ds letter ]
 
 -- the device of a letter's code and the number of a box
 unfoldable pub device_of : ℕ → ℕ → Option Device
@@ -128,7 +124,7 @@ opening_rows d o = rows_where (λ test. test d) o
 
 -- whether there is a device of the letter and the test holds of it
 unfoldable pub on_device : Opening → (Device → Bool) → Bool
-on_device o test = elim (device_of o.device o.cbox) [ none ↦ false | some d ↦ test d ]
+on_device o test = elim (device_of o.device o.cbox) [ None ↦ false | Some d ↦ test d ]
 
 -- the same of every opening: 3 also where no device has the letter
 unfoldable pub opening_table : Opening → List (Row Refusal)
@@ -139,22 +135,22 @@ unfoldable pub setup_on : Device → Opening → Setup
 setup_on d o = record { device = d; usable = o.usable; fixed = o.fixed; overflow = o.overflow }
 
 -- what an opening of the device opens, by the refusal or none
-unfoldable pub opened_on : Device → Opening → Option Refusal → Opened
-opened_on d o none = With (setup_on d o)
-opened_on d o (some x) = Opened.Refused x
+unfoldable pub opened_on : Device → Opening → Option Refusal → Result Setup Refusal
+opened_on d o None = Ok (setup_on d o)
+opened_on d o (Some x) = Err x
 
 -- what an opening opens, or why none
-unfoldable pub opened_by : Opening → Opened
+unfoldable pub opened_by : Opening → Result Setup Refusal
 opened_by o =
     elim (device_of o.device o.cbox) [
-      | none ↦ Opened.Refused BadOpening
-      | some d ↦ opened_on d o (first_holding (opening_rows d o))
+      | None ↦ Err BadOpening
+      | Some d ↦ opened_on d o (first_holding (opening_rows d o))
     ]
 
 -- the setup, where one is opened
-unfoldable pub opened_setup : Opened → Option Setup
-opened_setup (With s) = some s
-opened_setup (Opened.Refused x) = none
+unfoldable pub opened_setup : Result Setup Refusal → Option Setup
+opened_setup (Ok s) = Some s
+opened_setup (Err x) = None
 
 -- what open takes; none is one of the refusals 3, 7 and 10
 unfoldable pub setup_of : Opening → Option Setup
@@ -165,6 +161,6 @@ unfoldable pub opening_of : Setup → Opening
 opening_of s = record { device = letter_of s.device; usable = s.usable; fixed = s.fixed; cbox = box_of s.device; overflow = s.overflow }
 
 -- how it is answered: `answerNumber` gives the number of each case
-unfoldable pub opened_answer : Opened → Answer
-opened_answer (With s) = Accepted
-opened_answer (Opened.Refused x) = Refused x
+unfoldable pub opened_answer : Result Setup Refusal → Answer
+opened_answer (Ok s) = Ok tt
+opened_answer (Err x) = Err x

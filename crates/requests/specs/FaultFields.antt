@@ -1,8 +1,7 @@
 -- Document 02, order 11: "The checks of a request shall give, beside the number, the field at fault, counted from 0 at the verb; where several fields
 -- fail under one number, the leftmost." What fails in which field, in the words of the rows of document 01 and the orders, a constructor for each
 -- number and field of a line.
-use Rattle.std.specs.Prelude.{◌≡◌, ◌↔◌, ℕ, suc, ◌<◌}
-use Rattle.std.proofs.Math.Option.{some}
+use Rattle.std.specs.Prelude.{◌≡◌, ◌↔◌, ℕ, suc, ◌<◌, Some}
 use Rattle.requests.specs.Bits.{type_bits, rsp0_bits, match_bits, mask_bits}
 use Rattle.requests.specs.Choice.{first_holding}
 use Rattle.requests.specs.Devices.{all_counters, opening_table}
@@ -15,7 +14,6 @@ use Rattle.requests.specs.Faults.{refusal_in, opening_fault, request_fault}
 use Rattle.requests.specs.declared.CounterSet.{CounterSet}
 use Rattle.requests.specs.declared.Device.{Device}
 use Rattle.requests.specs.declared.Device.TheVariants.{G, S, C, B}
-use Rattle.requests.specs.declared.Core.TheVariants.{At}
 use Rattle.requests.specs.declared.Setup.{Setup}
 use Rattle.requests.specs.declared.Opening.{Opening}
 use Rattle.requests.specs.declared.Request.{Request}
@@ -73,17 +71,17 @@ pub data OpeningFailsAt (o : Opening) : Refusal → ℕ → Type 0 where
   asked_elsewhere : NotAsked o → ¬ NothingAsked o.overflow → OpeningFailsAt o KindNotOnDevice 0
   -- 10: "freeze 0 or 1 (else 10)", "A core number that does not fit the field"
   freeze_above : (d : Device) → o.device ≡ letter_code d → 1 < o.overflow.freeze → OpeningFailsAt o OutOfRange (freeze_at d)
-  core_above : (d : Device) (c : ℕ) → o.device ≡ letter_code d → o.overflow.core ≡ At c → 7 < c → OpeningFailsAt o OutOfRange (suc (freeze_at d))
+  core_above : (d : Device) (c : ℕ) → o.device ≡ letter_code d → o.overflow.core ≡ Some c → 7 < c → OpeningFailsAt o OutOfRange (suc (freeze_at d))
 
 pub record FaultFields : Type 0 where
   -- "Numbers and their order stay": without the field, it is the answer of the checks
   pub numbers : (s : Setup) (r : Request) → refusal_in (request_fault s r) ≡ request_refusal s r
   pub opening_numbers : (o : Opening) → refusal_in (opening_fault o) ≡ first_holding (opening_table o)
   -- it fails in the field that is given, and under that number in no field left of it
-  pub fails : (s : Setup) (r : Request) (f : Fault) → request_fault s r ≡ some f → FailsAt s.device r f.refusal f.field
-  pub leftmost : (s : Setup) (r : Request) (f : Fault) → request_fault s r ≡ some f → (k : ℕ) → k < f.field → ¬ FailsAt s.device r f.refusal k
-  pub opening_fails : (o : Opening) (f : Fault) → opening_fault o ≡ some f → OpeningFailsAt o f.refusal f.field
-  pub opening_leftmost : (o : Opening) (f : Fault) → opening_fault o ≡ some f → (k : ℕ) → k < f.field → ¬ OpeningFailsAt o f.refusal k
+  pub fails : (s : Setup) (r : Request) (f : Fault) → request_fault s r ≡ Some f → FailsAt s.device r f.refusal f.field
+  pub leftmost : (s : Setup) (r : Request) (f : Fault) → request_fault s r ≡ Some f → (k : ℕ) → k < f.field → ¬ FailsAt s.device r f.refusal k
+  pub opening_fails : (o : Opening) (f : Fault) → opening_fault o ≡ Some f → OpeningFailsAt o f.refusal f.field
+  pub opening_leftmost : (o : Opening) (f : Fault) → opening_fault o ≡ Some f → (k : ℕ) → k < f.field → ¬ OpeningFailsAt o f.refusal k
   -- the fields share out what document 01 and the orders say of each number
   pub seven : (d : Device) (r : Request) → rows.KindNotOn d r ↔ ((k : ℕ) × FailsAt d r KindNotOnDevice k)
   pub eight : (d : Device) (r : Request) → rows.NotListed d r ↔ ((k : ℕ) × FailsAt d r NotListed k)

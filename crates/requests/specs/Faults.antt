@@ -1,8 +1,7 @@
 -- Document 02, order 11: the checks with the field at fault, "counted from 0 at the verb; where several fields fail under one number, the leftmost".
 -- The fields are those of the lines: `open` letter usable fixed, on C the box, freeze core; `event` id code mask allowed; `packet` id match mask
 -- allowed; `offcore` id word allowed; `latency` id type first second. Of order 6's call the number of turns is field 1.
-use Rattle.std.specs.Prelude.{List, [], ◌∷◌, true, not, ℕ, ◌+◌, eqb, leb, ltb}
-use Rattle.std.proofs.Math.Option.{Option, none, some}
+use Rattle.std.specs.Prelude.{List, [], ◌∷◌, true, not, ℕ, ◌+◌, eqb, leb, ltb, Option, None, Some, Result, Ok, Err, ⊤}
 use Rattle.requests.specs.Choice.{both, pick, Row, first_holding}
 use Rattle.requests.specs.Bits.{only_bits, type_bits, rsp0_bits, match_bits, mask_bits}
 use Rattle.requests.specs.Askings.{overflow_not_on, core_fits}
@@ -16,12 +15,9 @@ use Rattle.requests.specs.declared.Request.{Request}
 use Rattle.requests.specs.declared.Request.TheVariants.{Event, Packet, Offcore, Latency}
 use Rattle.requests.specs.declared.Refusal.{Refusal}
 use Rattle.requests.specs.declared.Refusal.TheVariants.{NotInGrammar, CallOrder, BadOpening, BadId, IdWaiting, IdNotWaiting, KindNotOnDevice, NotListed, Incomplete, OutOfRange, Conflicting, NoPlanAlone, QueueFull, SliceTooShort, NotLeftByPlan}
-use Rattle.requests.specs.declared.Answer.{Answer}
-use Rattle.requests.specs.declared.Answer.TheVariants.{Accepted, Refused}
+use Rattle.requests.specs.Answers.{Answer}
 use Rattle.requests.specs.declared.Fault.{Fault}
 use Rattle.requests.specs.declared.Fields.{Fields}
-use Rattle.requests.specs.declared.Checked.{Checked}
-use Rattle.requests.specs.declared.Checked.TheVariants.{Passed, Failed}
 
 -- a refusal at a field
 abbrev pub at : Refusal → ℕ → Fault
@@ -29,13 +25,13 @@ at x k = record { refusal = x; field = k }
 
 -- the refusal of a fault, without the field
 unfoldable pub refusal_in : Option Fault → Option Refusal
-refusal_in none = none
-refusal_in (some f) = some f.refusal
+refusal_in None = None
+refusal_in (Some f) = Some f.refusal
 
 -- a fault, as it is answered
-unfoldable pub checked_as : Option Fault → Checked
-checked_as none = Passed
-checked_as (some f) = Failed f
+unfoldable pub checked_as : Option Fault → Result ⊤ Fault
+checked_as None = Ok tt
+checked_as (Some f) = Err f
 
 -- ---- the tables: rows in the order in which they are checked, and under one number from the left
 
@@ -56,7 +52,7 @@ opening_faults d o =
 
 -- the same of every opening: 3 at the letter where no device has it
 unfoldable pub opening_fault_table : Opening → List (Row Fault)
-opening_fault_table o = elim (device_of o.device o.cbox) [ none ↦ (true, at BadOpening 1) ∷ [] | some d ↦ opening_faults d o ]
+opening_fault_table o = elim (device_of o.device o.cbox) [ None ↦ (true, at BadOpening 1) ∷ [] | Some d ↦ opening_faults d o ]
 
 -- what a device finds in a request: 7, 8, 10, 9, 11
 unfoldable pub request_faults : Device → Request → List (Row Fault)
@@ -128,7 +124,7 @@ unfoldable pub fields_on : Device → Opening → Fields
 fields_on d o = record { opening = opening_field d o; range = asking_field d o; lack = 0 }
 
 unfoldable pub opening_fields : Opening → Fields
-opening_fields o = elim (device_of o.device o.cbox) [ none ↦ record { opening = 1; range = 0; lack = 0 } | some d ↦ fields_on d o ]
+opening_fields o = elim (device_of o.device o.cbox) [ None ↦ record { opening = 1; range = 0; lack = 0 } | Some d ↦ fields_on d o ]
 
 -- those of order 6's call: 10 is at the number of turns
 unfoldable pub turns_fields : Fields
@@ -158,10 +154,10 @@ field_of NotLeftByPlan f = 0
 
 -- the field of an answer: 0 where the call is accepted
 unfoldable pub answer_field : Answer → Fields → ℕ
-answer_field Accepted f = 0
-answer_field (Refused x) f = field_of x f
+answer_field (Ok tt) f = 0
+answer_field (Err x) f = field_of x f
 
 -- a refusal with its field
 unfoldable pub with_field : Fields → Option Refusal → Option Fault
-with_field f none = none
-with_field f (some x) = some (at x (field_of x f))
+with_field f None = None
+with_field f (Some x) = Some (at x (field_of x f))

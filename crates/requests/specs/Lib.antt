@@ -1,4 +1,5 @@
 -- What the contracts and the statements speak of.
+pub mod Answers
 pub mod Refusals
 pub mod Bits
 pub mod Askings

@@ -2,15 +2,12 @@
 -- everywhere else: "device unknown, or usable set 0 or above" the bound, a fixed enable on S or C, and a box "that document 004 does not have".
 -- Order 7: "freeze 0 or 1 (else 10) and core or `-` for none", "A core number that does not fit the field is refused with 10, and asking on G
 -- (anything but 0 and `-`) with 7".
-use Rattle.std.specs.Prelude.{◌≡◌, true, false, ◌⊎◌, ℕ, ◌≤◌}
-use Rattle.std.proofs.Math.Option.{Option, none, some}
+use Rattle.std.specs.Prelude.{◌≡◌, true, false, ◌⊎◌, ℕ, ◌≤◌, Option, None, Some}
 use Rattle.requests.specs.Refusals.{answer_number}
 use Rattle.requests.specs.Askings.{asked}
 use Rattle.requests.specs.Devices.{all_counters, letter_of, box_of, setup_of, opening_of, opened_by, opened_answer}
 use Rattle.requests.specs.declared.Device.{Device}
 use Rattle.requests.specs.declared.Device.TheVariants.{G, S, C, B}
-use Rattle.requests.specs.declared.Core.{Core}
-use Rattle.requests.specs.declared.Core.TheVariants.{NoCore, At}
 use Rattle.requests.specs.declared.Overflow.{Overflow}
 use Rattle.requests.specs.declared.Opening.{Opening}
 use Rattle.requests.specs.declared.Setup.{Setup}
@@ -52,12 +49,12 @@ MayAsk B = ⊥
 
 -- "0 and `-`"
 abbrev pub NothingAsked : Overflow → Type 0
-NothingAsked a = (a.freeze ≡ 0) × (a.core ≡ NoCore)
+NothingAsked a = (a.freeze ≡ 0) × (a.core ≡ None)
 
 -- a core that is given is one of the eight of pmi_core_sel
-abbrev pub CoreInField : Core → Type 0
-CoreInField NoCore = Unit {0}
-CoreInField (At c) = c ≤ 7
+abbrev pub CoreInField : Option ℕ → Type 0
+CoreInField None = Unit {0}
+CoreInField (Some c) = c ≤ 7
 
 -- "freeze 0 or 1", and the core fits the field
 abbrev pub InRange : Overflow → Type 0
@@ -89,17 +86,17 @@ abbrev pub opening_number : Opening → Option ℕ
 opening_number o = answer_number (opened_answer (opened_by o))
 
 pub record Openings : Type 0 where
-  pub taken : (o : Opening) (s : Setup) → Opens o s → setup_of o ≡ some s
-  pub only : (o : Opening) (s : Setup) → setup_of o ≡ some s → Opens o s
-  pub refused : (o : Opening) → ((s : Setup) → ¬ Opens o s) → setup_of o ≡ none
+  pub taken : (o : Opening) (s : Setup) → Opens o s → setup_of o ≡ Some s
+  pub only : (o : Opening) (s : Setup) → setup_of o ≡ Some s → Opens o s
+  pub refused : (o : Opening) → ((s : Setup) → ¬ Opens o s) → setup_of o ≡ None
   -- the answer in each case, 3 before 7 before 10
-  pub accepted : (o : Opening) (s : Setup) → Opens o s → opening_number o ≡ none
-  pub three : (o : Opening) → ((d : Device) → ¬ GivenFor o d) → opening_number o ≡ some 3
-  pub seven : (o : Opening) (d : Device) → GivenFor o d → ¬ MayAsk d → ¬ NothingAsked o.overflow → opening_number o ≡ some 7
-  pub ten : (o : Opening) (d : Device) → GivenFor o d → MayAsk d → ¬ InRange o.overflow → opening_number o ≡ some 10
+  pub accepted : (o : Opening) (s : Setup) → Opens o s → opening_number o ≡ None
+  pub three : (o : Opening) → ((d : Device) → ¬ GivenFor o d) → opening_number o ≡ Some 3
+  pub seven : (o : Opening) (d : Device) → GivenFor o d → ¬ MayAsk d → ¬ NothingAsked o.overflow → opening_number o ≡ Some 7
+  pub ten : (o : Opening) (d : Device) → GivenFor o d → MayAsk d → ¬ InRange o.overflow → opening_number o ≡ Some 10
   -- whether the session asks something
-  pub nothing : (o : Opening) (s : Setup) → setup_of o ≡ some s → NothingAsked o.overflow → asked s ≡ false
-  pub something : (o : Opening) (s : Setup) → setup_of o ≡ some s → ¬ NothingAsked o.overflow → asked s ≡ true
+  pub nothing : (o : Opening) (s : Setup) → setup_of o ≡ Some s → NothingAsked o.overflow → asked s ≡ false
+  pub something : (o : Opening) (s : Setup) → setup_of o ≡ Some s → ¬ NothingAsked o.overflow → asked s ≡ true
   -- what open is given for a setup, also for one that it refuses: the numbers of a line reach the call as they stand there
   pub given : (s : Setup)
       → ((opening_of s).device ≡ letter_of s.device) × ((opening_of s).usable ≡ s.usable) × ((opening_of s).fixed ≡ s.fixed) × ((opening_of s).cbox ≡ box_of s.device) × ((opening_of s).overflow ≡ s.overflow)

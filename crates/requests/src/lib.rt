@@ -17,18 +17,11 @@ pub enum Device {
     B,
 }
 
-// The core that gets an interrupt, if any.
-#[derive(Clone, Copy)]
-pub enum Core {
-    NoCore,
-    At(u64),
-}
-
 // What the overflow of a counter does: with freeze 1 it stops all uncore counting, with a core it interrupts that core.
 #[derive(Clone, Copy)]
 pub struct Overflow {
     pub freeze: u64,
-    pub core: Core,
+    pub core: Option<u64>,
 }
 
 // What open is given: the letter of a device, as a number, the usable counters, the enables of the fixed counters, the number of the
@@ -49,13 +42,6 @@ pub struct Setup {
     pub usable: CounterSet,
     pub fixed: u64,
     pub overflow: Overflow,
-}
-
-// What an opening opens: a session with a setup, or why none.
-#[derive(Clone, Copy)]
-pub enum Opened {
-    With(Setup),
-    Refused(Refusal),
 }
 
 // The four kinds of request.
@@ -125,24 +111,13 @@ pub enum Refusal {
 }
 
 // The answer of a call.
-#[derive(Clone, Copy)]
-pub enum Answer {
-    Accepted,
-    Refused(Refusal),
-}
+pub type Answer = Result<(), Refusal>;
 
 // A refusal, and the field at fault, counted from 0 at the verb of the line that makes the call.
 #[derive(Clone, Copy)]
 pub struct Fault {
     pub refusal: Refusal,
     pub field: usize,
-}
-
-// What the checks of a call say: nothing is at fault, or this.
-#[derive(Clone, Copy)]
-pub enum Checked {
-    Passed,
-    Failed(Fault),
 }
 
 // The fields of a call that are at fault under 3, 10 and 9, which alone depend on what the call was given; 0 for a number that it never gets.

@@ -1,6 +1,5 @@
 -- Lent records, lists of calls and what comes of them, computed on the definitions.
-use Rattle.std.specs.Prelude.{◌≡◌, List, [], ◌∷◌, map, true, ℕ, zero, suc, length, replicate}
-use Rattle.std.proofs.Math.Option.{Option, none, some}
+use Rattle.std.specs.Prelude.{◌≡◌, List, [], ◌∷◌, map, true, ℕ, zero, suc, length, replicate, Option, None, Some}
 use Rattle.requests.specs.Askings.{unasked}
 use Rattle.requests.specs.declared.CounterSet.{CounterSet}
 use Rattle.requests.specs.declared.Device.{Device}
@@ -67,7 +66,7 @@ refused s rows =
     record {
       start = (s, rows);
       calls = Add 0 (Event 0xC0 0x00 (set_of 1)) ∷ Drop 9 ∷ Turn 0 ∷ Turn 64 ∷ opening 71 15 ∷ [];
-      numbers = some 3 ∷ some 3 ∷ some 3 ∷ some 3 ∷ some 2 ∷ [];
+      numbers = Some 3 ∷ Some 3 ∷ Some 3 ∷ Some 3 ∷ Some 2 ∷ [];
       plans = [];
       left = rows;
     }
@@ -85,16 +84,16 @@ ids_from n (suc k) = n ∷ ids_from (suc n) k
 unfoldable pub lent_runs : List LentRun
 lent_runs =
     -- open looks at no contents, and makes all vacant; the second is refused
-    record { start = (new_lent, with 9 (Packet 0xFF 0xFF (set_of 99)) ∷ waiting 0 3 ∷ waiting 9 1 ∷ []); calls = opening 71 15 ∷ opening 71 15 ∷ []; numbers = none ∷ some 2 ∷ []; plans = []; left = replicate 3 Vacant }
+    record { start = (new_lent, with 9 (Packet 0xFF 0xFF (set_of 99)) ∷ waiting 0 3 ∷ waiting 9 1 ∷ []); calls = opening 71 15 ∷ opening 71 15 ∷ []; numbers = None ∷ Some 2 ∷ []; plans = []; left = replicate 3 Vacant }
     -- no record, 256 and 257
-    ∷ record { start = (new_lent, []); calls = opening 71 15 ∷ Turn 64 ∷ []; numbers = some 3 ∷ some 2 ∷ []; plans = []; left = [] }
-    ∷ record { start = (new_lent, replicate 256 (waiting 7 1)); calls = opening 71 15 ∷ []; numbers = none ∷ []; plans = []; left = replicate 256 Vacant }
-    ∷ record { start = (new_lent, replicate 257 Vacant); calls = opening 71 15 ∷ []; numbers = some 3 ∷ []; plans = []; left = replicate 257 Vacant }
-    ∷ record { start = (on G 15, []); calls = Turn 64 ∷ Drop 1 ∷ []; numbers = some 3 ∷ some 3 ∷ []; plans = []; left = [] }
+    ∷ record { start = (new_lent, []); calls = opening 71 15 ∷ Turn 64 ∷ []; numbers = Some 3 ∷ Some 2 ∷ []; plans = []; left = [] }
+    ∷ record { start = (new_lent, replicate 256 (waiting 7 1)); calls = opening 71 15 ∷ []; numbers = None ∷ []; plans = []; left = replicate 256 Vacant }
+    ∷ record { start = (new_lent, replicate 257 Vacant); calls = opening 71 15 ∷ []; numbers = Some 3 ∷ []; plans = []; left = replicate 257 Vacant }
+    ∷ record { start = (on G 15, []); calls = Turn 64 ∷ Drop 1 ∷ []; numbers = Some 3 ∷ Some 3 ∷ []; plans = []; left = [] }
     -- not open: 2, whatever the records
-    ∷ record { start = (new_lent, waiting 0 1 ∷ waiting 65536 1 ∷ []); calls = Turn 64 ∷ Drop 1 ∷ Add 1 (Event 0xC0 0x00 (set_of 1)) ∷ []; numbers = some 2 ∷ some 2 ∷ some 2 ∷ []; plans = []; left = waiting 0 1 ∷ waiting 65536 1 ∷ [] }
+    ∷ record { start = (new_lent, waiting 0 1 ∷ waiting 65536 1 ∷ []); calls = Turn 64 ∷ Drop 1 ∷ Add 1 (Event 0xC0 0x00 (set_of 1)) ∷ []; numbers = Some 2 ∷ Some 2 ∷ Some 2 ∷ []; plans = []; left = waiting 0 1 ∷ waiting 65536 1 ∷ [] }
     -- the number of records is the limit; a freed one is used again
-    ∷ record { start = (on G 15, Vacant ∷ []); calls = Add 1 (Event 0xC0 0x00 (set_of 15)) ∷ Add 2 (Event 0xC0 0x00 (set_of 15)) ∷ Drop 1 ∷ Drop 1 ∷ Add 2 (Event 0xC0 0x00 (set_of 15)) ∷ []; numbers = none ∷ some 13 ∷ none ∷ some 6 ∷ none ∷ []; plans = []; left = waiting 2 15 ∷ [] }
+    ∷ record { start = (on G 15, Vacant ∷ []); calls = Add 1 (Event 0xC0 0x00 (set_of 15)) ∷ Add 2 (Event 0xC0 0x00 (set_of 15)) ∷ Drop 1 ∷ Drop 1 ∷ Add 2 (Event 0xC0 0x00 (set_of 15)) ∷ []; numbers = None ∷ Some 13 ∷ None ∷ Some 6 ∷ None ∷ []; plans = []; left = waiting 2 15 ∷ [] }
     -- a vacant record before a waiting one, equal ids next to each other and apart, an id above 65535, a vacant record not all 0 or of another kind
     ∷ refused (on G 15) (Vacant ∷ waiting 1 1 ∷ [])
     ∷ refused (on G 15) (waiting 1 1 ∷ waiting 1 2 ∷ [])
@@ -110,16 +109,16 @@ lent_runs =
     ∷ refused (on G 15) (with 1 (Latency 1 (set_of 4) (set_of 4)) ∷ [])
     ∷ refused (on G 7) (waiting 1 8 ∷ [])
     -- the last id; the last record is freed
-    ∷ record { start = (on G 15, waiting 65535 1 ∷ waiting 1 1 ∷ []); calls = Drop 1 ∷ []; numbers = none ∷ []; plans = []; left = waiting 65535 1 ∷ Vacant ∷ [] }
+    ∷ record { start = (on G 15, waiting 65535 1 ∷ waiting 1 1 ∷ []); calls = Drop 1 ∷ []; numbers = None ∷ []; plans = []; left = waiting 65535 1 ∷ Vacant ∷ [] }
     -- what is broken on G may be sound on S
-    ∷ record { start = (on S 15, with 1 (Packet 0 0 (set_of 1)) ∷ Vacant ∷ []); calls = Drop 1 ∷ []; numbers = none ∷ []; plans = []; left = Vacant ∷ Vacant ∷ [] }
+    ∷ record { start = (on S 15, with 1 (Packet 0 0 (set_of 1)) ∷ Vacant ∷ []); calls = Drop 1 ∷ []; numbers = None ∷ []; plans = []; left = Vacant ∷ Vacant ∷ [] }
     -- drop closes the gap, and the freed record is all 0
-    ∷ record { start = (on G 15, waiting 1 1 ∷ waiting 2 1 ∷ waiting 3 1 ∷ Vacant ∷ []); calls = Drop 2 ∷ []; numbers = none ∷ []; plans = []; left = waiting 1 1 ∷ waiting 3 1 ∷ Vacant ∷ Vacant ∷ [] }
+    ∷ record { start = (on G 15, waiting 1 1 ∷ waiting 2 1 ∷ waiting 3 1 ∷ Vacant ∷ []); calls = Drop 2 ∷ []; numbers = None ∷ []; plans = []; left = waiting 1 1 ∷ waiting 3 1 ∷ Vacant ∷ Vacant ∷ [] }
     -- a turn: those passed over, then those taken; a slice too short by one number changes nothing
-    ∷ record { start = (on G 15, waiting 1 1 ∷ waiting 2 1 ∷ Vacant ∷ []); calls = Turn 19 ∷ Turn 20 ∷ []; numbers = some 14 ∷ none ∷ []; plans = (gets 1 0 ∷ []) ∷ []; left = waiting 2 1 ∷ waiting 1 1 ∷ Vacant ∷ [] }
-    ∷ record { start = (on G 15, waiting 1 1 ∷ waiting 2 1 ∷ waiting 3 15 ∷ waiting 4 1 ∷ waiting 5 8 ∷ []); calls = Turn 28 ∷ []; numbers = none ∷ []; plans = (gets 1 0 ∷ gets 3 1 ∷ gets 5 3 ∷ []) ∷ []; left = waiting 2 1 ∷ waiting 4 1 ∷ waiting 1 1 ∷ waiting 3 15 ∷ waiting 5 8 ∷ [] }
+    ∷ record { start = (on G 15, waiting 1 1 ∷ waiting 2 1 ∷ Vacant ∷ []); calls = Turn 19 ∷ Turn 20 ∷ []; numbers = Some 14 ∷ None ∷ []; plans = (gets 1 0 ∷ []) ∷ []; left = waiting 2 1 ∷ waiting 1 1 ∷ Vacant ∷ [] }
+    ∷ record { start = (on G 15, waiting 1 1 ∷ waiting 2 1 ∷ waiting 3 15 ∷ waiting 4 1 ∷ waiting 5 8 ∷ []); calls = Turn 28 ∷ []; numbers = None ∷ []; plans = (gets 1 0 ∷ gets 3 1 ∷ gets 5 3 ∷ []) ∷ []; left = waiting 2 1 ∷ waiting 4 1 ∷ waiting 1 1 ∷ waiting 3 15 ∷ waiting 5 8 ∷ [] }
     -- more than 16 wait: the last of 18 on one counter is taken by the 18th turn
-    ∷ record { start = (on G 15, map (λ (id : ℕ). waiting id 1) (ids_from 1 18)); calls = replicate 18 (Turn 20); numbers = replicate 18 none; plans = map (λ (id : ℕ). gets id 0 ∷ []) (ids_from 1 18); left = map (λ (id : ℕ). waiting id 1) (ids_from 1 18) }
+    ∷ record { start = (on G 15, map (λ (id : ℕ). waiting id 1) (ids_from 1 18)); calls = replicate 18 (Turn 20); numbers = replicate 18 None; plans = map (λ (id : ℕ). gets id 0 ∷ []) (ids_from 1 18); left = map (λ (id : ℕ). waiting id 1) (ids_from 1 18) }
     ∷ []
 
 abbrev pub LentRuns : Type 0

@@ -1,6 +1,5 @@
 -- Order 12, computed on the definitions: "Demand 3 must still hold, long waits behind a lone request included". Lists of calls on B, and what comes of them.
-use Rattle.std.specs.Prelude.{◌≡◌, List, [], ◌∷◌, ◌++◌, map, ℕ, ◌+◌, replicate}
-use Rattle.std.proofs.Math.Option.{none, some}
+use Rattle.std.specs.Prelude.{◌≡◌, List, [], ◌∷◌, ◌++◌, map, ℕ, ◌+◌, replicate, None, Some}
 use Rattle.requests.specs.Askings.{unasked}
 use Rattle.requests.specs.declared.CounterSet.{CounterSet}
 use Rattle.requests.specs.declared.Request.{Request}
@@ -53,7 +52,7 @@ waits =
           ∷ [];
       outcome =
           record {
-            numbers = replicate 9 none ++ some 12 ∷ some 12 ∷ some 14 ∷ none ∷ none ∷ some 14 ∷ replicate 3 none;
+            numbers = replicate 9 None ++ Some 12 ∷ Some 12 ∷ Some 14 ∷ None ∷ None ∷ Some 14 ∷ replicate 3 None;
             plans =
                 (at 1 1 ∷ [])
                 ∷ (at 2 1 ∷ [])
@@ -70,7 +69,7 @@ abbrev others : Run
 others =
     record {
       calls = opening 16 ∷ opening 14 ∷ Add 1 (lone 15) ∷ Turn 11 ∷ Turn 12 ∷ Add 1 (stores 15) ∷ Turn 15 ∷ Turn 16 ∷ [];
-      outcome = record { numbers = some 3 ∷ none ∷ some 12 ∷ some 14 ∷ none ∷ none ∷ some 14 ∷ none ∷ []; plans = [] ∷ (at 1 3 ∷ []) ∷ []; ids = 1 ∷ [] };
+      outcome = record { numbers = Some 3 ∷ None ∷ Some 12 ∷ Some 14 ∷ None ∷ None ∷ Some 14 ∷ None ∷ []; plans = [] ∷ (at 1 3 ∷ []) ∷ []; ids = 1 ∷ [] };
     }
 
 unfoldable pub lone_runs : List Run

@@ -1,10 +1,7 @@
 -- Lists of calls and what comes of them, computed on the definitions: document 01's bench tries A, J and K for the queue, and the bounds of
 -- refusals 2, 13 and 14; and order 6's of refusals 2, 10 and 14.
-use Rattle.std.specs.Prelude.{◌≡◌, List, [], ◌∷◌, ◌++◌, map, ℕ, zero, suc, ◌-◌, ◌^◌, replicate}
-use Rattle.std.proofs.Math.Option.{Option, none, some}
+use Rattle.std.specs.Prelude.{◌≡◌, List, [], ◌∷◌, ◌++◌, map, ℕ, zero, suc, ◌-◌, ◌^◌, replicate, Option, None, Some}
 use Rattle.requests.specs.Askings.{unasked}
-use Rattle.requests.specs.declared.Core.{Core}
-use Rattle.requests.specs.declared.Core.TheVariants.{NoCore, At}
 use Rattle.requests.specs.declared.CounterSet.{CounterSet}
 use Rattle.requests.specs.declared.Request.{Request}
 use Rattle.requests.specs.declared.Request.TheVariants.{Event, Latency}
@@ -87,7 +84,7 @@ try_a =
           ∷ [];
       outcome =
           record {
-            numbers = none ∷ none ∷ none ∷ none ∷ some 14 ∷ none ∷ [];
+            numbers = None ∷ None ∷ None ∷ None ∷ Some 14 ∷ None ∷ [];
             plans = (gets 1 (Counter 0) ∷ gets 2 (Pair 1 2) ∷ []) ∷ [];
             ids = 3 ∷ 1 ∷ 2 ∷ [];
           };
@@ -100,7 +97,7 @@ try_j =
       calls = open_all ∷ map (λ (id : ℕ). Add id pinned) (up_to 16) ++ replicate 32 (Turn 36);
       outcome =
           record {
-            numbers = replicate 49 none;
+            numbers = replicate 49 None;
             plans = map (λ (id : ℕ). gets id (Counter 0) ∷ []) (up_to 16 ++ up_to 16);
             ids = up_to 16;
           };
@@ -111,7 +108,7 @@ abbrev try_k : Run
 try_k =
     record {
       calls = open_all ∷ map (λ (id : ℕ). Add id pinned) (up_to 16) ++ Add 17 pinned ∷ Drop 1 ∷ Add 17 pinned ∷ [];
-      outcome = record { numbers = replicate 17 none ++ some 13 ∷ none ∷ none ∷ []; plans = []; ids = map suc (up_to 16) };
+      outcome = record { numbers = replicate 17 None ++ Some 13 ∷ None ∷ None ∷ []; plans = []; ids = map suc (up_to 16) };
     }
 
 -- the empty queue: 8 writes turn the usable counters off
@@ -119,7 +116,7 @@ abbrev empty_queue : Run
 empty_queue =
     record {
       calls = open_all ∷ Turn 15 ∷ Turn 16 ∷ [];
-      outcome = record { numbers = none ∷ some 14 ∷ none ∷ []; plans = [] ∷ []; ids = [] };
+      outcome = record { numbers = None ∷ Some 14 ∷ None ∷ []; plans = [] ∷ []; ids = [] };
     }
 
 -- before open, a refused open, and a second one
@@ -136,7 +133,7 @@ open_once =
           ∷ open_all
           ∷ opening 0 0 0
           ∷ [];
-      outcome = record { numbers = some 2 ∷ some 2 ∷ some 3 ∷ some 3 ∷ some 3 ∷ none ∷ some 2 ∷ some 2 ∷ []; plans = []; ids = [] };
+      outcome = record { numbers = Some 2 ∷ Some 2 ∷ Some 3 ∷ Some 3 ∷ Some 3 ∷ None ∷ Some 2 ∷ Some 2 ∷ []; plans = []; ids = [] };
     }
 
 -- ids: 65535 is one, 65536 and 0 are none; a waiting id is refused, a dropped one may be used again and then stands at the back
@@ -158,7 +155,7 @@ ids =
           ∷ [];
       outcome =
           record {
-            numbers = none ∷ none ∷ some 4 ∷ some 4 ∷ some 5 ∷ none ∷ none ∷ none ∷ some 6 ∷ some 4 ∷ none ∷ [];
+            numbers = None ∷ None ∷ Some 4 ∷ Some 4 ∷ Some 5 ∷ None ∷ None ∷ None ∷ Some 6 ∷ Some 4 ∷ None ∷ [];
             plans = [];
             ids = 7 ∷ 9 ∷ 65535 ∷ [];
           };
@@ -184,14 +181,14 @@ cbox =
           ∷ [];
       outcome =
           record {
-            numbers = replicate 5 (some 3) ++ none ∷ some 10 ∷ some 10 ∷ some 12 ∷ replicate 6 none ++ some 14 ∷ none ∷ [];
+            numbers = replicate 5 (Some 3) ++ None ∷ Some 10 ∷ Some 10 ∷ Some 12 ∷ replicate 6 None ++ Some 14 ∷ None ∷ [];
             plans = map (λ (id : ℕ). gets id (Counter (id - 1))) (up_to 6) ∷ [];
             ids = up_to 6;
           };
     }
 
 -- a device, a usable set, a freeze and a core
-abbrev opening_asked : ℕ → ℕ → ℕ → Core → Call
+abbrev opening_asked : ℕ → ℕ → ℕ → Option ℕ → Call
 opening_asked letter usable freeze core =
     Open (record { device = letter; usable = set_of usable; fixed = 0; cbox = 0; overflow = record { freeze = freeze; core = core } })
 
@@ -200,24 +197,24 @@ abbrev frozen : Run
 frozen =
     record {
       calls =
-          opening_asked 71 15 1 NoCore
-          ∷ opening_asked 71 15 2 NoCore
-          ∷ opening_asked 71 15 0 (At 0)
-          ∷ opening_asked 71 15 0 (At 9)
-          ∷ opening_asked 71 16 1 NoCore
-          ∷ opening_asked 83 15 2 NoCore
-          ∷ opening_asked 83 15 0 (At 8)
-          ∷ opening_asked 67 63 1 (At 8)
-          ∷ opening_asked 83 0 2 (At 8)
-          ∷ opening_asked 83 15 1 (At 2)
-          ∷ opening_asked 83 15 2 (At 8)
+          opening_asked 71 15 1 None
+          ∷ opening_asked 71 15 2 None
+          ∷ opening_asked 71 15 0 (Some 0)
+          ∷ opening_asked 71 15 0 (Some 9)
+          ∷ opening_asked 71 16 1 None
+          ∷ opening_asked 83 15 2 None
+          ∷ opening_asked 83 15 0 (Some 8)
+          ∷ opening_asked 67 63 1 (Some 8)
+          ∷ opening_asked 83 0 2 (Some 8)
+          ∷ opening_asked 83 15 1 (Some 2)
+          ∷ opening_asked 83 15 2 (Some 8)
           ∷ Add 1 (Event 0x52 0x00 (set_of 15))
           ∷ Turn 21
           ∷ Turn 22
           ∷ [];
       outcome =
           record {
-            numbers = replicate 4 (some 7) ++ some 3 ∷ replicate 3 (some 10) ++ some 3 ∷ none ∷ some 2 ∷ none ∷ some 14 ∷ none ∷ [];
+            numbers = replicate 4 (Some 7) ++ Some 3 ∷ replicate 3 (Some 10) ++ Some 3 ∷ None ∷ Some 2 ∷ None ∷ Some 14 ∷ None ∷ [];
             plans = (gets 1 (Counter 0) ∷ []) ∷ [];
             ids = 1 ∷ [];
           };
@@ -248,7 +245,7 @@ at_once =
           ∷ [];
       outcome =
           record {
-            numbers = replicate 3 (some 2) ++ none ∷ some 14 ∷ replicate 3 none ++ some 14 ∷ some 14 ∷ some 10 ∷ replicate 5 none;
+            numbers = replicate 3 (Some 2) ++ None ∷ Some 14 ∷ replicate 3 None ++ Some 14 ∷ Some 14 ∷ Some 10 ∷ replicate 5 None;
             plans = [] ∷ [] ∷ map (λ (id : ℕ). gets id (Counter 0) ∷ []) (1 ∷ 2 ∷ 1 ∷ 2 ∷ 2 ∷ []);
             ids = 2 ∷ [];
           };

@@ -2,11 +2,11 @@
 --     accepted-open    an accepted open has a setup
 --     accepted-add     the rows 4, 5, 7 to 11, 12 and 13 do not apply to an accepted add
 --     accepted-turn    row 14 does not apply to an accepted turn
+use Rattle.std.specs.Prelude.{None, Some}
 use mathlib.Core.Path.{◌≡◌, sym, ◌∙◌}
 use mathlib.Core.List.{List, [], ◌∷◌}
 use mathlib.Core.Bool.{false, false≢true}
 use mathlib.Mathlib.Data.Bool.Basic.{eq-false_of_not-eq-true, eq-true_of_not-eq-false}
-use mathlib.Core.Option.{none, some}
 use Prim.Native.Nat.{ℕ, ◌*◌, ◌≤◌, ◌<◌}
 use native.Mathlib.Nat.{lt_of_not-le}
 use native.Mathlib.Omega.{arith}
@@ -35,7 +35,7 @@ le_of_not_lt h = omega (arith, lt_of_not-le h)
 
 -- ---- open
 
-pub accepted_open : (limit : ℕ) (o : Opening) → refusal limit not_open_lem (Open o) ≡ none → (s : Setup) × (setup_of o ≡ some s)
+pub accepted_open : (limit : ℕ) (o : Opening) → refusal limit not_open_lem (Open o) ≡ None → (s : Setup) × (setup_of o ≡ Some s)
 unfolding refusal table before_open
 accepted_open limit o e = table_taken o e
 
@@ -50,7 +50,7 @@ pub record AcceptedAdd (limit : ℕ) (s : Setup) (q : List Entry) (id : ℕ) (r 
   pub room : length q < limit
 
 module _ (limit : ℕ) (s : Setup) (q : List Entry) where
-  module _ (id : ℕ) (r : Request) (e : refusal limit (opened s q) (Add id r) ≡ none) where
+  module _ (id : ℕ) (r : Request) (e : refusal limit (opened s q) (Add id r) ≡ None) where
     no_row : (n : ℕ) → ¬ Applies limit (opened s q) (Add id r) n
     no_row n a = refusal_table.accepted limit (opened s q) (Add id r) e n a
 
@@ -75,5 +75,5 @@ module _ (limit : ℕ) (s : Setup) (q : List Entry) where
           room = lt_of_not-le (λ l. no_row 13 (full l));
         }
 
-  pub accepted_turn : (room : ℕ) → refusal limit (opened s q) (Turn room) ≡ none → 2 * length (writes s (requests_of (taken s q)) (places_of s (taken s q))) ≤ room
+  pub accepted_turn : (room : ℕ) → refusal limit (opened s q) (Turn room) ≡ None → 2 * length (writes s (requests_of (taken s q)) (places_of s (taken s q))) ≤ room
   accepted_turn room e = le_of_not_lt (λ l. refusal_table.accepted limit (opened s q) (Turn room) e 14 (short (taken_first s q) l))

@@ -1,11 +1,11 @@
 -- The session and the plain queue agree. Assumes nothing.
 --     answer-is     the session answers a call as the table says of the state that it stands for
 --     next-is       one call keeps the session standing for the plain queue
+use Rattle.std.specs.Prelude.{Option, None, Some}
 use mathlib.Core.Path.{◌≡◌, refl, ap, sym, ◌∙◌}
 use mathlib.Core.List.{List, [], ◌∷◌, ◌++◌}
 use mathlib.Core.Bool.{Bool, true, false}
 use mathlib.Mathlib.Data.Bool.Basic.{eq-true_of_not-eq-false}
-use mathlib.Core.Option.{Option, none, some}
 use Prim.Native.Nat.{ℕ, zero, suc, ◌-◌}
 use native.Mathlib.Omega.{arith}
 use lib.ListN.{length, take, replicate}
@@ -46,8 +46,8 @@ stands_for session s q e = go session.opened refl
 pub turn_by : (s : Session) (room : ℕ) (x : Option Refusal) → refused_by s (Turn room) ≡ x
     → ((turn_of s room).answer ≡ answer_for x) × ((turn_of s room).session ≡ unless_refused x s (session_of s.setup (turned s.setup (queued s))))
 unfolding turn_of turn_answer
-turn_by s room none e = (rw (e, turn_of), rw (e, turn_of))
-turn_by s room (some x) e = (rw (e, turn_of), rw (e, turn_of))
+turn_by s room None e = (rw (e, turn_of), rw (e, turn_of))
+turn_by s room (Some x) e = (rw (e, turn_of), rw (e, turn_of))
 
 pub answer_is : (s : Session) (c : Call) → answer_to s c ≡ answer_for (refused_by s c)
 unfolding answer_to open_of add_of drop_of turns_answer answered
@@ -61,7 +61,7 @@ answer_is s (Turns n room places) = refl
 
 -- the session that an accepted call leaves; no other call of a session is accepted
 abbrev changed : Session → Call → Session
-changed s (Open o) = elim (setup_of o) [ none ↦ s | some t ↦ session_of t [] ]
+changed s (Open o) = elim (setup_of o) [ None ↦ s | Some t ↦ session_of t [] ]
 changed s (Add id r) = session_of s.setup (queued s ++ record { id = id; request = r } ∷ [])
 changed s (Drop id) = session_of s.setup (removed id (queued s))
 changed s (Turn room) = session_of s.setup (turned s.setup (queued s))
@@ -78,7 +78,7 @@ next_by s (Turns n room places) = refl
 -- ---- the plain queue afterwards
 
 -- a session that accepts a call which is refused before open is open
-is_open : (s : Session) (c : Call) → Applies queue_limit not_open_lem c 2 → refused_by s c ≡ none → s.opened ≡ true
+is_open : (s : Session) (c : Call) → Applies queue_limit not_open_lem c 2 → refused_by s c ≡ None → s.opened ≡ true
 unfolding refused_by
 is_open s c before h = eq-true_of_not-eq-false (λ closed. refusal_table.accepted queue_limit not_open_lem c (rw (plain_closed s closed) at h) 2 before)
 
@@ -87,9 +87,9 @@ queue_is : (s : Session) (f : Setup → List Entry → List Entry) → s.opened 
 unfolding on_queue
 queue_is s f h = stands s.setup (f s.setup (queued s)) ∙ sym (ap (λ (p : Plain). on_queue p f) (plain_opened s h))
 
-opens : (s : Session) (x : Option Setup) → plain_of (elim x [ none ↦ s | some t ↦ session_of t [] ]) ≡ elim x [ none ↦ plain_of s | some t ↦ opened t [] ]
-opens s none = refl
-opens s (some t) = stands t []
+opens : (s : Session) (x : Option Setup) → plain_of (elim x [ None ↦ s | Some t ↦ session_of t [] ]) ≡ elim x [ None ↦ plain_of s | Some t ↦ opened t [] ]
+opens s None = refl
+opens s (Some t) = stands t []
 
 -- n turns of a session that stands for a queue
 times_stand : (n : ℕ) (s : Session) (t : Setup) (q : List Entry) → plain_of s ≡ opened t q → plain_of (turned_session n s) ≡ opened t (turned_times t n q)
@@ -107,7 +107,7 @@ times_are : (n : ℕ) (s : Session) → s.opened ≡ true → plain_of (turned_s
 unfolding on_queue
 times_are n s h = times_stand n s s.setup (queued s) (plain_opened s h) ∙ sym (ap (λ (p : Plain). on_queue p (λ t q. turned_times t n q)) (plain_opened s h))
 
-changed_is : (s : Session) (c : Call) → refused_by s c ≡ none → plain_of (changed s c) ≡ change (plain_of s) c
+changed_is : (s : Session) (c : Call) → refused_by s c ≡ None → plain_of (changed s c) ≡ change (plain_of s) c
 unfolding change
 changed_is s (Open o) h = opens s (setup_of o)
 changed_is s (Add id r) h = queue_is s (λ t q. q ++ record { id = id; request = r } ∷ []) (is_open s (Add id r) add_before h)
@@ -120,5 +120,5 @@ unfolding step refused_by
 next_is s c = ap plain_of (next_by s c) ∙ go (refused_by s c) refl
   where
     go : (x : Option Refusal) → refused_by s c ≡ x → plain_of (unless_refused x s (changed s c)) ≡ unless_refused x (plain_of s) (change (plain_of s) c)
-    go none h = changed_is s c h
-    go (some x) h = refl
+    go None h = changed_is s c h
+    go (Some x) h = refl

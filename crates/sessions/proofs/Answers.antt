@@ -1,9 +1,9 @@
 -- What an accepted turn of a session answers. Assumes nothing.
 --     not-refused    it is refused by no row of the table
 --     turn-plan-is, turn-count-is, turn-slice-is, turn-next-is    the plan, the number of writes, the slice and the session afterwards
+use Rattle.std.specs.Prelude.{Option, None, Some, Ok}
 use mathlib.Core.Path.{◌≡◌, refl, ap, ◌∙◌}
 use mathlib.Core.List.{List}
-use mathlib.Core.Option.{Option, none, some}
 use Prim.Native.Nat.{ℕ, ◌-◌}
 use native.Mathlib.Omega.{arith}
 use lib.ListN.{length, replicate}
@@ -11,7 +11,6 @@ use lib.Seq.{take_at}
 use Rattle.requests.specs.declared.Setup.{Setup}
 use Rattle.requests.specs.declared.Entry.{Entry}
 use Rattle.requests.specs.declared.Refusal.{Refusal}
-use Rattle.requests.specs.declared.Answer.TheVariants.{Accepted}
 use Rattle.requests.specs.Refusals.{answer_for}
 use Rattle.requests.specs.Devices.{capacity}
 use Rattle.layouts.specs.Writes.{filled}
@@ -27,27 +26,27 @@ use Rattle.sessions.proofs.Agreed.{stands_for, answer_is, next_is}
 use Rattle.sessions.proofs.Steps.{step_accepted}
 
 -- an accepted answer comes from no row
-pub not_refused : (session : Session) (room : ℕ) → (turn_of session room).answer ≡ Accepted → refused_by session (Turn room) ≡ none
+pub not_refused : (session : Session) (room : ℕ) → (turn_of session room).answer ≡ (Ok tt) → refused_by session (Turn room) ≡ None
 unfolding answer_to answer_for
 not_refused session room e = go (refused_by session (Turn room)) refl
   where
-    go : (x : Option Refusal) → refused_by session (Turn room) ≡ x → refused_by session (Turn room) ≡ none
-    go none h = h
-    go (some x) h = let k : answer_for (some x) ≡ Accepted = cc (answer_is session (Turn room)) in let z : ◌≡◌ {A = ℕ} 0 1 = cc in absurd (omega arith)
+    go : (x : Option Refusal) → refused_by session (Turn room) ≡ x → refused_by session (Turn room) ≡ None
+    go None h = h
+    go (Some x) h = let k : answer_for (Some x) ≡ (Ok tt) = cc (answer_is session (Turn room)) in let z : ◌≡◌ {A = ℕ} 0 1 = cc in absurd (omega arith)
 
 module _ (session : Session) (s : Setup) (q : List Entry) (same : plain_of session ≡ opened s q) where
   -- the same said of the session's setup and queue, and of those of the plain queue
   in_plain : {A : Type 0} (f : Setup → List Entry → A) → f session.setup (queued session) ≡ f s q
   in_plain f = let t = stands_for session s q same in ap (λ (x : Setup). f x (queued session)) t.0 ∙ ap (f s) t.1
 
-  module _ (room : ℕ) (accepted : refusal queue_limit (opened s q) (Turn room) ≡ none) where
-    no_row : refused_by session (Turn room) ≡ none
+  module _ (room : ℕ) (accepted : refusal queue_limit (opened s q) (Turn room) ≡ None) where
+    no_row : refused_by session (Turn room) ≡ None
     unfolding refused_by
     no_row = rw same accepted
 
     -- the plan of the entries taken, and the number of its writes
     turn_is : turn_of session room
-        ≡ turn_answer (answer_for none) (session_of session.setup (turned session.setup (queued session)))
+        ≡ turn_answer (answer_for None) (session_of session.setup (turned session.setup (queued session)))
         (assign (taken session.setup (queued session)) (places_of session.setup (taken session.setup (queued session))))
         (length (writes_of session.setup (taken session.setup (queued session))))
     unfolding turn_of
@@ -70,7 +69,7 @@ module _ (session : Session) (s : Setup) (q : List Entry) (same : plain_of sessi
     unfolding next_session change on_queue
     turn_next_is = next_is session (Turn room) ∙ ap (λ (p : Plain). step queue_limit p (Turn room)) same ∙ step_accepted queue_limit (opened s q) (Turn room) accepted
 
-  pub turn_slice_is : (slice : List ℕ) → refusal queue_limit (opened s q) (Turn (length slice)) ≡ none → turn_slice session slice ≡ filled (writes_of s (taken s q)) slice
+  pub turn_slice_is : (slice : List ℕ) → refusal queue_limit (opened s q) (Turn (length slice)) ≡ None → turn_slice session slice ≡ filled (writes_of s (taken s q)) slice
   unfolding turn_slice
   turn_slice_is slice accepted =
       let stored : turn_slice session slice ≡ filled (writes_of session.setup (taken session.setup (queued session))) slice = rw (no_row (length slice) accepted) in

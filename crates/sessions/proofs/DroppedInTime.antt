@@ -1,7 +1,7 @@
 -- The first accepted drop of an id is one call of a list, so that the turns before it are one number. Assumes nothing.
+use Rattle.std.specs.Prelude.{None}
 use mathlib.Core.Path.{◌≡◌, refl, sym, ap, subst}
 use mathlib.Core.List.{List, [], ◌∷◌, ◌++◌}
-use mathlib.Core.Option.{none}
 use Prim.Native.Nat.{ℕ, ◌+◌}
 use native.Mathlib.Omega.{arith}
 use lib.ListN.{get_or, drop}
@@ -13,7 +13,7 @@ use Rattle.sessions.proofs.DropsCounted.{counted}
 
 module _ (limit id : ℕ) where
   -- an accepted drop of the id in front is counted
-  not_first : (p : Plain) (c : Call) (cs : List Call) → Drop id ≡ c → refusal limit p (Drop id) ≡ none → drops limit id p (c ∷ cs) ≡ 0 → ⊥
+  not_first : (p : Plain) (c : Call) (cs : List Call) → Drop id ≡ c → refusal limit p (Drop id) ≡ None → drops limit id p (c ∷ cs) ≡ 0 → ⊥
   unfolding drops
   not_first p c cs e h z =
       let one : drops_of limit id p c ≡ 1 = subst (λ (x : Call). drops_of limit id p x ≡ 1) e (counted limit id p h) in
@@ -25,7 +25,7 @@ module _ (limit id : ℕ) where
 
   one_number : (p : Plain) (xs ys more rest : List Call) → xs ++ Drop id ∷ more ≡ ys ++ Drop id ∷ rest
       → drops limit id p xs ≡ 0 → drops limit id p ys ≡ 0
-      → refusal limit (run limit p xs) (Drop id) ≡ none → refusal limit (run limit p ys) (Drop id) ≡ none
+      → refusal limit (run limit p xs) (Drop id) ≡ None → refusal limit (run limit p ys) (Drop id) ≡ None
       → completed limit p xs ≡ completed limit p ys
   unfolding run completed
   one_number p [] [] more rest e x y h k = refl
@@ -34,7 +34,7 @@ module _ (limit id : ℕ) where
   one_number p (c ∷ xs) (b ∷ ys) more rest e x y h k =
       let same : c ≡ b = ap (λ (l : List Call). get_or l 0 c) e in
       let none-y : drops limit id p (c ∷ ys) ≡ 0 = subst (λ (z : Call). drops limit id p (z ∷ ys) ≡ 0) (sym same) y in
-      let takes-y : refusal limit (run limit p (c ∷ ys)) (Drop id) ≡ none = subst (λ (z : Call). refusal limit (run limit p (z ∷ ys)) (Drop id) ≡ none) (sym same) k in
+      let takes-y : refusal limit (run limit p (c ∷ ys)) (Drop id) ≡ None = subst (λ (z : Call). refusal limit (run limit p (z ∷ ys)) (Drop id) ≡ None) (sym same) k in
       let later = one_number (step limit p c) xs ys more rest (ap (λ (l : List Call). drop 1 l) e) (none_later p c xs x) (none_later p c ys none-y) h takes-y in
       subst (λ (z : Call). completed limit p (c ∷ xs) ≡ completed limit p (z ∷ ys)) same (ap (λ (n : ℕ). completes limit p c + n) later)
 

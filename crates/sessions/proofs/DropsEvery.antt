@@ -1,8 +1,8 @@
 -- An accepted drop leaves the entries of other ids: `DropsEvery`. Assumes nothing.
+use Rattle.std.specs.Prelude.{None}
 use mathlib.Core.Path.{◌≡◌, refl, sym, ap, subst, ◌∙◌}
 use mathlib.Core.List.{List, [], ◌∷◌}
 use mathlib.Core.Bool.{Bool, true, false, true≢false}
-use mathlib.Core.Option.{none as nothing}
 use Prim.Native.Nat.{ℕ}
 use borrow.Author.Tests.{eqb-true, eq-eqb}
 use lib.Dec.{eqb}
@@ -27,7 +27,7 @@ others id (e ∷ q) = go (eqb id e.id) refl (others id q)
 pub drops_every : DropsEvery
 unfolding session_of queued
 drops_every s id accepted =
-    let h : refused_by s (Drop id) ≡ nothing = answer_none (refused_by s (Drop id)) (sym (answer_is s (Drop id)) ∙ accepted) in
+    let h : refused_by s (Drop id) ≡ None = answer_none (refused_by s (Drop id)) (sym (answer_is s (Drop id)) ∙ accepted) in
     let next : next_session s (Drop id) ≡ session_of s.setup (removed id (queued s)) = next_by s (Drop id) ∙ rw h in
     let kept : entries_of (next_session s (Drop id)) ≡ removed id (queued s) = ap entries_of next ∙ stored (removed id (queued s)) in
     subst (Others id (entries_of s)) (sym kept) (others id (entries_of s))

@@ -1,11 +1,12 @@
 -- The first row whose condition holds is the first that applies, where each row's condition is exact. Assumes nothing.
 --     Fair                  each condition is exact, no other number applies, and the rows stand in the order in which they are checked
 --     fair-some, fair-none  what the first row that holds then says, and what it says that none does
+use Rattle.std.proofs.lemmas.Option.{none-some, same_Some}
+use Rattle.std.specs.Prelude.{None, Some}
 use mathlib.Core.Path.{◌≡◌, refl, ap, sym, subst, ◌∙◌}
 use mathlib.Core.Logic.{◌⊎◌, inl, inr, ◌↔◌}
 use mathlib.Core.List.{List, [], ◌∷◌, map}
 use mathlib.Core.Bool.{Bool, true, false, not, false≢true}
-use mathlib.Core.Option.{none, some, none-ne-some, some-injective}
 use Prim.Native.Nat.{ℕ}
 use lib.Dec.{eqb}
 use borrow.Author.Tests.{eqb-true, eq-eqb, not-true}
@@ -57,24 +58,24 @@ module _ (A : ℕ → Type 0) where
   Refuses x ns = A (number_of x) × All (λ (k : ℕ). A k → ⊥) (in_front (number_of x) ns)
 
   first_applies : (all : List ℕ) → ((n : ℕ) → A n → in_list all n ≡ true) → (x : Refusal) (rows : List (Row Refusal)) (ns : List ℕ)
-      → Exact A rows → in_order_lem all (numbers rows) ns ≡ true → first_holding rows ≡ some x → Refuses x ns
+      → Exact A rows → in_order_lem all (numbers rows) ns ≡ true → first_holding rows ≡ Some x → Refuses x ns
   unfolding first_holding in_order_lem
-  first_applies all only x [] ns exact ordered e = absurd (none-ne-some x e)
+  first_applies all only x [] ns exact ordered e = absurd (none-some x e)
   first_applies all only x (r ∷ rows) [] exact ordered e = absurd (false≢true ordered)
   first_applies all only x (r ∷ rows) (n ∷ ns) (cons h exact) ordered e =
       by_number (eqb (number_of r.1) n) refl (first_applies all only x rows ns exact) (λ o. first_applies all only x (r ∷ rows) ns (cons h exact) o e)
     where
       -- the number is the row's, whose condition holds or not
-      by_condition : (b : Bool) → r.0 ≡ b → number_of r.1 ≡ n → (first_holding rows ≡ some x → Refuses x ns) → Refuses x (n ∷ ns)
+      by_condition : (b : Bool) → r.0 ≡ b → number_of r.1 ≡ n → (first_holding rows ≡ Some x → Refuses x ns) → Refuses x (n ∷ ns)
       by_condition true k same below =
-          let e2 : some r.1 ≡ some x = rw (k, first_holding) at e in
-          let m : number_of r.1 ≡ number_of x = ap number_of (some-injective r.1 x e2) in
+          let e2 : Some r.1 ≡ Some x = rw (k, first_holding) at e in
+          let m : number_of r.1 ≡ number_of x = ap number_of (same_Some r.1 x e2) in
           (subst A m (h.0 k), subst (λ (i : ℕ). All (λ (j : ℕ). A j → ⊥) (in_front (number_of x) (i ∷ ns))) (sym m ∙ same) (at_front (number_of x) ns))
       by_condition false k same below =
           let t = below (rw (k, first_holding) at e) in
           (t.0, in_front_lem (number_of x) n ns (λ a. fails r h k (subst A (sym same) a)) t.1)
 
-      by_number : (b : Bool) → eqb (number_of r.1) n ≡ b → (in_order_lem all (numbers rows) ns ≡ true → first_holding rows ≡ some x → Refuses x ns)
+      by_number : (b : Bool) → eqb (number_of r.1) n ≡ b → (in_order_lem all (numbers rows) ns ≡ true → first_holding rows ≡ Some x → Refuses x ns)
           → (in_order_lem all (number_of r.1 ∷ numbers rows) ns ≡ true → Refuses x ns) → Refuses x (n ∷ ns)
       by_number true k found later = by_condition r.0 refl (eqb-true (number_of r.1) n k) (found (rw (k, in_order_lem) at ordered))
       by_number false k found later =
@@ -82,23 +83,23 @@ module _ (A : ℕ → Type 0) where
           let below = later t.1 in
           (below.0, in_front_lem (number_of x) n ns (λ a. false≢true (sym (not-true (in_list all n) t.0) ∙ only n a)) below.1)
 
-  pub fair_some : {rows : List (Row Refusal)} → Fair A rows → (x : Refusal) → first_holding rows ≡ some x
+  pub fair_some : {rows : List (Row Refusal)} → Fair A rows → (x : Refusal) → first_holding rows ≡ Some x
       → A (number_of x) × All (λ (k : ℕ). A k → ⊥) (checked_before (number_of x))
   unfolding checked_before
   fair_some {rows} fair x e = first_applies (numbers rows) fair.only x rows check_order fair.exact fair.ordered e
 
-  none_applies : (rows : List (Row Refusal)) → Exact A rows → first_holding rows ≡ none → (n : ℕ) → in_list (numbers rows) n ≡ true → A n → ⊥
+  none_applies : (rows : List (Row Refusal)) → Exact A rows → first_holding rows ≡ None → (n : ℕ) → in_list (numbers rows) n ≡ true → A n → ⊥
   unfolding first_holding in_list
   none_applies [] exact e n m a = false≢true m
   none_applies (r ∷ rows) (cons h exact) e n m a = go r.0 refl (none_applies rows exact)
     where
-      go : (b : Bool) → r.0 ≡ b → (first_holding rows ≡ none → (n : ℕ) → in_list (numbers rows) n ≡ true → A n → ⊥) → ⊥
-      go true k below = let e2 : some r.1 ≡ none = rw (k, first_holding) at e in none-ne-some r.1 (sym e2)
+      go : (b : Bool) → r.0 ≡ b → (first_holding rows ≡ None → (n : ℕ) → in_list (numbers rows) n ≡ true → A n → ⊥) → ⊥
+      go true k below = let e2 : Some r.1 ≡ None = rw (k, first_holding) at e in none-some r.1 (sym e2)
       go false k below = by_number (either_cases (eqb (number_of r.1) n) (in_list (numbers rows) n) m)
         where
           by_number : (eqb (number_of r.1) n ≡ true) ⊎ (in_list (numbers rows) n ≡ true) → ⊥
           by_number (inl same) = fails r h k (subst A (sym (eqb-true (number_of r.1) n same)) a)
           by_number (inr later) = below (rw (k, first_holding) at e) n later a
 
-  pub fair_none : {rows : List (Row Refusal)} → Fair A rows → first_holding rows ≡ none → (n : ℕ) → A n → ⊥
+  pub fair_none : {rows : List (Row Refusal)} → Fair A rows → first_holding rows ≡ None → (n : ℕ) → A n → ⊥
   fair_none {rows} fair e n a = none_applies rows fair.exact e n (fair.only n a) a

@@ -3,9 +3,9 @@
 --     stands-after, agrees      the machine then stands for the plain queue after every list of calls, and answers as the table says there
 --     turns-are, plans-are      a list of calls completes the same turns, and the machine answers at each the plan of the entries taken there
 --     one-plan-each             so it answers one plan for each turn that the plain queue counts as completed
+use Rattle.std.specs.Prelude.{Option, None, Some}
 use mathlib.Core.Path.{◌≡◌, refl, ap, sym, subst, ◌∙◌}
 use mathlib.Core.List.{List, [], ◌∷◌, map, map-append}
-use mathlib.Core.Option.{Option, none, some}
 use Prim.Native.Nat.{ℕ, zero, suc, ◌*◌}
 use native.Mathlib.Omega.{arith}
 use lib.ListN.{length, length-map}
@@ -13,7 +13,7 @@ use borrow.Author.Tests.{le-ltb}
 use Rattle.requests.specs.declared.Setup.{Setup}
 use Rattle.requests.specs.declared.Entry.{Entry}
 use Rattle.requests.specs.declared.Refusal.{Refusal}
-use Rattle.requests.specs.declared.Answer.{Answer}
+use Rattle.requests.specs.Answers.{Answer}
 use Rattle.requests.specs.Refusals.{answer_for}
 use Rattle.plans.specs.Lists.{All, nil, cons}
 use Rattle.plans.proofs.Sets.{all_append}
@@ -45,7 +45,7 @@ Planned t = t.plan ≡ plan_for t.setup t.queue
 pub record Faithful {State : Type 0} (m : Machine State) (limit : ℕ) (Stands : State → Plain → Type 0) : Type 0 where
   pub answers : (s : State) (p : Plain) → Stands s p → (c : Call) → m.answer s c ≡ answer_for (refusal limit p c)
   pub next : (s : State) (p : Plain) → Stands s p → (c : Call) → Stands (m.next s c) (step limit p c)
-  pub plans : (s : State) (t : Setup) (q : List Entry) → Stands s (opened t q) → (room : ℕ) → refusal limit (opened t q) (Turn room) ≡ none → m.plan s room ≡ plan_for t q
+  pub plans : (s : State) (t : Setup) (q : List Entry) → Stands s (opened t q) → (room : ℕ) → refusal limit (opened t q) (Turn room) ≡ None → m.plan s room ≡ plan_for t q
 
 module _ {State : Type 0} (m : Machine State) (limit : ℕ) (Stands : State → Plain → Type 0) (faithful : Faithful m limit Stands) where
   pub stands_after : (s : State) (p : Plain) → Stands s p → (cs : List Call) → Stands (state_after m s cs) (run limit p cs)
@@ -68,16 +68,16 @@ module _ {State : Type 0} (m : Machine State) (limit : ℕ) (Stands : State → 
     turns_if_lem = ap (λ (a : Answer). map state_of (turns_if a ts)) (faithful.answers s p w c) ∙ go (refusal limit p c)
       where
         go : (x : Option Refusal) → map state_of (turns_if (answer_for x) ts) ≡ unless_refused x [] (map state_of ts)
-        go none = refl
-        go (some x) = refl
+        go None = refl
+        go (Some x) = refl
 
-    planned_if : (refusal limit p c ≡ none → All Planned ts) → All Planned (turns_if (m.answer s c) ts)
+    planned_if : (refusal limit p c ≡ None → All Planned ts) → All Planned (turns_if (m.answer s c) ts)
     unfolding answer_for turns_if
     planned_if planned = subst (λ (a : Answer). All Planned (turns_if a ts)) (sym (faithful.answers s p w c)) (go (refusal limit p c) refl)
       where
         go : (x : Option Refusal) → refusal limit p c ≡ x → All Planned (turns_if (answer_for x) ts)
-        go none h = planned h
-        go (some x) h = nil
+        go None h = planned h
+        go (Some x) h = nil
 
   -- ---- n single turns
 
@@ -85,7 +85,7 @@ module _ {State : Type 0} (m : Machine State) (limit : ℕ) (Stands : State → 
   abbrev enough : Setup → List Entry → ℕ
   enough t q = 2 * length (writes_of t (taken t q))
 
-  goes : (t : Setup) (q : List Entry) → refusal limit (opened t q) (Turn (enough t q)) ≡ none
+  goes : (t : Setup) (q : List Entry) → refusal limit (opened t q) (Turn (enough t q)) ≡ None
   goes t q = turn_accepted_lem limit t q (enough t q) (le-ltb (enough t q) (enough t q) (omega arith))
 
   -- a slice that is just long enough is taken

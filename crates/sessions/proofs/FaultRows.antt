@@ -1,10 +1,11 @@
 -- The row by which a call is refused applies in the field that is given, and in no field left of it: by the refusal table for the rows of field 0 and
 -- of the id, and by the laws of the checks for the others. Assumes nothing.
+use Rattle.std.proofs.lemmas.Option.{none-some, same_Some}
+use Rattle.std.specs.Prelude.{Some}
 use mathlib.Core.Path.{◌≡◌, refl, sym}
 use mathlib.Core.List.{List, [], ◌∷◌, ◌++◌}
 use mathlib.Core.Logic.{◌⊎◌, inl, inr, ⊎_elim}
 use mathlib.Core.Bool.{Bool, true, false, not}
-use mathlib.Core.Option.{some, none-ne-some, some-injective}
 use Prim.Native.Nat.{ℕ, ◌*◌, ◌<◌}
 use native.Mathlib.Omega.{arith}
 use lib.Dec.{ltb, leb}
@@ -42,26 +43,26 @@ record Leftmost (limit : ℕ) (p : Plain) (c : Call) (f : Fault) : Type 0 where
 -- ---- the first row that holds
 
 -- it is the first row, or one of the rest
-split : {A : Type 0} (row : Row A) (rows : List (Row A)) (a : A) → first_holding (row ∷ rows) ≡ some a → ((row.0 ≡ true) × (row.1 ≡ a)) ⊎ (first_holding rows ≡ some a)
+split : {A : Type 0} (row : Row A) (rows : List (Row A)) (a : A) → first_holding (row ∷ rows) ≡ Some a → ((row.0 ≡ true) × (row.1 ≡ a)) ⊎ (first_holding rows ≡ Some a)
 unfolding first_holding
-split (true, x) rows a e = inl (refl, some-injective x a e)
+split (true, x) rows a e = inl (refl, same_Some x a e)
 split (false, x) rows a e = inr e
 
 -- it is of the first table, or of the second
-split_tables : {A : Type 0} (xs ys : List (Row A)) (a : A) → first_holding (xs ++ ys) ≡ some a → (first_holding xs ≡ some a) ⊎ (first_holding ys ≡ some a)
+split_tables : {A : Type 0} (xs ys : List (Row A)) (a : A) → first_holding (xs ++ ys) ≡ Some a → (first_holding xs ≡ Some a) ⊎ (first_holding ys ≡ Some a)
 unfolding first_holding
 split_tables [] ys a e = inr e
 split_tables ((true, x) ∷ xs) ys a e = inl e
 split_tables ((false, x) ∷ xs) ys a e = split_tables xs ys a e
 
 -- a fault of the first row, where that is leftmost, or of the rest
-row : {limit : ℕ} {p : Plain} {c : Call} (b : Bool) (g : Fault) (rows : List (Row Fault)) (f : Fault) → first_holding ((b, g) ∷ rows) ≡ some f
-    → (b ≡ true → Leftmost limit p c g) → (first_holding rows ≡ some f → Leftmost limit p c f) → Leftmost limit p c f
+row : {limit : ℕ} {p : Plain} {c : Call} (b : Bool) (g : Fault) (rows : List (Row Fault)) (f : Fault) → first_holding ((b, g) ∷ rows) ≡ Some f
+    → (b ≡ true → Leftmost limit p c g) → (first_holding rows ≡ Some f → Leftmost limit p c f) → Leftmost limit p c f
 row b g rows f e here rest = ⊎_elim (λ t. rw (sym t.1) (here t.0)) rest (split (b, g) rows f e)
 
-no_row : {limit : ℕ} {p : Plain} {c : Call} (f : Fault) → first_holding [] ≡ some f → Leftmost limit p c f
+no_row : {limit : ℕ} {p : Plain} {c : Call} (f : Fault) → first_holding [] ≡ Some f → Leftmost limit p c f
 unfolding first_holding
-no_row f e = absurd (none-ne-some f e)
+no_row f e = absurd (none-some f e)
 
 -- ---- no field left of it
 
@@ -117,34 +118,34 @@ request_left s q id r x j fails left k l (of_request h) = left k l h
 -- ---- the calls
 
 module _ (limit : ℕ) where
-  open_fault : (o : Opening) (f : Fault) → opening_fault o ≡ some f → Leftmost limit not_open_lem (Open o) f
+  open_fault : (o : Opening) (f : Fault) → opening_fault o ≡ Some f → Leftmost limit not_open_lem (Open o) f
   open_fault o f e =
       let l = opening_leftmost o f e in
       record { applies = of_opening l.fails; first = opening_left o f.refusal f.field l.fails l.first }
 
   -- 2
-  out_of_order : (p : Plain) (c : Call) (f : Fault) → Applies limit p c 2 → first_holding ((true, at CallOrder 0) ∷ []) ≡ some f → Leftmost limit p c f
+  out_of_order : (p : Plain) (c : Call) (f : Fault) → Applies limit p c 2 → first_holding ((true, at CallOrder 0) ∷ []) ≡ Some f → Leftmost limit p c f
   out_of_order p c f h e = row true (at CallOrder 0) [] f e (λ t. at_verb CallOrder (two h)) (no_row f)
 
   module _ (s : Setup) (q : List Entry) where
-    request_fault_lem : (id : ℕ) (r : Request) (f : Fault) → request_fault s r ≡ some f → Leftmost limit (opened s q) (Add id r) f
+    request_fault_lem : (id : ℕ) (r : Request) (f : Fault) → request_fault s r ≡ Some f → Leftmost limit (opened s q) (Add id r) f
     request_fault_lem id r f e =
         let l = request_leftmost s r f e in
         record { applies = of_request l.fails; first = request_left s q id r f.refusal f.field l.fails l.first }
 
-    add_fault : (id : ℕ) (r : Request) (f : Fault) → first_holding (add_faults limit s q id r) ≡ some f → Leftmost limit (opened s q) (Add id r) f
+    add_fault : (id : ℕ) (r : Request) (f : Fault) → first_holding (add_faults limit s q id r) ≡ Some f → Leftmost limit (opened s q) (Add id r) f
     unfolding add_faults request_fault
     add_fault id r f e =
         row (outside_ids id) (at BadId 1) _ f e (λ h. record { applies = four (add_id ((id_test id).0 h)); first = id_left (opened s q) (Add id r) })
         (λ e1. row (waits id q) (at IdWaiting 1) _ f e1 (λ h. record { applies = five (id_waits ((waits_test id q).0 h)); first = waits_left (opened s q) (Add id r) })
         (λ e2. ⊎_elim (request_fault_lem id r f) last (split_tables (request_faults s.device r) _ f e2)))
       where
-        last : first_holding ((not (has_plan_lem s (r ∷ [])), at NoPlanAlone 0) ∷ (leb limit (length q), at QueueFull 0) ∷ []) ≡ some f → Leftmost limit (opened s q) (Add id r) f
+        last : first_holding ((not (has_plan_lem s (r ∷ [])), at NoPlanAlone 0) ∷ (leb limit (length q), at QueueFull 0) ∷ []) ≡ Some f → Leftmost limit (opened s q) (Add id r) f
         last e3 =
             row (not (has_plan_lem s (r ∷ []))) (at NoPlanAlone 0) _ f e3 (λ h. at_verb NoPlanAlone (twelve (alone ((alone_test s r).0 h))))
             (λ e4. row (leb limit (length q)) (at QueueFull 0) [] f e4 (λ h. at_verb QueueFull (thirteen (full ((full_test limit (length q)).0 h)))) (no_row f))
 
-    drop_fault : (id : ℕ) (f : Fault) → first_holding (drop_faults q id) ≡ some f → Leftmost limit (opened s q) (Drop id) f
+    drop_fault : (id : ℕ) (f : Fault) → first_holding (drop_faults q id) ≡ Some f → Leftmost limit (opened s q) (Drop id) f
     unfolding drop_faults
     drop_fault id f e =
         row (outside_ids id) (at BadId 1) _ f e (λ h. record { applies = four (drop_id ((id_test id).0 h)); first = id_left (opened s q) (Drop id) })
@@ -152,14 +153,14 @@ module _ (limit : ℕ) where
         (λ h. record { applies = six (id_not_waits ((not_test (waits_test id q)).0 h)); first = not_waits_left (opened s q) (Drop id) })
         (no_row f))
 
-    turn_fault : (room : ℕ) (f : Fault) → first_holding (turn_faults s q room) ≡ some f → Leftmost limit (opened s q) (Turn room) f
+    turn_fault : (room : ℕ) (f : Fault) → first_holding (turn_faults s q room) ≡ Some f → Leftmost limit (opened s q) (Turn room) f
     unfolding turn_faults
     turn_fault room f e =
         row (ltb room (2 * length (writes_of s (taken s q)))) (at SliceTooShort 0) [] f e
         (λ h. let t = (short_test s q room).0 h in at_verb SliceTooShort (fourteen (short t.1 t.2)))
         (no_row f)
 
-    turns_fault : (n room places : ℕ) (f : Fault) → first_holding (turns_faults s q n room places) ≡ some f → Leftmost limit (opened s q) (Turns n room places) f
+    turns_fault : (n room places : ℕ) (f : Fault) → first_holding (turns_faults s q n room places) ≡ Some f → Leftmost limit (opened s q) (Turns n room places) f
     unfolding turns_faults
     turns_fault n room places f e =
         row (ltb turns_limit n) (at OutOfRange 1) _ f e (λ h. record { applies = of_turns ((many_test n).0 h); first = turns_left })
@@ -167,7 +168,7 @@ module _ (limit : ℕ) where
         (λ h. at_verb SliceTooShort (fourteen (⊎_elim (λ t. lists_short t.1 t.2) (λ l. ends_short l) ((turns_short_test s q n room places).0 h))))
         (no_row f))
 
-call_fault : (limit : ℕ) (p : Plain) (c : Call) (f : Fault) → fault limit p c ≡ some f → Leftmost limit p c f
+call_fault : (limit : ℕ) (p : Plain) (c : Call) (f : Fault) → fault limit p c ≡ Some f → Leftmost limit p c f
 unfolding fault fault_table opening_fault
 call_fault limit not_open_lem (Open o) f e = open_fault limit o f e
 call_fault limit not_open_lem (Add id r) f e = out_of_order limit not_open_lem (Add id r) f add_before e

@@ -1,8 +1,8 @@
 -- The table with fields is the refusal table with the field of each refusal: by its rows, and the laws of the checks. Assumes nothing.
+use Rattle.std.specs.Prelude.{Option, None, Some}
 use mathlib.Core.Path.{◌≡◌, refl, ap, sym, ◌∙◌}
 use mathlib.Core.List.{List, [], ◌∷◌, ◌++◌}
 use mathlib.Core.Bool.{Bool, true, false, not}
-use mathlib.Core.Option.{Option, none, some}
 use Prim.Native.Nat.{ℕ, ◌*◌}
 use lib.Dec.{ltb, leb}
 use lib.ListN.{length}
@@ -74,14 +74,14 @@ module _ (s : Setup) (r : Request) (a b : Bool) where
   abbrev Told : Type 0
   Told = first_holding (request_faults s.device r ++ last_faults) ≡ with_field fields (first_holding (request_rows s r ++ last_rows))
 
-  none_told : request_refusal s r ≡ none → Told
+  none_told : request_refusal s r ≡ None → Told
   unfolding request_refusal request_fault with_field
   none_told e =
       holding_rest (request_faults s.device r) last_faults (request_told s r ∙ ap (with_field fields) e)
       ∙ last_told fields a b
       ∙ ap (with_field fields) (sym (holding_rest (request_rows s r) last_rows e))
 
-  some_told : (x : Refusal) → request_refusal s r ≡ some x → Told
+  some_told : (x : Refusal) → request_refusal s r ≡ Some x → Told
   unfolding request_refusal request_fault with_field
   some_told x e =
       holding_first (request_faults s.device r) last_faults (at x (field_of x fields)) (request_told s r ∙ ap (with_field fields) e)
@@ -91,8 +91,8 @@ module _ (s : Setup) (r : Request) (a b : Bool) where
   request_tail = go (request_refusal s r) refl
     where
       go : (x : Option Refusal) → request_refusal s r ≡ x → Told
-      go none e = none_told e
-      go (some x) e = some_told x e
+      go None e = none_told e
+      go (Some x) e = some_told x e
 
 -- ---- the calls
 

@@ -2,11 +2,11 @@
 --     refused-otherwise    without the usable set 15 it has no plan alone
 --     taken-alone          a turn that takes it has a plan with nothing else
 --     left-behind          where a turn takes only its head, the rest is passed over
+use Rattle.std.specs.Prelude.{Some}
 use mathlib.Core.Path.{◌≡◌, refl, ap, sym, subst, ◌∙◌}
 use mathlib.Core.Logic.{◌≢◌}
 use mathlib.Core.List.{List, [], ◌∷◌, ◌++◌, map, Memᴰ}
 use mathlib.Core.Bool.{Bool, true, false}
-use mathlib.Core.Option.{some}
 use mathlib.Mathlib.Data.Bool.Basic.{eq-false_of_not-eq-true}
 use Prim.Native.Nat.{ℕ, ◌≤◌}
 use native.Mathlib.Omega.{arith}
@@ -57,7 +57,7 @@ pdir_formed s a on few =
     (event (subst (λ (d : Device). pair_in (events_of d) 0xC0 0x01 ≡ true) (sym on) listed_on_b) (subst (λ (d : Device). a.0 ≤ all_counters d) (sym on) few))
 
 refused_otherwise : (limit : ℕ) (s : Setup) (q : List Entry) (id : ℕ) (a : CounterSet) → s.device ≡ B → s.usable.0 ≢ 15 → IsId id → ¬ Waits id q → a.0 ≤ 15
-    → (x : Refusal) × (refusal limit (opened s q) (Add id (Event 0xC0 0x01 a)) ≡ some x) × (number_of x ≡ 12)
+    → (x : Refusal) × (refusal limit (opened s q) (Add id (Event 0xC0 0x01 a)) ≡ Some x) × (number_of x ≡ 12)
 unfolding number_of request_refusal
 refused_otherwise limit s q id a on other good new few = (
   NoPlanAlone,

@@ -1,7 +1,7 @@
 -- What each call makes of the plain queue. Assumes nothing.
+use Rattle.std.specs.Prelude.{Option, None, Some}
 use mathlib.Core.Path.{◌≡◌, refl, ap, sym, ◌∙◌}
 use mathlib.Core.List.{List, [], ◌∷◌, ◌++◌, map}
-use mathlib.Core.Option.{Option, none, some}
 use Prim.Native.Nat.{ℕ, ◌+◌, ◌≤◌}
 use native.Mathlib.Omega.{arith}
 use lib.ListN.{length}
@@ -23,12 +23,12 @@ use Rattle.sessions.proofs.Rows.{refusal_table}
 use Rattle.sessions.specs.RefusalTable.{second_open}
 
 module _ (limit : ℕ) where
-  opens : (o : Opening) → refusal limit not_open_lem (Open o) ≡ none → (s : Setup) × (opening_of s ≡ o) × (step limit not_open_lem (Open o) ≡ opened s [])
+  opens : (o : Opening) → refusal limit not_open_lem (Open o) ≡ None → (s : Setup) × (opening_of s ≡ o) × (step limit not_open_lem (Open o) ≡ opened s [])
   unfolding change
   opens o h = let t = accepted_open limit o h in (t.0, opening_is o t.0 t.1, step_accepted limit not_open_lem (Open o) h ∙ rw (t.1, change))
 
   -- an accepted call changes the queue alone
-  changed : (s : Setup) (q : List Entry) (c : Call) → refusal limit (opened s q) c ≡ none → (later : List Entry) × (change (opened s q) c ≡ opened s later)
+  changed : (s : Setup) (q : List Entry) (c : Call) → refusal limit (opened s q) c ≡ None → (later : List Entry) × (change (opened s q) c ≡ opened s later)
   unfolding change on_queue
   changed s q (Open o) h = absurd (refusal_table.accepted limit (opened s q) (Open o) h 2 second_open)
   changed s q (Add id r) h = (_, refl)
@@ -40,8 +40,8 @@ module _ (limit : ℕ) where
   stepped s q c = go (refusal limit (opened s q) c) refl
     where
       go : (x : Option Refusal) → refusal limit (opened s q) c ≡ x → (later : List Entry) × (step limit (opened s q) c ≡ opened s later)
-      go none h = let t = changed s q c h in (t.0, step_accepted limit (opened s q) c h ∙ t.1)
-      go (some x) h = (q, step_refused limit (opened s q) c x h)
+      go None h = let t = changed s q c h in (t.0, step_accepted limit (opened s q) c h ∙ t.1)
+      go (Some x) h = (q, step_refused limit (opened s q) c x h)
 
   kept : (s : Setup) (q : List Entry) (calls : List Call) → (later : List Entry) × (run limit (opened s q) calls ≡ opened s later)
   unfolding run
@@ -61,8 +61,8 @@ module _ (limit : ℕ) where
     where
       go : (x : Option Refusal) → completed limit (step limit p (Turn room)) (map Turn rooms) ≤ length rooms
           → unless_refused x 0 1 + completed limit (step limit p (Turn room)) (map Turn rooms) ≤ length (room ∷ rooms)
-      go none below = omega (arith, below)
-      go (some x) below = omega (arith, below)
+      go None below = omega (arith, below)
+      go (Some x) below = omega (arith, below)
 
   -- those that are all completed are accepted, and leave the queue turned as often
   all_turned : (s : Setup) (q : List Entry) (rooms : List ℕ) → completed limit (opened s q) (map Turn rooms) ≡ length rooms
@@ -74,11 +74,11 @@ module _ (limit : ℕ) where
       go : (x : Option Refusal) → refusal limit (opened s q) (Turn room) ≡ x
           → (completed limit (opened s (turned s q)) (map Turn rooms) ≡ length rooms → run limit (opened s (turned s q)) (map Turn rooms) ≡ opened s (turned_times s (length rooms) (turned s q)))
           → run limit (step limit (opened s q) (Turn room)) (map Turn rooms) ≡ opened s (turned_times s (length rooms) (turned s q))
-      go none h below =
+      go None h below =
           let next : step limit (opened s q) (Turn room) ≡ opened s (turned s q) = step_accepted limit (opened s q) (Turn room) h in
           let rest : completed limit (opened s (turned s q)) (map Turn rooms) ≡ length rooms = omega (arith, rw (h, next) at all) in
           ap (λ (p : Plain). run limit p (map Turn rooms)) next ∙ below rest
-      go (some x) h below = absurd (omega (arith, rw h at all, at_most (step limit (opened s q) (Turn room)) rooms))
+      go (Some x) h below = absurd (omega (arith, rw h at all, at_most (step limit (opened s q) (Turn room)) rooms))
 
   pub queue_rules : QueueRules limit
   unfolding change on_queue turned

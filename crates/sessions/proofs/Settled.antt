@@ -1,10 +1,10 @@
 -- An entry that waits on the plain queue with any rank, whatever the queue's limit, is settled in time. Assumes nothing.
 --     dropped-at    a drop in its place among the calls
 --     settled       an entry of rank n is dropped, or taken by one of the first n + 1 completed turns
+use Rattle.std.specs.Prelude.{None}
 use mathlib.Core.Path.{◌≡◌, refl, ap}
 use mathlib.Core.Logic.{◌⊎◌, inl, inr}
 use mathlib.Core.List.{List, [], ◌∷◌, Memᴰ}
-use mathlib.Core.Option.{none}
 use Prim.Native.Nat.{ℕ, suc, ◌≤◌}
 use native.Mathlib.Omega.{arith}
 use lib.ListN.{take}
@@ -21,7 +21,7 @@ use Rattle.sessions.proofs.Rank.{OneServes, turns_in, DroppedIn, now, later, Pro
 module _ (limit : ℕ) (e : Entry) where
   -- an accepted drop of the id
   abbrev Drops : Plain → Call → Type 0
-  Drops p c = (c ≡ Drop e.id) × (refusal limit p c ≡ none)
+  Drops p c = (c ≡ Drop e.id) × (refusal limit p c ≡ None)
 
   -- a call that does not drop it
   abbrev Keeps : Plain → Call → Type 0

@@ -2,11 +2,11 @@
 --     sound-step, sound-run    calls keep a sound state sound, whatever the queue's limit
 --     well-formed              so the states that calls leave from the start are sound
 --     distinct-ids             and the ids that wait are distinct
+use Rattle.std.specs.Prelude.{Option, None, Some}
 use mathlib.Core.Path.{◌≡◌, refl, ap, sym, subst, ◌∙◌}
 use mathlib.Core.Logic.{◌≢◌}
 use mathlib.Core.List.{List, [], ◌∷◌, ◌++◌, append-nil}
 use mathlib.Core.Bool.{false}
-use mathlib.Core.Option.{Option, none, some}
 use Prim.Native.Nat.{ℕ, zero, suc}
 use native.Mathlib.Omega.{arith}
 use lib.Dec.{eqb}
@@ -59,7 +59,7 @@ unused id (e ∷ q) h = let t = either_parts (eqb id e.id) (waits id q) h in con
 
 -- ---- one call
 
-sound_opened : (limit : ℕ) (s : Setup) → setup_of (opening_of s) ≡ some s → Sound limit s []
+sound_opened : (limit : ℕ) (s : Setup) → setup_of (opening_of s) ≡ Some s → Sound limit s []
 sound_opened limit s h = record { setup = h; within = omega arith; distinct = empty; ids = nil; formed = nil; alone = nil }
 
 module _ (limit : ℕ) (s : Setup) (q : List Entry) (sound : Sound limit s q) where
@@ -110,9 +110,9 @@ SoundIn limit not_open_lem = Unit {0}
 SoundIn limit (opened s q) = Sound limit s q
 
 module _ (limit : ℕ) where
-  sound_opens : (p : Plain) → SoundIn limit p → (o : Opening) (x : Option Setup) → setup_of o ≡ x → SoundIn limit (elim x [ none ↦ p | some s ↦ opened s [] ])
-  sound_opens p a o none e = a
-  sound_opens p a o (some s) e = sound_opened limit s (ap setup_of (opening_is o s e) ∙ e)
+  sound_opens : (p : Plain) → SoundIn limit p → (o : Opening) (x : Option Setup) → setup_of o ≡ x → SoundIn limit (elim x [ None ↦ p | Some s ↦ opened s [] ])
+  sound_opens p a o None e = a
+  sound_opens p a o (Some s) e = sound_opened limit s (ap setup_of (opening_is o s e) ∙ e)
 
   sound_queue : (p : Plain) (f : Setup → List Entry → List Entry) → ((s : Setup) (q : List Entry) → p ≡ opened s q → Sound limit s q → Sound limit s (f s q))
       → SoundIn limit p → SoundIn limit (on_queue p f)
@@ -120,7 +120,7 @@ module _ (limit : ℕ) where
   sound_queue not_open_lem f keeps a = tt
   sound_queue (opened s q) f keeps a = keeps s q refl a
 
-  sound_change : (p : Plain) (c : Call) → refusal limit p c ≡ none → SoundIn limit p → SoundIn limit (change p c)
+  sound_change : (p : Plain) (c : Call) → refusal limit p c ≡ None → SoundIn limit p → SoundIn limit (change p c)
   unfolding change
   sound_change p (Open o) h a = sound_opens p a o (setup_of o) refl
   sound_change p (Add id r) h a = sound_queue p _ (λ s q is sound. sound_added limit s q sound id r (accepted_add limit s q id r (rw is at h))) a
@@ -132,8 +132,8 @@ module _ (limit : ℕ) where
   sound_step p c a = go (refusal limit p c) refl
     where
       go : (x : Option Refusal) → refusal limit p c ≡ x → SoundIn limit (step limit p c)
-      go none h = rw (step_accepted limit p c h) (sound_change p c h a)
-      go (some x) h = rw (step_refused limit p c x h) a
+      go None h = rw (step_accepted limit p c h) (sound_change p c h a)
+      go (Some x) h = rw (step_refused limit p c x h) a
 
   pub sound_run : (p : Plain) (cs : List Call) → SoundIn limit p → SoundIn limit (run limit p cs)
   unfolding run

@@ -2,10 +2,10 @@
 --     taken-fit      those taken have a plan
 --     taken-first    so theirs is the first legal one
 --     taken-few      so they are no more than arrays have room for
+use Rattle.std.specs.Prelude.{Option, None, Some}
 use mathlib.Core.Path.{◌≡◌, refl, ap, sym, subst, ◌∙◌}
 use mathlib.Core.List.{List, [], ◌∷◌, ◌++◌, append-nil, append_assoc}
 use mathlib.Core.Bool.{Bool, true, false, false≢true}
-use mathlib.Core.Option.{Option, none, some}
 use Prim.Native.Nat.{◌≤◌}
 use native.Mathlib.Omega.{arith}
 use lib.ListN.{length, length-map}
@@ -43,15 +43,15 @@ none_fits s = refl
 
 -- the places of the plan that is found
 abbrev places_in : Option (List Place) → List Place
-places_in none = []
-places_in (some ps) = ps
+places_in None = []
+places_in (Some ps) = ps
 
 -- the places of entries are those of the first plan of their requests
 places_are : (s : Setup) (es : List Entry) → places_of s es ≡ places_in (first_plan s (requests_of es))
 unfolding places_of
 places_are s es = refl
 
-has_none : (s : Setup) (rs : List Request) → first_plan s rs ≡ none → has_plan_lem s rs ≡ false
+has_none : (s : Setup) (rs : List Request) → first_plan s rs ≡ None → has_plan_lem s rs ≡ false
 unfolding has_plan_lem
 has_none s rs e = rw e
 
@@ -60,8 +60,8 @@ unfolding fits
 first_places s es h = go (first_plan s (requests_of es)) refl
   where
     go : (o : Option (List Place)) → first_plan s (requests_of es) ≡ o → First s (requests_of es) (places_of s es)
-    go none e = absurd (false≢true (sym (has_none s (requests_of es) e) ∙ h))
-    go (some ps) e = subst (λ (x : List Place). First s (requests_of es) x) (sym (places_are s es ∙ ap places_in e)) (first_plan_lem.sound s (requests_of es) ps e)
+    go None e = absurd (false≢true (sym (has_none s (requests_of es) e) ∙ h))
+    go (Some ps) e = subst (λ (x : List Place). First s (requests_of es) x) (sym (places_are s es ∙ ap places_in e)) (first_plan_lem.sound s (requests_of es) ps e)
 
 taken_fit : (s : Setup) (q : List Entry) → fits s (taken s q) ≡ true
 unfolding taken

@@ -3,10 +3,10 @@
 --     by-turns        so n single turns, each with the rest of a slice that is long enough for all
 --     cut-lists       at the ends it falls into the lists
 --     turn-by-turn    so it is of an accepted call
+use Rattle.std.specs.Prelude.{None, Ok}
 use mathlib.Core.Path.{◌≡◌, refl, ap, sym, ◌∙◌}
 use mathlib.Core.List.{List, [], ◌∷◌, ◌++◌, map}
 use mathlib.Core.Bool.{Bool, true, false}
-use mathlib.Core.Option.{none}
 use Prim.Native.Nat.{ℕ, zero, suc, ◌+◌, ◌*◌, ◌-◌, ◌≤◌}
 use native.Mathlib.Omega.{arith}
 use lib.ListN.{length, take, drop, length-append, length-drop}
@@ -14,8 +14,7 @@ use lib.Seq.{take_at, drop_at}
 use borrow.Author.Tests.{le-ltb}
 use Rattle.requests.specs.declared.Setup.{Setup}
 use Rattle.requests.specs.declared.Entry.{Entry}
-use Rattle.requests.specs.declared.Answer.{Answer}
-use Rattle.requests.specs.declared.Answer.TheVariants.{Accepted}
+use Rattle.requests.specs.Answers.{Answer}
 use Rattle.requests.specs.Refusals.{answer_for}
 use Rattle.plans.specs.Lists.{All, nil, cons}
 use Rattle.layouts.specs.Writes.{Write, flat, filled}
@@ -54,16 +53,16 @@ next_turned s = session_of s.setup (turned s.setup (queued s))
 
 module _ (s : Session) (open-already : s.opened ≡ true) where
   module _ (room : ℕ) (enough : 2 * length (next_list s) ≤ room) where
-    no_row : refused_by s (Turn room) ≡ none
+    no_row : refused_by s (Turn room) ≡ None
     unfolding refused_by
     no_row = rw (plain_opened s open-already) (turn_accepted_lem queue_limit s.setup (queued s) room (le-ltb room (2 * length (next_list s)) enough))
 
-    pub single_answer : (turn_of s room).answer ≡ Accepted
+    pub single_answer : (turn_of s room).answer ≡ Ok tt
     unfolding answer_for
-    single_answer = (turn_by s room none no_row).0
+    single_answer = (turn_by s room None no_row).0
 
     pub single_session : (turn_of s room).session ≡ next_turned s
-    single_session = (turn_by s room none no_row).1
+    single_session = (turn_by s room None no_row).1
 
     pub single_writes : (turn_of s room).writes ≡ length (next_list s)
     unfolding refused_by
@@ -111,7 +110,7 @@ next_plans n s open-already =
 -- ---- n turns
 
 record ByTurns (n : ℕ) (s : Session) (slice : List ℕ) : Type 0 where
-  pub completed : All (λ (a : TurnAnswered). a.answer ≡ Accepted) (turn_answers n s slice)
+  pub completed : All (λ (a : TurnAnswered). a.answer ≡ Ok tt) (turn_answers n s slice)
   pub session : turned_session n s ≡ last_session s (turn_answers n s slice)
   pub lists : filled (joined (lists_for n s)) slice ≡ slice_by_turns n s slice
   pub places : (at : ℕ) → ends_from at (lists_for n s) ≡ ends_by_turns at (turn_answers n s slice)
@@ -134,7 +133,7 @@ by_turns (suc n) s slice open-already room = go (by_turns n (turn_of s (length s
     room_now : 2 * length (next_list s) ≤ length slice
     room_now = omega (arith, room, both, length-append (next_list s) (joined (lists_for n (next_turned s))))
 
-    answer : x.answer ≡ Accepted
+    answer : x.answer ≡ Ok tt
     answer = single_answer s open-already (length slice) room_now
 
     next : x.session ≡ next_turned s
@@ -204,7 +203,7 @@ count_ends at (suc n) t q = ap suc (count_ends (at + 2 * length (writes_of t (ta
 abbrev Roomy : Session → ℕ → ℕ → ℕ → Type 0
 Roomy s n room places = (s.opened ≡ true) × (2 * length (joined (lists_for n s)) ≤ room) × (n ≤ places)
 
-pub accepted_turns : (s : Session) (n room places : ℕ) → refused_by s (Turns n room places) ≡ none → Roomy s n room places
+pub accepted_turns : (s : Session) (n room places : ℕ) → refused_by s (Turns n room places) ≡ None → Roomy s n room places
 unfolding refused_by
 accepted_turns s n room places e = go s.opened refl
   where
@@ -215,7 +214,7 @@ accepted_turns s n room places e = go s.opened refl
         (h, le_of_not_lt (λ l. not_IsShort (lists_short (lists_hold s.setup n (queued s)) l)), le_of_not_lt (λ l. not_IsShort (ends_short l)))
 
 -- the turns that it completes
-turns_completed : (s : Session) (n room places : ℕ) → s.opened ≡ true → answer_to s (Turns n room places) ≡ Accepted
+turns_completed : (s : Session) (n room places : ℕ) → s.opened ≡ true → answer_to s (Turns n room places) ≡ Ok tt
     → turns_by small_session (plain_of s) s (Turns n room places) ≡ singles_for n s
 unfolding turns_by turns_if
 turns_completed s n room places open-already accepted =
@@ -225,7 +224,7 @@ turns_completed s n room places open-already accepted =
 pub turn_by_turn : TurnByTurn
 unfolding turns_answer answered turns_slice turns_ends answer_to
 turn_by_turn s n slice ends accepted =
-    let e : refused_by s (Turns n (length slice) (length ends)) ≡ none = answer_none _ (sym (answer_is s (Turns n (length slice) (length ends))) ∙ accepted) in
+    let e : refused_by s (Turns n (length slice) (length ends)) ≡ None = answer_none _ (sym (answer_is s (Turns n (length slice) (length ends))) ∙ accepted) in
     let found = accepted_turns s n (length slice) (length ends) e in
     let b = by_turns n s slice found.0 found.1 in
     let first : take n (ends_from 0 (lists_for n s) ++ drop n ends) ≡ ends_from 0 (lists_for n s) =

@@ -2,9 +2,9 @@
 --     taken-formed    the requests taken are well-formed
 --     turn-done       so the laws of the registers hold of the writes of a turn's plan, whatever the queue's limit
 --     turn-plan       and of every accepted turn of a session
+use Rattle.std.specs.Prelude.{None}
 use mathlib.Core.Path.{◌≡◌, ap, sym, ◌∙◌}
 use mathlib.Core.List.{List}
-use mathlib.Core.Option.{none}
 use Prim.Native.Nat.{ℕ}
 use lib.ListN.{length}
 use Rattle.requests.specs.declared.Setup.{Setup}
@@ -40,7 +40,7 @@ unfolding turned requests_of
 taken_formed limit s q sound = all_map (λ (e : Entry). e.request) (all_right (passed s q) (sound_turned limit s q sound).formed)
 
 -- a turn with this result, whatever the queue's limit
-pub turn_done : (limit : ℕ) (s : Setup) (q : List Entry) (slice : List ℕ) (result : TurnResult) → Sound limit s q → refusal limit (opened s q) (Turn (length slice)) ≡ none
+pub turn_done : (limit : ℕ) (s : Setup) (q : List Entry) (slice : List ℕ) (result : TurnResult) → Sound limit s q → refusal limit (opened s q) (Turn (length slice)) ≡ None
     → result.plan ≡ assign (taken s q) (places_of s (taken s q)) → result.writes ≡ length (writes_of s (taken s q)) → result.slice ≡ filled (writes_of s (taken s q)) slice
     → result.queue ≡ opened s (turned s q) → TurnDone s q slice result
 unfolding writes_of opening_of
@@ -73,7 +73,7 @@ unfolding refused_by session_after
 turn_plan session closed calls s q is slice answer =
     let now : Session = session_after session calls in
     let same = (agreement session closed).stands calls ∙ is in
-    let accepted : refusal queue_limit (opened s q) (Turn (length slice)) ≡ none =
+    let accepted : refusal queue_limit (opened s q) (Turn (length slice)) ≡ None =
     ap (λ (p : Plain). refusal queue_limit p (Turn (length slice))) (sym same) ∙ not_refused now (length slice) answer in
     turn_done queue_limit s q slice (result_of now slice) (well_formed_lem queue_limit calls s q is) accepted
     (turn_plan_is now s q same (length slice) accepted) (turn_count_is now s q same (length slice) accepted) (turn_slice_is now s q same slice accepted)

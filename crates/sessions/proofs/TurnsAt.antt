@@ -1,8 +1,8 @@
 -- The turns that calls complete on the plain queue. Assumes nothing.
 --     count    a list of calls completes as many as it is said to
+use Rattle.std.specs.Prelude.{Option, None, Some}
 use mathlib.Core.Path.{◌≡◌, refl, ap, ◌∙◌}
 use mathlib.Core.List.{List, [], ◌∷◌}
-use mathlib.Core.Option.{Option, none, some}
 use Prim.Native.Nat.{ℕ, zero, suc}
 use lib.ListN.{length, length-append}
 use Rattle.requests.specs.declared.Setup.{Setup}
@@ -43,12 +43,12 @@ module _ (limit : ℕ) where
 
   -- a call that asks for none completes none
   no_turns : (x : Option Refusal) → ◌≡◌ {A = ℕ} 0 (unless_refused x 0 0)
-  no_turns none = refl
-  no_turns (some x) = refl
+  no_turns None = refl
+  no_turns (Some x) = refl
 
   counted : (x : Option Refusal) (n : ℕ) (s : Setup) (q : List Entry) → length {A = TurnAt} (unless_refused x [] (turns_from n s q)) ≡ unless_refused x 0 n
-  counted none n s q = count_from n s q
-  counted (some x) n s q = refl
+  counted None n s q = count_from n s q
+  counted (Some x) n s q = refl
 
   pub count_call : (p : Plain) (c : Call) → length (turns_at p c) ≡ completes limit p c
   unfolding turns_at completes turns_asked refusal table once_open first_holding
@@ -65,14 +65,14 @@ module _ (limit : ℕ) where
   count p [] = refl
   count p (c ∷ cs) = length-append (turns_at p c) (turns_in (step limit) turns_at (step limit p c) cs) ∙ rw (count_call p c, count (step limit p c) cs)
 
-  pub turns_refused : (p : Plain) (c : Call) (x : Refusal) → refusal limit p c ≡ some x → length (turns_at p c) ≡ 0
+  pub turns_refused : (p : Plain) (c : Call) (x : Refusal) → refusal limit p c ≡ Some x → length (turns_at p c) ≡ 0
   unfolding completes
   turns_refused p c x h = count_call p c ∙ rw h
 
-  pub turn_accepted_lem : (s : Setup) (q : List Entry) (room : ℕ) → refusal limit (opened s q) (Turn room) ≡ none → turns_at (opened s q) (Turn room) ≡ turns_from 1 s q
+  pub turn_accepted_lem : (s : Setup) (q : List Entry) (room : ℕ) → refusal limit (opened s q) (Turn room) ≡ None → turns_at (opened s q) (Turn room) ≡ turns_from 1 s q
   unfolding turns_at
   turn_accepted_lem s q room h = rw h
 
-  pub turns_accepted : (s : Setup) (q : List Entry) (n room places : ℕ) → refusal limit (opened s q) (Turns n room places) ≡ none → turns_at (opened s q) (Turns n room places) ≡ turns_from n s q
+  pub turns_accepted : (s : Setup) (q : List Entry) (n room places : ℕ) → refusal limit (opened s q) (Turns n room places) ≡ None → turns_at (opened s q) (Turns n room places) ≡ turns_from n s q
   unfolding turns_at
   turns_accepted s q n room places h = rw h

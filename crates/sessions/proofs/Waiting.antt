@@ -3,11 +3,11 @@
 --     several     n turns take the entry, or each of them lowers its rank
 --     progress    no call raises the rank, and every completed turn that does not take the entry lowers it
 --     bound       so an entry of rank n is dropped, or taken by one of the first n + 1 turns
+use Rattle.std.specs.Prelude.{Option, None, Some}
 use mathlib.Core.Path.{◌≡◌, refl, ap, sym, subst, ◌∙◌}
 use mathlib.Core.Logic.{◌⊎◌, inl, inr}
 use mathlib.Core.List.{List, [], ◌∷◌, ◌++◌, append_assoc, append-nil, Memᴰ}
 use mathlib.Core.Bool.{Bool, true, false}
-use mathlib.Core.Option.{Option, none, some}
 use Prim.Native.Nat.{ℕ, zero, suc, ◌+◌, ◌≤◌}
 use native.Mathlib.Omega.{arith}
 use lib.Dec.{eqb}
@@ -113,7 +113,7 @@ module _ (limit : ℕ) (e : Entry) (by : Ranking limit e) where
         go (inl o) = served (rw turns o)
         go (inr l) = still c l.nearer l.further (next ∙ ap (opened s) l.next) l.known (rw (turns, count_from n s (ahead ++ e ∷ behind)) l.lower) keeps
 
-    accepted : (c : Call) → refusal limit here c ≡ none → Progressed c
+    accepted : (c : Call) → refusal limit here c ≡ None → Progressed c
     unfolding change on_queue turns_at drops_asked turned_times
     accepted (Open o) h = absurd (refusal_table.accepted limit here (Open o) h 2 second_open)
     accepted (Add id r) h =
@@ -143,8 +143,8 @@ module _ (limit : ℕ) (e : Entry) (by : Ranking limit e) where
     progress_here c = go (refusal limit here c) refl
       where
         go : (x : Option Refusal) → refusal limit here c ≡ x → Progressed c
-        go none h = accepted c h
-        go (some x) h = still c ahead behind (step_refused limit here c x h) known (omega (arith, turns_refused limit here c x h)) (drops_refused limit e.id here c x h)
+        go None h = accepted c h
+        go (Some x) h = still c ahead behind (step_refused limit here c x h) known (omega (arith, turns_refused limit here c x h)) (drops_refused limit e.id here c x h)
 
   progress : (p : Plain) (c : Call) (n : ℕ) → Ahead p n → ProgressBy limit e Ahead p c n
   progress p c n w = rw (w.is, ← w.ranked) (progress_here w.setup w.ahead w.behind w.sound w.known c)

@@ -1,10 +1,9 @@
 -- The turns that a list of calls completes, of any machine that is fed calls, and the plans that it answers there.
-use Rattle.std.specs.Prelude.{◌≡◌, false, ℕ, zero, suc, ◌*◌, length}
+use Rattle.std.specs.Prelude.{◌≡◌, false, ℕ, zero, suc, ◌*◌, length, Ok, Err}
 use mathlib.Core.List.{List, [], ◌∷◌, ◌++◌, foldl}
 use Rattle.requests.specs.declared.Setup.{Setup}
 use Rattle.requests.specs.declared.Entry.{Entry}
-use Rattle.requests.specs.declared.Answer.{Answer}
-use Rattle.requests.specs.declared.Answer.TheVariants.{Accepted, Refused}
+use Rattle.requests.specs.Answers.{Answer}
 use Rattle.sessions.specs.Turns.{taken, turned, writes_of}
 use Rattle.sessions.specs.Calls.{Call, Open, Add, Drop, Turn, Turns, Plain, not_open_lem, opened}
 use Rattle.sessions.specs.Plain.{step, run, completed}
@@ -32,8 +31,8 @@ pub record CompletedTurn : Type 0 where
 
 -- the turns, where the call is accepted
 unfoldable pub turns_if : Answer → List CompletedTurn → List CompletedTurn
-turns_if Accepted ts = ts
-turns_if (Refused x) ts = []
+turns_if (Ok tt) ts = ts
+turns_if (Err x) ts = []
 
 module _ {State : Type 0} (m : Machine State) where
   -- the state that a list of calls leaves, each given the state that the last one left

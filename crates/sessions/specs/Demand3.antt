@@ -1,7 +1,6 @@
 -- Demand 3: "a single claim about the whole list of calls".
-use Rattle.std.specs.Prelude.{◌≡◌, ◌⊎◌, false, ℕ, suc, ◌≤◌, length, take}
+use Rattle.std.specs.Prelude.{◌≡◌, ◌⊎◌, false, ℕ, suc, ◌≤◌, length, take, None}
 use mathlib.Core.List.{List, ◌∷◌, ◌++◌, Memᴰ}
-use Rattle.std.proofs.Math.Option.{none}
 use Rattle.requests.specs.declared.Entry.{Entry}
 use Rattle.plans.specs.declared.Place.{Place}
 use Rattle.plans.specs.Lists.{All}
@@ -42,7 +41,7 @@ pub record Dropped (limit : ℕ) (from : Plain) (after : List Call) (p : ℕ) (e
   pub since : List Call
   pub rest : List Call
   pub split : after ≡ since ++ Drop e.id ∷ rest
-  pub accepted : refusal limit (run limit from since) (Drop e.id) ≡ none
+  pub accepted : refusal limit (run limit from since) (Drop e.id) ≡ None
   pub early : completed limit from since ≤ p
   pub first : drops limit e.id from since ≡ 0
 

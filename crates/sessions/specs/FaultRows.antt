@@ -1,7 +1,6 @@
 -- Document 02, order 11: the field of each row of the refusal table, in the words of document 01 and the orders, and what it settles for every call:
 -- "Numbers and their order stay", and the field is the leftmost that fails under the number.
-use Rattle.std.specs.Prelude.{◌≡◌, ℕ, ◌<◌, List}
-use Rattle.std.proofs.Math.Option.{some}
+use Rattle.std.specs.Prelude.{◌≡◌, ℕ, ◌<◌, List, Some}
 use Rattle.requests.specs.declared.Device.{Device}
 use Rattle.requests.specs.declared.Opening.{Opening}
 use Rattle.requests.specs.declared.Setup.{Setup}
@@ -39,8 +38,8 @@ pub record FaultRows : Type 0 where
   -- "Numbers and their order stay": without the field it is the refusal table
   pub numbers : (limit : ℕ) (p : Plain) (c : Call) → refusal_in (fault limit p c) ≡ refusal limit p c
   -- the row applies in the field that is given, and in no field left of it
-  pub applies : (limit : ℕ) (p : Plain) (c : Call) (f : Fault) → fault limit p c ≡ some f → AppliesAt limit p c f.refusal f.field
-  pub leftmost : (limit : ℕ) (p : Plain) (c : Call) (f : Fault) → fault limit p c ≡ some f → (k : ℕ) → k < f.field → ¬ AppliesAt limit p c f.refusal k
+  pub applies : (limit : ℕ) (p : Plain) (c : Call) (f : Fault) → fault limit p c ≡ Some f → AppliesAt limit p c f.refusal f.field
+  pub leftmost : (limit : ℕ) (p : Plain) (c : Call) (f : Fault) → fault limit p c ≡ Some f → (k : ℕ) → k < f.field → ¬ AppliesAt limit p c f.refusal k
   -- a row that applies in a field is one of the refusal table
   pub only : (limit : ℕ) (p : Plain) (c : Call) (x : Refusal) (k : ℕ) → AppliesAt limit p c x k → Applies limit p c (number_of x)
   -- once the number is known, the field depends on the arguments of the call and the device alone

@@ -1,7 +1,6 @@
 -- Document 02, order 11: the refusal table with the field at fault, for every call, in the order in which it is checked, and under one number from the
 -- left. "Refusals 2, 7, 12, 13 and 14 .. give field 0"; 4, 5 and 6 are at the id, 10 of turns at once at their number.
-use Rattle.std.specs.Prelude.{◌≡◌, List, [], ◌∷◌, ◌++◌, true, not, ℕ, ◌*◌, ltb, leb, length}
-use Rattle.std.proofs.Math.Option.{Option}
+use Rattle.std.specs.Prelude.{◌≡◌, List, [], ◌∷◌, ◌++◌, true, not, ℕ, ◌*◌, ltb, leb, length, Option}
 use Rattle.requests.specs.declared.Device.{Device}
 use Rattle.requests.specs.declared.Setup.{Setup}
 use Rattle.requests.specs.declared.Request.{Request}

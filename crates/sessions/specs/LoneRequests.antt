@@ -1,7 +1,6 @@
 -- Order 12, of a session on B: when "INST_RETIRED.ALL in its PDIR use (C0/01)" is refused, and what a turn does with it.
-use Rattle.std.specs.Prelude.{◌≡◌, ◌≢◌, ℕ, ◌≤◌}
+use Rattle.std.specs.Prelude.{◌≡◌, ◌≢◌, ℕ, ◌≤◌, Some}
 use mathlib.Core.List.{List, [], ◌∷◌, ◌++◌, Memᴰ}
-use Rattle.std.proofs.Math.Option.{some}
 use Rattle.requests.specs.declared.CounterSet.{CounterSet}
 use Rattle.requests.specs.declared.Device.TheVariants.{B}
 use Rattle.requests.specs.declared.Setup.{Setup}
@@ -22,7 +21,7 @@ AsksPdir e = (a : CounterSet) × (e.request ≡ Event 0xC0 0x01 a)
 pub record LoneRequests : Type 0 where
   -- "a session with any other set refuses it with 12", where none of the rows before 12 applies: those of the id and of the allowed set
   pub refused : (limit : ℕ) (s : Setup) (q : List Entry) (id : ℕ) (a : CounterSet) → s.device ≡ B → s.usable.0 ≢ 15 → IsId id → ¬ Waits id q → a.0 ≤ 15
-      → (x : Refusal) × (refusal limit (opened s q) (Add id (Event 0xC0 0x01 a)) ≡ some x) × (number_of x ≡ 12)
+      → (x : Refusal) × (refusal limit (opened s q) (Add id (Event 0xC0 0x01 a)) ≡ Some x) × (number_of x ≡ 12)
   -- a turn that takes it takes nothing else
   pub alone : (s : Setup) (q : List Entry) (e : Entry) → s.device ≡ B → AsksPdir e → Memᴰ e (taken s q) → taken s q ≡ e ∷ []
   -- of every queue that calls have left: it is taken at the head only, ..

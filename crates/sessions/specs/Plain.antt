@@ -1,6 +1,5 @@
 -- The plain queue: "A call that the refusal table refuses in that state leaves it as it is. Every other call is accepted and changes it".
-use Rattle.std.specs.Prelude.{List, [], ◌∷◌, ◌++◌, ℕ, ◌+◌, eqb}
-use Rattle.std.proofs.Math.Option.{Option, none, some}
+use Rattle.std.specs.Prelude.{List, [], ◌∷◌, ◌++◌, ℕ, ◌+◌, eqb, Option, None, Some}
 use Rattle.requests.specs.declared.Setup.{Setup}
 use Rattle.requests.specs.declared.Entry.{Entry}
 use Rattle.requests.specs.declared.Refusal.{Refusal}
@@ -22,7 +21,7 @@ on_queue (opened s q) f = opened s (f s q)
 
 -- what an accepted call makes of the state
 unfoldable pub change : Plain → Call → Plain
-change p (Open o) = elim (setup_of o) [ none ↦ p | some s ↦ opened s [] ]
+change p (Open o) = elim (setup_of o) [ None ↦ p | Some s ↦ opened s [] ]
 change p (Add id r) = on_queue p (λ s q. q ++ record { id = id; request = r } ∷ [])
 change p (Drop id) = on_queue p (λ s q. removed id q)
 change p (Turn room) = on_queue p (λ s q. turned s q)
@@ -46,8 +45,8 @@ drops_asked id (Turns n room places) = 0
 
 -- the first of two where a call is refused, the second where it is accepted
 abbrev pub unless_refused : {A : Type 0} → Option Refusal → A → A → A
-unless_refused none old new = new
-unless_refused (some x) old new = old
+unless_refused None old new = new
+unless_refused (Some x) old new = old
 
 module _ (limit : ℕ) where
   -- one call

@@ -1,7 +1,6 @@
 -- The refusal table in document 01's words, and what it settles: a call is refused by the first row that applies, and accepted where none does.
-use Rattle.std.specs.Prelude.{◌≡◌, ℕ, zero, suc, ◌*◌, ◌≤◌, ◌<◌, length}
+use Rattle.std.specs.Prelude.{◌≡◌, ℕ, zero, suc, ◌*◌, ◌≤◌, ◌<◌, length, None, Some}
 use mathlib.Core.List.{List, [], ◌∷◌, map, Memᴰ}
-use Rattle.std.proofs.Math.Option.{none, some}
 use Rattle.requests.specs.declared.Device.{Device}
 use Rattle.requests.specs.declared.Opening.{Opening}
 use Rattle.requests.specs.declared.Setup.{Setup}
@@ -76,9 +75,9 @@ pub data Applies (limit : ℕ) : Plain → Call → ℕ → Type 0 where
 
 pub record RefusalTable : Type 0 where
   -- the row by which a call is refused applies, and none that is checked before it
-  pub refused : (limit : ℕ) (p : Plain) (c : Call) (x : Refusal) → refusal limit p c ≡ some x
+  pub refused : (limit : ℕ) (p : Plain) (c : Call) (x : Refusal) → refusal limit p c ≡ Some x
       → Applies limit p c (number_of x) × All (λ (n : ℕ). ¬ Applies limit p c n) (checked_before (number_of x))
   -- no row applies to an accepted call
-  pub accepted : (limit : ℕ) (p : Plain) (c : Call) → refusal limit p c ≡ none → (n : ℕ) → ¬ Applies limit p c n
+  pub accepted : (limit : ℕ) (p : Plain) (c : Call) → refusal limit p c ≡ None → (n : ℕ) → ¬ Applies limit p c n
   -- "The queue holds at most 16 requests"
   pub sixteen : queue_limit ≡ 16

@@ -1,7 +1,6 @@
 -- What the calls answer, for every session and argument.
 use mathlib.Core.List.{List, [], ◌∷◌, ◌++◌, foldl}
-use Rattle.std.specs.Prelude.{true, false, ℕ, zero, suc, ◌-◌, length, take, drop, replicate}
-use Rattle.std.proofs.Math.Option.{Option, none, some}
+use Rattle.std.specs.Prelude.{true, false, ℕ, zero, suc, ◌-◌, length, take, drop, replicate, Option, None, Some}
 use Rattle.requests.specs.declared.Device.TheVariants.{G}
 use Rattle.requests.specs.declared.Opening.{Opening}
 use Rattle.requests.specs.declared.Setup.{Setup}
@@ -9,7 +8,7 @@ use Rattle.requests.specs.declared.Request.{Request}
 use Rattle.requests.specs.declared.Request.TheVariants.{Event}
 use Rattle.requests.specs.declared.Entry.{Entry}
 use Rattle.requests.specs.declared.Refusal.{Refusal}
-use Rattle.requests.specs.declared.Answer.{Answer}
+use Rattle.requests.specs.Answers.{Answer}
 use Rattle.requests.specs.Refusals.{answer_for}
 use Rattle.requests.specs.Askings.{unasked}
 use Rattle.requests.specs.Devices.{capacity, setup_of}
@@ -66,7 +65,7 @@ answered x old new = record { answer = answer_for x; session = unless_refused x 
 
 -- "open: device, usable set" up to all counters, fixed enables, the box on C, freeze and core. "Once."
 unfoldable pub open_of : Session → Opening → Answered
-open_of s o = answered (refused_by s (Open o)) s (elim (setup_of o) [ none ↦ s | some t ↦ session_of t [] ])
+open_of s o = answered (refused_by s (Open o)) s (elim (setup_of o) [ None ↦ s | Some t ↦ session_of t [] ])
 
 -- "add: an id 1..65535 and a request, placed at the back."
 unfoldable pub add_of : Session → ℕ → Request → Answered
@@ -88,9 +87,9 @@ turn_answer a s plan n = record { answer = a; session = s; plan = plan ++ replic
 unfoldable pub turn_of : Session → ℕ → TurnAnswered
 turn_of s room =
     elim (refused_by s (Turn room)) [
-      | none ↦ let es = taken s.setup (queued s) in
-          turn_answer (answer_for none) (session_of s.setup (turned s.setup (queued s))) (assign es (places_of s.setup es)) (length (writes_of s.setup es))
-      | some x ↦ turn_answer (answer_for (some x)) s [] 0
+      | None ↦ let es = taken s.setup (queued s) in
+          turn_answer (answer_for None) (session_of s.setup (turned s.setup (queued s))) (assign es (places_of s.setup es)) (length (writes_of s.setup es))
+      | Some x ↦ turn_answer (answer_for (Some x)) s [] 0
     ]
 
 -- what the slice of a turn holds afterwards

@@ -1,6 +1,5 @@
 -- A sound open state: what calls keep, and what demand 3 needs.
-use Rattle.std.specs.Prelude.{◌≡◌, List, [], ◌∷◌, ℕ, ◌≤◌, length}
-use Rattle.std.proofs.Math.Option.{some}
+use Rattle.std.specs.Prelude.{◌≡◌, List, [], ◌∷◌, ℕ, ◌≤◌, length, Some}
 use Rattle.requests.specs.declared.Setup.{Setup}
 use Rattle.requests.specs.declared.Entry.{Entry}
 use Rattle.requests.specs.Devices.{setup_of, opening_of}
@@ -12,7 +11,7 @@ use Rattle.sessions.specs.DistinctIds.{Distinct}
 
 pub record Sound (limit : ℕ) (s : Setup) (q : List Entry) : Type 0 where
   -- open takes the setup
-  pub setup : setup_of (opening_of s) ≡ some s
+  pub setup : setup_of (opening_of s) ≡ Some s
   -- at most so many wait
   pub within : length q ≤ limit
   -- under distinct ids 1..65535

@@ -1,6 +1,5 @@
 -- Document 01, 'Refusal numbers': the table, by call. `limit` is the number of requests that the queue holds.
-use Rattle.std.specs.Prelude.{List, [], ◌∷◌, ◌++◌, Bool, true, not, ℕ, ◌*◌, ltb, leb, eqb, length}
-use Rattle.std.proofs.Math.Option.{Option}
+use Rattle.std.specs.Prelude.{List, [], ◌∷◌, ◌++◌, Bool, true, not, ℕ, ◌*◌, ltb, leb, eqb, length, Option}
 use Rattle.requests.specs.declared.Setup.{Setup}
 use Rattle.requests.specs.declared.Request.{Request}
 use Rattle.requests.specs.declared.Entry.{Entry}

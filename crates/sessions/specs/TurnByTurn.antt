@@ -1,6 +1,5 @@
 -- Order 6: n turns at once do what n single turns do, each with "the part of the buffer that begins where the last one ended".
-use Rattle.std.specs.Prelude.{◌≡◌, List, [], ◌∷◌, ◌++◌, map, ℕ, zero, suc, ◌+◌, ◌*◌, ◌-◌, length, take, drop}
-use Rattle.requests.specs.declared.Answer.TheVariants.{Accepted}
+use Rattle.std.specs.Prelude.{◌≡◌, List, [], ◌∷◌, ◌++◌, map, ℕ, zero, suc, ◌+◌, ◌*◌, ◌-◌, length, take, drop, Ok}
 use Rattle.plans.specs.Lists.{All}
 use Rattle.layouts.specs.Writes.{Write, flat}
 use Rattle.sessions.specs.Turns.{joined}
@@ -43,7 +42,7 @@ cut_at at (end ∷ ends) slice = take (end - at) slice ∷ cut_at end ends (drop
 -- an accepted call for n turns
 pub record AsSingleTurns (s : Session) (n : ℕ) (slice ends : List ℕ) : Type 0 where
   -- "n single turns, all completed"
-  pub completed : All (λ (a : TurnAnswered). a.answer ≡ Accepted) (turn_answers n s slice)
+  pub completed : All (λ (a : TurnAnswered). a.answer ≡ Ok tt) (turn_answers n s slice)
   -- "Lists and session are those of n single turns"; "what lies past the last list and end stays"
   pub session : (turns_answer s n (length slice) (length ends)).session ≡ last_session s (turn_answers n s slice)
   pub lists : turns_slice s n slice (length ends) ≡ slice_by_turns n s slice
@@ -61,5 +60,5 @@ pub record AsSingleTurns (s : Session) (n : ℕ) (slice ends : List ℕ) : Type 
 abbrev pub TurnByTurn : Type 0
 TurnByTurn =
     (s : Session) (n : ℕ) (slice ends : List ℕ)
-    → (turns_answer s n (length slice) (length ends)).answer ≡ Accepted
+    → (turns_answer s n (length slice) (length ends)).answer ≡ Ok tt
     → AsSingleTurns s n slice ends

@@ -1,10 +1,9 @@
 -- Demand 2 of every accepted turn: its plan is the first legal plan of the requests taken, and its writes are that plan's.
-use Rattle.std.specs.Prelude.{◌≡◌, ◌≢◌, true, false, not, ℕ, ◌*◌, ◌≤◌, ◌<◌, ltb, length}
+use Rattle.std.specs.Prelude.{◌≡◌, ◌≢◌, true, false, not, ℕ, ◌*◌, ◌≤◌, ◌<◌, ltb, length, Ok}
 use mathlib.Core.List.{List, [], ◌∷◌, ◌++◌, map, Memᴰ}
 use Rattle.requests.specs.declared.Device.TheVariants.{B}
 use Rattle.requests.specs.declared.Setup.{Setup}
 use Rattle.requests.specs.declared.Entry.{Entry}
-use Rattle.requests.specs.declared.Answer.TheVariants.{Accepted}
 use Rattle.requests.specs.Bits.{bit, in_list}
 use Rattle.requests.specs.Choice.{both, either}
 use Rattle.requests.specs.Openings.{NothingAsked}
@@ -87,5 +86,5 @@ TurnPlan =
     → (calls : List Call) (s : Setup) (q : List Entry)
     → queue_after calls ≡ opened s q
     → (slice : List ℕ)
-    → (turn_of (session_after session calls) (length slice)).answer ≡ Accepted
+    → (turn_of (session_after session calls) (length slice)).answer ≡ Ok tt
     → TurnDone s q slice (result_of (session_after session calls) slice)

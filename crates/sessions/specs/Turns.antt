@@ -1,6 +1,5 @@
 -- A turn: what it takes and passes over, the plan, the writes, and the queue afterwards. And n turns, one after another.
-use Rattle.std.specs.Prelude.{List, [], ◌∷◌, ◌++◌, map, Bool, ℕ, zero, suc, ◌+◌, ◌*◌, length}
-use Rattle.std.proofs.Math.Option.{none, some}
+use Rattle.std.specs.Prelude.{List, [], ◌∷◌, ◌++◌, map, Bool, ℕ, zero, suc, ◌+◌, ◌*◌, length, None, Some}
 use Rattle.requests.specs.declared.Setup.{Setup}
 use Rattle.requests.specs.declared.Request.{Request}
 use Rattle.requests.specs.declared.Entry.{Entry}
@@ -32,7 +31,7 @@ turned s q = passed s q ++ taken s q
 
 -- the first plan of the entries
 unfoldable pub places_of : Setup → List Entry → List Place
-places_of s es = elim (first_plan s (requests_of es)) [ none ↦ [] | some ps ↦ ps ]
+places_of s es = elim (first_plan s (requests_of es)) [ None ↦ [] | Some ps ↦ ps ]
 
 -- each entry's id with its place
 unfoldable pub assign : List Entry → List Place → List Assigned

@@ -1,7 +1,7 @@
 -- The answer and the output of a piece or end, by the rows of its table: after the end, without room, with room. Assumes nothing.
+use Rattle.std.specs.Prelude.{None, Some, Ok}
 use mathlib.Core.Bool.{Bool, true, false}
 use mathlib.Core.List.{List, ◌++◌}
-use mathlib.Core.Option.{none, some}
 use mathlib.Core.Path.{◌≡◌, refl, sym, ◌∙◌}
 use Prim.Native.Nat.{ℕ}
 use native.Mathlib.Omega.{arith}
@@ -9,7 +9,6 @@ use lib.Dec.{ltb}
 use lib.ListN.{length, drop}
 use Rattle.requests.specs.declared.Refusal.{Refusal}
 use Rattle.requests.specs.declared.Refusal.TheVariants.{CallOrder, SliceTooShort}
-use Rattle.requests.specs.declared.Answer.TheVariants.{Accepted}
 use Rattle.requests.proofs.FirstHolding.{holds, skips, ends}
 use Rattle.streams.specs.Feeds.{feed_table, feed_refusal, refused_feed, feed_answer, feed_out}
 use Rattle.streams.specs.declared.PieceFeed.{PieceFeed}
@@ -18,26 +17,26 @@ use Rattle.streams.specs.declared.PieceAnswered.{PieceAnswered}
 -- ---- the refusal
 
 module _ (s : PieceFeed) (answers : List ℕ) (room : ℕ) where
-  refusal_ended : s.ended ≡ true → feed_refusal s answers room ≡ some CallOrder
+  refusal_ended : s.ended ≡ true → feed_refusal s answers room ≡ Some CallOrder
   unfolding feed_refusal feed_table
   refusal_ended e = holds _ _ e
 
-  refusal_short : s.ended ≡ false → ltb room (length answers) ≡ true → feed_refusal s answers room ≡ some SliceTooShort
+  refusal_short : s.ended ≡ false → ltb room (length answers) ≡ true → feed_refusal s answers room ≡ Some SliceTooShort
   unfolding feed_refusal feed_table
   refusal_short e h = skips _ _ e ∙ holds _ _ h
 
-  refusal_none : s.ended ≡ false → ltb room (length answers) ≡ false → feed_refusal s answers room ≡ none
+  refusal_none : s.ended ≡ false → ltb room (length answers) ≡ false → feed_refusal s answers room ≡ None
   unfolding feed_refusal feed_table
   refusal_none e h = skips _ _ e ∙ skips _ _ h ∙ ends
 
 -- ---- the answer
 
 module _ (s : PieceFeed) (answers : List ℕ) (next : PieceFeed) (room : ℕ) where
-  answer_refused : (x : Refusal) → feed_refusal s answers room ≡ some x → feed_answer s answers next room ≡ refused_feed s x
+  answer_refused : (x : Refusal) → feed_refusal s answers room ≡ Some x → feed_answer s answers next room ≡ refused_feed s x
   unfolding feed_answer
   answer_refused x e = rw (e, feed_answer)
 
-  answer_none : feed_refusal s answers room ≡ none → feed_answer s answers next room ≡ record { answer = Accepted; state = next; written = length answers }
+  answer_none : feed_refusal s answers room ≡ None → feed_answer s answers next room ≡ record { answer = Ok tt; state = next; written = length answers }
   unfolding feed_answer
   answer_none e = rw (e, feed_answer)
 
@@ -51,17 +50,17 @@ module _ (s : PieceFeed) (answers : List ℕ) (next : PieceFeed) (room : ℕ) wh
 
   -- with room
   pub answer_fits : s.ended ≡ false → ltb room (length answers) ≡ false
-      → feed_answer s answers next room ≡ record { answer = Accepted; state = next; written = length answers }
+      → feed_answer s answers next room ≡ record { answer = Ok tt; state = next; written = length answers }
   answer_fits e h = answer_none (refusal_none s answers room e h)
 
   -- only with room
-  pub accepted_fits : (feed_answer s answers next room).answer ≡ Accepted → (s.ended ≡ false) × (ltb room (length answers) ≡ false)
+  pub accepted_fits : (feed_answer s answers next room).answer ≡ (Ok tt) → (s.ended ≡ false) × (ltb room (length answers) ≡ false)
   unfolding refused_feed
   accepted_fits given = go s.ended refl (ltb room (length answers)) refl
     where
       go : (e : Bool) → s.ended ≡ e → (t : Bool) → ltb room (length answers) ≡ t → (s.ended ≡ false) × (ltb room (length answers) ≡ false)
-      go true e t h = let r : (refused_feed s CallOrder).answer ≡ Accepted = rw (answer_ended e) at given in let z : ◌≡◌ {A = ℕ} 0 1 = cc in absurd (omega arith)
-      go false e true h = let r : (refused_feed s SliceTooShort).answer ≡ Accepted = rw (answer_short e h) at given in let z : ◌≡◌ {A = ℕ} 0 1 = cc in absurd (omega arith)
+      go true e t h = let r : (refused_feed s CallOrder).answer ≡ (Ok tt) = rw (answer_ended e) at given in let z : ◌≡◌ {A = ℕ} 0 1 = cc in absurd (omega arith)
+      go false e true h = let r : (refused_feed s SliceTooShort).answer ≡ (Ok tt) = rw (answer_short e h) at given in let z : ◌≡◌ {A = ℕ} 0 1 = cc in absurd (omega arith)
       go false e false h = (e, h)
 
 -- ---- the output
@@ -92,5 +91,5 @@ module _ (s : PieceFeed) (answers : List ℕ) (next : PieceFeed) (out : List ℕ
 
   pub with_room : {n : ℕ} {state : PieceFeed} {after : List ℕ} → s.ended ≡ false → ltb (length out) (length answers) ≡ false
       → n ≡ length answers → state ≡ next → after ≡ answers ++ drop (length answers) out
-      → (◌≡◌ {A = PieceAnswered} (record { answer = Accepted; state = state; written = n }) (feed_answer s answers next (length out))) × (after ≡ feed_out s answers out)
+      → (◌≡◌ {A = PieceAnswered} (record { answer = Ok tt; state = state; written = n }) (feed_answer s answers next (length out))) × (after ≡ feed_out s answers out)
   with_room e h count is text = (rw (count, is) (sym (answer_fits s answers next (length out) e h)), text ∙ sym (out_fits s answers out e h))

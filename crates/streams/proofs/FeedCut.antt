@@ -1,5 +1,6 @@
 -- Pieces give together what one piece of the accepted texts joined gives: by induction on the pieces, with the laws of the stream on two. Assumes
 -- nothing.
+use Rattle.std.specs.Prelude.{Ok}
 use mathlib.Core.Bool.{Bool, true, false}
 use mathlib.Core.List.{List, [], ◌∷◌, ◌++◌}
 use mathlib.Core.Path.{◌≡◌, refl, sym, ap, ◌∙◌}
@@ -9,7 +10,6 @@ use borrow.Author.Tests.{le-ltb}
 use lib.Dec.{ltb}
 use lib.ListN.{length, take, drop}
 use lib.Seq.{take_at}
-use Rattle.requests.specs.declared.Answer.TheVariants.{Accepted}
 use Rattle.requests.specs.declared.Refusal.TheVariants.{SliceTooShort}
 use Rattle.names.specs.Lists.{NameLists}
 use Rattle.streams.specs.Stream.{line_start, feed_start, feed_state, feed_text, end_text, transcript}
@@ -37,7 +37,7 @@ module _ (n : NameLists) where
     abbrev unfit : Bool
     unfit = ltb (length l.out) (length (feed_text n s.feed l.text))
 
-    answer_taken : unfit ≡ false → answered n s l ≡ record { answer = Accepted; state = piece_state n s l.text; written = length (feed_text n s.feed l.text) }
+    answer_taken : unfit ≡ false → answered n s l ≡ record { answer = Ok tt; state = piece_state n s l.text; written = length (feed_text n s.feed l.text) }
     unfolding answered piece_of
     answer_taken h = answer_fits s (feed_text n s.feed l.text) (piece_state n s l.text) (length l.out) e h
 
@@ -99,7 +99,7 @@ module _ (n : NameLists) where
       (ap (λ (t : PieceFeed). feed_text n s.feed (taken_text n s l) ++ feed_text n t.feed (text_of n (answered n s l).state rest)) (one_state s l e))
 
   at_once : (s : PieceFeed) (ls : List Lent) (out : List ℕ) → s.ended ≡ false → length (output_of n s ls) ≤ length out
-      → (piece_of n s (text_of n s ls) (length out) ≡ record { answer = Accepted; state = state_after n s ls; written = length (output_of n s ls) })
+      → (piece_of n s (text_of n s ls) (length out) ≡ record { answer = Ok tt; state = state_after n s ls; written = length (output_of n s ls) })
       × (piece_out n s (text_of n s ls) out ≡ output_of n s ls ++ drop (length (output_of n s ls)) out)
   unfolding piece_of piece_out
   at_once s ls out e fits =
@@ -118,7 +118,7 @@ module _ (n : NameLists) where
 -- ---- with the end
 
 -- what an accepted end gives
-end_text_lem : (s : PieceFeed) (out : List ℕ) → (end_of s (length out)).answer ≡ Accepted → take (end_of s (length out)).written (end_out s out) ≡ end_text s.feed
+end_text_lem : (s : PieceFeed) (out : List ℕ) → (end_of s (length out)).answer ≡ (Ok tt) → take (end_of s (length out)).written (end_out s out) ≡ end_text s.feed
 unfolding end_of end_out
 end_text_lem s out given =
     let f = accepted_fits s (end_text s.feed) (end_state s) (length out) given in
@@ -131,7 +131,7 @@ unfolding end_of end_state line_start
 end_session s room = either_state s (end_text s.feed) (end_state s) (λ (t : PieceFeed). t.feed.session ≡ s.feed.session) room refl (λ e. refl)
 
 module _ (n : NameLists) where
-  output : (ls : List Lent) (out : List ℕ) → (end_of (state_after n new_feed ls) (length out)).answer ≡ Accepted
+  output : (ls : List Lent) (out : List ℕ) → (end_of (state_after n new_feed ls) (length out)).answer ≡ Ok tt
       → output_of n new_feed ls ++ take (end_of (state_after n new_feed ls) (length out)).written (end_out (state_after n new_feed ls) out)
       ≡ transcript n (text_of n new_feed ls)
   unfolding transcript new_feed piece_state

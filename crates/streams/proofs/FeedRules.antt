@@ -1,4 +1,5 @@
 -- What a piece and the end are refused with, write and leave, by the cases of their answer. Assumes nothing.
+use Rattle.std.specs.Prelude.{Ok}
 use mathlib.Core.Bool.{Bool, true, false}
 use mathlib.Core.List.{List}
 use mathlib.Core.Path.{◌≡◌, refl, sym, ap}
@@ -8,7 +9,6 @@ use lib.Dec.{ltb}
 use lib.ListN.{length}
 use Rattle.requests.specs.Refusals.{number_of, answer_number}
 use Rattle.requests.specs.Faults.{field_of, answer_field, no_fields}
-use Rattle.requests.specs.declared.Answer.TheVariants.{Accepted}
 use Rattle.streams.specs.Stream.{feed_text, end_text}
 use Rattle.streams.specs.Feeds.{new_feed, refused_feed, feed_answer, feed_out, piece_state, piece_of, piece_out, end_state, end_of, end_out}
 use Rattle.streams.specs.FeedRules.{Ruled, FeedRules}
@@ -40,7 +40,7 @@ module _ (s : PieceFeed) (answers : List ℕ) (next : PieceFeed) where
       (λ e h. rw (answer_short s answers next room e h) p)
       (λ e h. rw (answer_fits s answers next room e h) (q e))
 
-  pub accepted_state : (room : ℕ) → (feed_answer s answers next room).answer ≡ Accepted → (feed_answer s answers next room).state ≡ next
+  pub accepted_state : (room : ℕ) → (feed_answer s answers next room).answer ≡ (Ok tt) → (feed_answer s answers next room).state ≡ next
   accepted_state room given = let f = accepted_fits s answers next room given in rw (answer_fits s answers next room f.0 f.1)
 
   at_field_0 : (room : ℕ) → answer_field (feed_answer s answers next room).answer no_fields ≡ 0
@@ -67,7 +67,7 @@ module _ (s : PieceFeed) (answers : List ℕ) (next : PieceFeed) where
             (rw (answer_fits s answers next (length out) f.0 f.1), out_fits s answers out f.0 f.1);
       }
     where
-      go : ((feed_answer s answers next (length out)).answer ≡ Accepted → ⊥) → (e : Bool) → s.ended ≡ e → (t : Bool) → ltb (length out) (length answers) ≡ t
+      go : ((feed_answer s answers next (length out)).answer ≡ (Ok tt) → ⊥) → (e : Bool) → s.ended ≡ e → (t : Bool) → ltb (length out) (length answers) ≡ t
           → ((feed_answer s answers next (length out)).state ≡ s) × ((feed_answer s answers next (length out)).written ≡ 0) × (feed_out s answers out ≡ out)
       go other true e t h = rw (answer_ended s answers next (length out) e, out_ended s answers out e) (refl, refl, refl)
       go other false e true h = rw (answer_short s answers next (length out) e h, out_short s answers out e h) (refl, refl, refl)

@@ -1,5 +1,6 @@
 -- The stream answers each line as `answerLine` does: the bytes that it keeps of a line are those that are read of a line.
 --     line-reply     the reply to bytes without a newline, once they are closed by one
+use Rattle.std.specs.Prelude.{Err}
 use mathlib.Core.Path.{◌≡◌, refl, ap, sym, subst, ◌∙◌}
 use mathlib.Core.Logic.{◌≢◌}
 use mathlib.Core.Bool.{true, false}
@@ -12,7 +13,6 @@ use lib.ListN.{length, get_or, take, drop, replicate, length-append, length-take
 use lib.Seq.{take_all, take_at, get_or_at, sets, sets-eq}
 use borrow.Author.Tests.{lt-ltb, eq-eqb, ne_eqb}
 use Rattle.requests.specs.declared.Refusal.TheVariants.{NotInGrammar}
-use Rattle.requests.specs.declared.Answer.TheVariants.{Refused}
 use Rattle.requests.specs.declared.Device.{Device}
 use Rattle.requests.specs.Choice.{either}
 use Rattle.requests.proofs.Tests.{either_true}
@@ -155,11 +155,11 @@ module _ (n : NameLists) (s : Session) (text : List ℕ) (free : NewlineFree tex
   unfolding unclosed
   kept_open = rw (kept_session s text, kept_front s text, kept_long s text)
 
-  ended : text ≢ [] → (m : NameLists) (d : Device) → end_text (feed_state n (line_start s) text) ≡ answer_text (Refused NotInGrammar) (fault_at (parse_line_with m d text))
+  ended : text ≢ [] → (m : NameLists) (d : Device) → end_text (feed_state n (line_start s) text) ≡ answer_text (Err NotInGrammar) (fault_at (parse_line_with m d text))
   unfolding end_text unfinished
   ended some m d =
       rw (kept_run n (line_start s) text free, lt-ltb 0 (after_run (line_start s) text).used (begun some), either_true (after_run (line_start s) text).long)
-      (ap (λ (p : Parsed). answer_text (Refused NotInGrammar) (fault_at p)) (kept_open ∙ open_fault text free no_names m s.setup.device d))
+      (ap (λ (p : Parsed). answer_text (Err NotInGrammar) (fault_at p)) (kept_open ∙ open_fault text free no_names m s.setup.device d))
 
 pub line_by_line : LineByLine
 line_by_line n s text free =

@@ -1,4 +1,5 @@
 -- A line too long is no record, whatever its first 80 bytes are. Assumes nothing.
+use Rattle.std.specs.Prelude.{Err}
 use mathlib.Core.Path.{◌≡◌, refl, ap, ◌∙◌}
 use mathlib.Core.Logic.{◌≢◌}
 use mathlib.Core.Bool.{Bool, true}
@@ -11,7 +12,6 @@ use borrow.Author.Tests.{lt-ltb}
 use Rattle.requests.specs.declared.Device.{Device}
 use Rattle.requests.specs.declared.Device.TheVariants.{G}
 use Rattle.requests.specs.declared.Refusal.TheVariants.{NotInGrammar}
-use Rattle.requests.specs.declared.Answer.TheVariants.{Refused}
 use Rattle.requests.specs.Refusals.{answer_for}
 use Rattle.sessions.specs.declared.Session.{Session}
 use Rattle.grammar.specs.Text.{newline}
@@ -43,13 +43,13 @@ long_line n d text long =
     let f = long_text n d (take longest text) true in
     (f.0, parsed text n d ∙ ap (parse_text_with n d (take longest text) true) over ∙ f.1)
 
-fault_reply : (s : Session) (k : ℕ) → parsed_reply s (Fault k) ≡ record { text = answer_text (Refused NotInGrammar) k; session = s }
+fault_reply : (s : Session) (k : ℕ) → parsed_reply s (Fault k) ≡ record { text = answer_text (Err NotInGrammar) k; session = s }
 unfolding parsed_reply parsed_refusal answer_for
 fault_reply s k = refl
 
 -- so its reply is 1, and leaves the session as it was
 long_reply : (n : NameLists) (s : Session) (text : List ℕ) → 80 < length text
-    → (k : ℕ) × (answer_line n s (text ++ newline ∷ []) ≡ record { text = answer_text (Refused NotInGrammar) k; session = s })
+    → (k : ℕ) × (answer_line n s (text ++ newline ∷ []) ≡ record { text = answer_text (Err NotInGrammar) k; session = s })
 unfolding answer_line
 long_reply n s text long = let f = long_line n s.setup.device text long in (f.0, ap (parsed_reply s) f.1 ∙ fault_reply s f.0)
 

@@ -1,4 +1,5 @@
 -- A line without its newline is outside the grammar, so that its field at fault is the first that breaks it.
+use Rattle.std.specs.Prelude.{Err}
 use mathlib.Core.Path.{◌≡◌, refl, ap, ◌∙◌}
 use mathlib.Core.List.{List, []}
 use Prim.Native.Nat.{ℕ}
@@ -9,7 +10,6 @@ use lib.Seq.{take_all}
 use Rattle.requests.specs.Refusals.{number_of}
 use Rattle.requests.specs.declared.Device.TheVariants.{G}
 use Rattle.requests.specs.declared.Refusal.TheVariants.{NotInGrammar}
-use Rattle.requests.specs.declared.Answer.TheVariants.{Refused}
 use Rattle.grammar.specs.Text.{bytes, decimal_digits, decimal_text}
 use Rattle.grammar.specs.Fields.{fields}
 use Rattle.grammar.specs.Parse.{longest, text_length}
@@ -31,7 +31,7 @@ no_rows : AreLists no_names
 unfolding list_text
 no_rows = (record { rows = []; fit = empty; is = refl }, record { rows = []; fit = empty; is = refl })
 
-refused_text : (k : ℕ) → answer_text (Refused NotInGrammar) (fault_at (Fault k)) ≡ refused_at k
+refused_text : (k : ℕ) → answer_text (Err NotInGrammar) (fault_at (Fault k)) ≡ refused_at k
 unfolding answer_text fault_at number_of decimal_text decimal_digits bytes
 refused_text k = refl
 
@@ -68,6 +68,6 @@ unfinished_lines =
       breaks = breaks;
       answered = λ n s text free some k b.
           (line_by_line n s text free).ended some no_names G
-          ∙ ap (λ (p : Parsed). answer_text (Refused NotInGrammar) (fault_at p)) (only text free k b)
+          ∙ ap (λ (p : Parsed). answer_text (Err NotInGrammar) (fault_at p)) (only text free k b)
           ∙ refused_text k;
     }

@@ -1,6 +1,5 @@
 -- Document 02, order 13: texts in pieces, and what each call answers and leaves in its output.
-use Rattle.std.specs.Prelude.{◌≡◌, List, [], ◌∷◌, ◌++◌, map, ℕ, ◌-◌, length, replicate}
-use Rattle.std.proofs.Math.Option.{Option, none, some}
+use Rattle.std.specs.Prelude.{◌≡◌, List, [], ◌∷◌, ◌++◌, map, ℕ, ◌-◌, length, replicate, Option, None, Some}
 use Rattle.requests.specs.Refusals.{answer_number}
 use Rattle.grammar.specs.Examples.{tabbed, typed}
 use Rattle.streams.specs.Stream.{no_names}
@@ -36,11 +35,11 @@ pub record FeedTry : Type 0 where
 
 -- accepted, with these answers to lines at the start of the output
 unfoldable pub ok : ℕ → List ℕ → Said
-ok room answers = record { refused = none; output = answers ++ replicate (room - length answers) 35 }
+ok room answers = record { refused = None; output = answers ++ replicate (room - length answers) 35 }
 
 -- refused, with the output as it was
 unfoldable pub no : ℕ → ℕ → Said
-no room number = record { refused = some number; output = lent room }
+no room number = record { refused = Some number; output = lent room }
 
 -- n times the letter A
 unfoldable pub letters : ℕ → List ℕ

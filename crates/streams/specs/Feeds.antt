@@ -1,10 +1,8 @@
 -- Document 02, order 13: a text in pieces of any size, and its declared end, each with a lent output.
-use Rattle.std.specs.Prelude.{true, false, List, [], ◌∷◌, ◌++◌, ℕ, ltb, length, drop}
-use Rattle.std.proofs.Math.Option.{Option, none, some}
+use Rattle.std.specs.Prelude.{true, false, List, [], ◌∷◌, ◌++◌, ℕ, ltb, length, drop, Option, None, Some, Ok, Err}
 use Rattle.requests.specs.Choice.{Row, first_holding}
 use Rattle.requests.specs.declared.Refusal.{Refusal}
 use Rattle.requests.specs.declared.Refusal.TheVariants.{CallOrder, SliceTooShort}
-use Rattle.requests.specs.declared.Answer.TheVariants.{Accepted, Refused}
 use Rattle.names.specs.Lists.{NameLists}
 use Rattle.streams.specs.Stream.{line_start, feed_start, feed_state, feed_text, end_text}
 use Rattle.streams.specs.declared.PieceFeed.{PieceFeed}
@@ -24,19 +22,19 @@ feed_refusal s answers room = first_holding (feed_table s answers room)
 
 -- a refusal changes nothing
 unfoldable pub refused_feed : PieceFeed → Refusal → PieceAnswered
-refused_feed s x = record { answer = Refused x; state = s; written = 0 }
+refused_feed s x = record { answer = Err x; state = s; written = 0 }
 
 -- what is answered, where an accepted call leaves the next state
 unfoldable pub feed_answer : PieceFeed → List ℕ → PieceFeed → ℕ → PieceAnswered
 feed_answer s answers next room =
     elim (feed_refusal s answers room) [
-      | none ↦ record { answer = Accepted; state = next; written = length answers }
-      | some x ↦ refused_feed s x
+      | None ↦ record { answer = Ok tt; state = next; written = length answers }
+      | Some x ↦ refused_feed s x
     ]
 
 -- what the output holds afterwards: "Output past the answers stays"
 unfoldable pub feed_out : PieceFeed → List ℕ → List ℕ → List ℕ
-feed_out s answers out = elim (feed_refusal s answers (length out)) [ none ↦ answers ++ drop (length answers) out | some x ↦ out ]
+feed_out s answers out = elim (feed_refusal s answers (length out)) [ None ↦ answers ++ drop (length answers) out | Some x ↦ out ]
 
 -- a piece, with two lists of names
 unfoldable pub piece_state : NameLists → PieceFeed → List ℕ → PieceFeed

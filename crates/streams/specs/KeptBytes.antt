@@ -1,8 +1,7 @@
 -- Document 02, order 13: "keeping of it at most 80 bytes of the unfinished line".
-use Rattle.std.specs.Prelude.{true, false, ◌≡◌, ℕ, ◌-◌, ◌≤◌, ◌<◌, length, take, replicate}
+use Rattle.std.specs.Prelude.{true, false, ◌≡◌, ℕ, ◌-◌, ◌≤◌, ◌<◌, length, take, replicate, Ok}
 use mathlib.Core.List.{List, [], ◌++◌, flat_map}
 use Rattle.plans.specs.Lists.{All}
-use Rattle.requests.specs.declared.Answer.TheVariants.{Accepted}
 use Rattle.names.specs.Lists.{NameLists}
 use Rattle.streams.specs.Stream.{NewlineFree, feed_start, feed_state}
 use Rattle.streams.specs.Transcript.{closed}
@@ -28,7 +27,7 @@ pub record KeptBytes : Type 0 where
   pub piece : (n : NameLists) (s : PieceFeed) (text : List ℕ) (room : ℕ) → Keeps80 s.feed → Keeps80 (piece_of n s text room).state.feed
   pub end : (s : PieceFeed) (room : ℕ) → Keeps80 s.feed → Keeps80 (end_of s room).state.feed
   -- after the end nothing is
-  pub after_end : (s : PieceFeed) (room : ℕ) → (end_of s room).answer ≡ Accepted → Holds [] (end_of s room).state.feed
+  pub after_end : (s : PieceFeed) (room : ℕ) → (end_of s room).answer ≡ (Ok tt) → Holds [] (end_of s room).state.feed
   -- after lines and the beginning of another, what is held is that beginning
   pub holds : (n : NameLists) (texts : List (List ℕ)) (rest : List ℕ) → All NewlineFree texts → NewlineFree rest
       → Holds rest (feed_state n feed_start (flat_map closed texts ++ rest))

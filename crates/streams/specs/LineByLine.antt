@@ -1,7 +1,6 @@
 -- The stream answers each line as `answerLine` does.
-use Rattle.std.specs.Prelude.{◌≡◌, ◌≢◌, List, [], ◌∷◌, ◌++◌, ℕ}
+use Rattle.std.specs.Prelude.{◌≡◌, ◌≢◌, List, [], ◌∷◌, ◌++◌, ℕ, Err}
 use Rattle.requests.specs.declared.Refusal.TheVariants.{NotInGrammar}
-use Rattle.requests.specs.declared.Answer.TheVariants.{Refused}
 use Rattle.sessions.specs.declared.Session.{Session}
 use Rattle.grammar.specs.Text.{newline}
 use Rattle.requests.specs.declared.Device.{Device}
@@ -20,7 +19,7 @@ pub record LineAnswered (n : NameLists) (s : Session) (text : List ℕ) : Type 0
   pub silent : feed_text n (line_start s) text ≡ []
   -- where the input ends without it, they are answered 1, at the field where they break the grammar as a line without its newline, whatever the
   -- lists and the device, unless there are none
-  pub ended : text ≢ [] → (m : NameLists) (d : Device) → end_text (feed_state n (line_start s) text) ≡ answer_text (Refused NotInGrammar) (fault_at (parse_line_with m d text))
+  pub ended : text ≢ [] → (m : NameLists) (d : Device) → end_text (feed_state n (line_start s) text) ≡ answer_text (Err NotInGrammar) (fault_at (parse_line_with m d text))
   pub empty : end_text (line_start s) ≡ []
 
 abbrev pub LineByLine : Type 0

@@ -1,8 +1,7 @@
 -- The line program as a fold over bytes: the state after each byte, and the text that it gives, with two lists of names.
-use Rattle.std.specs.Prelude.{Bool, true, false, ℕ, ◌+◌, ltb, eqb, take, set, replicate}
+use Rattle.std.specs.Prelude.{Bool, true, false, ℕ, ◌+◌, ltb, eqb, take, set, replicate, Err}
 use mathlib.Core.List.{List, [], ◌∷◌, ◌++◌, Memᴰ}
 use Rattle.requests.specs.declared.Refusal.TheVariants.{NotInGrammar}
-use Rattle.requests.specs.declared.Answer.TheVariants.{Refused}
 use Rattle.requests.specs.Choice.{either, pick}
 use Rattle.sessions.specs.declared.Session.{Session}
 use Rattle.sessions.specs.Sessions.{new_session}
@@ -78,7 +77,7 @@ fault_at (Fault k) = k
 -- at the end of the input a line without its newline is not in the grammar; "the number of fields where the record stops too soon or the newline is
 -- missing"
 unfoldable pub end_text : Feed → List ℕ
-end_text f = pick (unfinished f) (answer_text (Refused NotInGrammar) (fault_at (unclosed f))) []
+end_text f = pick (unfinished f) (answer_text (Err NotInGrammar) (fault_at (unclosed f))) []
 
 -- the reply to the end of the input
 unfoldable pub end_reply : Feed → Reply

@@ -1,9 +1,8 @@
 -- The whole output of a whole input: the replies to its lines, one after another, each in the session that the last one left, with the same two
 -- lists of names.
-use Rattle.std.specs.Prelude.{◌≡◌, ℕ}
+use Rattle.std.specs.Prelude.{◌≡◌, ℕ, Err}
 use mathlib.Core.List.{List, [], ◌∷◌, ◌++◌, map, flat_map}
 use Rattle.requests.specs.declared.Refusal.TheVariants.{NotInGrammar}
-use Rattle.requests.specs.declared.Answer.TheVariants.{Refused}
 use Rattle.plans.specs.Lists.{All}
 use Rattle.sessions.specs.declared.Session.{Session}
 use Rattle.sessions.specs.Calls.{Call}
@@ -29,7 +28,7 @@ replies_to n s (text ∷ texts) = (answer_line n s (closed text)).text ++ replie
 -- not answered
 unfoldable pub at_end : List ℕ → List ℕ
 at_end [] = []
-at_end (b ∷ bs) = answer_text (Refused NotInGrammar) (fault_at (parse_line_with no_names G (b ∷ bs)))
+at_end (b ∷ bs) = answer_text (Err NotInGrammar) (fault_at (parse_line_with no_names G (b ∷ bs)))
 
 -- the calls of lines
 abbrev pub calls_of : NameLists → List (List ℕ) → List Call
