@@ -1,8 +1,8 @@
 // What a session may ask for the overflow of a counter.
 ghost use Rattle.std.specs.Prelude.{◌≡◌};
-ghost use Rattle.requests.specs.Askings.{overflow_on, core_count, unasked, core_given, asks, asked, overflow_not_on, core_fits, overflow_fits};
+ghost use Rattle.requests.specs.Askings.{overflow_on, unasked, asks, asked, overflow_not_on, overflow_fits};
 
-use requests::{Core, Device, Overflow, Setup};
+use requests::{Device, Overflow, Setup};
 
 // The cores that the field of the interrupt has a bit for.
 pub const CORE_COUNT: u64 = 8;
@@ -12,12 +12,7 @@ pub const CORE_COUNT: u64 = 8;
 pub fn overflow_on(d: Device) -> bool
     ensures { result ≡ overflow_on d }
 {
-    match d {
-        Device::G => false,
-        Device::S => true,
-        Device::C(_) => true,
-        Device::B => false,
-    }
+    matches!(d, Device::S | Device::C(_))
 }
 
 // Nothing is asked.
@@ -27,31 +22,16 @@ pub fn unasked() -> Overflow
 {
     Overflow {
         freeze: 0,
-        core: Core::NoCore,
-    }
-}
-
-// Whether a core is given.
-#[tactic(auto, unfolding(requests::specs::Askings::core_given))]
-fn core_given(core: Core) -> bool
-    ensures { result ≡ core_given core }
-{
-    match core {
-        Core::NoCore => false,
-        Core::At(_) => true,
+        core: None,
     }
 }
 
 // Whether something is asked.
-#[tactic(auto, unfolding(requests::specs::Askings::asks, requests::specs::Choice::either))]
+#[tactic(auto, unfolding(requests::specs::Askings::asks, requests::specs::Askings::core_given, requests::specs::Choice::either))]
 pub fn asks(a: Overflow) -> bool
     ensures { result ≡ asks a }
 {
-    if a.freeze == 0 {
-        let core = a.core;
-        return core_given(core);
-    }
-    true
+    a.freeze != 0 || a.core.is_some()
 }
 
 // Whether a session asks something of the U-Box.
@@ -59,12 +39,7 @@ pub fn asks(a: Overflow) -> bool
 pub fn asked(setup: Setup) -> bool
     ensures { result ≡ asked setup }
 {
-    let device = setup.device;
-    if overflow_on(device) {
-        let overflow = setup.overflow;
-        return asks(overflow);
-    }
-    false
+    overflow_on(setup.device) && asks(setup.overflow)
 }
 
 // Whether something is asked that the device does not do.
@@ -72,31 +47,13 @@ pub fn asked(setup: Setup) -> bool
 pub fn overflow_not_on(d: Device, a: Overflow) -> bool
     ensures { result ≡ overflow_not_on d a }
 {
-    if asks(a) {
-        return !overflow_on(d);
-    }
-    false
+    asks(a) && !overflow_on(d)
 }
 
-// Whether a core that is given fits the field.
-#[tactic(auto, unfolding(requests::specs::Askings::core_fits, requests::specs::Askings::core_count))]
-fn core_fits(core: Core) -> bool
-    ensures { result ≡ core_fits core }
-{
-    match core {
-        Core::NoCore => true,
-        Core::At(number) => number < CORE_COUNT,
-    }
-}
-
-// Whether what is asked is in range.
-#[tactic(auto, unfolding(requests::specs::Askings::overflow_fits, requests::specs::Choice::both))]
+// Whether what is asked is in range: the freeze, and a core that is given.
+#[tactic(auto, unfolding(requests::specs::Askings::overflow_fits, requests::specs::Askings::core_fits, requests::specs::Askings::core_count, requests::specs::Choice::both))]
 pub fn overflow_fits(a: Overflow) -> bool
     ensures { result ≡ overflow_fits a }
 {
-    if a.freeze <= 1 {
-        let core = a.core;
-        return core_fits(core);
-    }
-    false
+    a.freeze <= 1 && a.core.is_none_or(|core| core < CORE_COUNT)
 }

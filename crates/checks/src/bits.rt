@@ -30,6 +30,7 @@ pub const MATCH: u64 = 0xFFFF_FFFF_FFFF_FFFF;
 pub const MASK: u64 = 0x0000_007F_FFFF_FFFF;
 
 // Whether the word has a bit of the mask.
+#[tactic(auto, using(requests::proofs::MaskTests::any_by_mask))]
 pub fn any_bit(mask: u64, word: u64) -> bool
     ensures { result ≡ any_bit (bits_of mask) word }
 {
@@ -37,6 +38,7 @@ pub fn any_bit(mask: u64, word: u64) -> bool
 }
 
 // Whether the word has no bit outside the mask.
+#[tactic(auto, using(requests::proofs::MaskTests::only_by_mask))]
 pub fn only_bits(mask: u64, word: u64) -> bool
     ensures { result ≡ only_bits (bits_of mask) word }
 {
@@ -48,8 +50,10 @@ pub fn only_bits(mask: u64, word: u64) -> bool
 pub fn latency_word(register: u64, types: u16) -> u64
     ensures { result ≡ latency_word register types }
 {
-    if register == 0 {
-        return types as u64 + OUTSTANDING;
-    }
-    types as u64 + ANY_RESPONSE
+    let answer = if register == 0 {
+        OUTSTANDING
+    } else {
+        ANY_RESPONSE
+    };
+    u64::from(types) + answer
 }

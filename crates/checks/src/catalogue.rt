@@ -1,137 +1,68 @@
 // What a catalogue lists of an event.
-ghost use Rattle.std.specs.Prelude.{◌≡◌, map, eqb};
-ghost use Rattle.requests.specs.Choice.{either};
-ghost use Rattle.requests.specs.CBoxEvents.{cbox_events};
-ghost use Rattle.requests.specs.Lookup.{row_of, listing_of};
-ghost use Rattle.requests.specs.ByCode.{table_of, found_in, listed_by};
+ghost use Rattle.std.specs.Prelude.{◌≡◌, ℕ};
+ghost use Rattle.requests.specs.Lookup.{listing_of};
+ghost use Rattle.checks.specs.RuleMasks.{listed_with};
 
-use crate::cbox_events::row_of;
-use crate::mask_rules::lists;
-use crate::sbox_events::{S_EVENTS, row_at};
+use crate::cbox_events::rule_on_cbox;
+use crate::mask_rules::MaskRule;
+use crate::sbox_events::rule_on_sbox;
 use requests::{Device, Listing};
 
-// The look-up on S, row by row: the rows stand in any order.
-#[tactic(auto, unfolding(requests::specs::Lookup::rows_of, requests::specs::Catalogue::events_of))]
-fn row_by_row(code: u8, mask: u8) -> Listing
-    ensures { result ≡ listing_of Device.S code mask }
-{
-    let mut listed = false;
-    let mut i = 0;
-    while i < S_EVENTS.len() {
-        let row = row_at(i);
-        i += 1;
-        if row / 16 == code as u16 {
-            if lists(row, mask) {
-                return Listing {
-                    code: true,
-                    pair: true,
-                };
-            }
-            listed = true;
-        }
-    }
-    Listing {
-        code: listed,
-        pair: false,
-    }
-}
+// What is listed of a code that the catalogue does not have.
+pub const UNLISTED: Listing = Listing {
+    code: false,
+    pair: false,
+};
 
-// Whether the mask is one of two.
-#[tactic(auto, unfolding(requests::specs::Choice::either))]
-fn is_either(mask: u8, first: u8, second: u8) -> bool
-    ensures { result ≡ either (eqb mask first) (eqb mask second) }
-{
-    if mask == first {
-        return true;
-    }
-    mask == second
-}
-
-// The look-up on G, by the code: a host that lends its records has it made for each of them at each call.
-#[tactic(auto, unfolding(requests::specs::Lookup::listing_of, requests::specs::Catalogue::events_of, requests::specs::Catalogue::architectural_events, requests::specs::Catalogue::code_in, requests::specs::Catalogue::pair_in, requests::specs::MaskRules::allows, requests::specs::Choice::both, requests::specs::Choice::either))]
-fn on_core(code: u8, mask: u8) -> Listing
-    ensures { result ≡ listing_of Device.G code mask }
+// The mask rule of a code on G. A host that lends its records has it looked up for each of them at each call.
+#[tactic(auto, unfolding(crate::specs::RuleMasks::listed_with, crate::specs::RuleMasks::rule_in, requests::specs::Bits::in_list, requests::specs::Lookup::listing_of, requests::specs::Catalogue::events_of, requests::specs::Catalogue::architectural_events, requests::specs::Catalogue::code_in, requests::specs::Catalogue::pair_in, requests::specs::MaskRules::allows, requests::specs::Choice::both, requests::specs::Choice::either))]
+fn rule_on_core(code: u8) -> Option<MaskRule>
+    ensures { (m : ℕ) → listed_with result m ≡ listing_of Device.G code m }
 {
     match code {
-        // UnHalted Core Cycles, UnHalted Reference Cycles
-        0x3C => Listing {
-            code: true,
-            pair: is_either(mask, 0x00, 0x01),
-        },
-        // LLC Reference, LLC Misses
-        0x2E => Listing {
-            code: true,
-            pair: is_either(mask, 0x4F, 0x41),
-        },
-        // Instruction Retired
-        0xC0 => Listing {
-            code: true,
-            pair: mask == 0x00,
-        },
-        // Branch Instruction Retired
-        0xC4 => Listing {
-            code: true,
-            pair: mask == 0x00,
-        },
-        // Branch Misses Retired
-        0xC5 => Listing {
-            code: true,
-            pair: mask == 0x00,
-        },
-        _ => Listing {
-            code: false,
-            pair: false,
-        },
+        0x3C => Some(MaskRule::Either(0x00, 0x01)), // UnHalted Core Cycles, UnHalted Reference Cycles
+        0x2E => Some(MaskRule::Either(0x4F, 0x41)), // LLC Reference, LLC Misses
+        0xC0 => Some(MaskRule::Alone(0x00)), // Instruction Retired
+        0xC4 => Some(MaskRule::Alone(0x00)), // Branch Instruction Retired
+        0xC5 => Some(MaskRule::Alone(0x00)), // Branch Misses Retired
+        _ => None,
     }
 }
 
-// The look-up on B: the pairs of G, and the two precise events.
-#[tactic(auto, unfolding(requests::specs::Lookup::listing_of, requests::specs::Catalogue::events_of, requests::specs::Catalogue::architectural_events, requests::specs::Catalogue::precise_events, requests::specs::Catalogue::code_in, requests::specs::Catalogue::pair_in, requests::specs::MaskRules::allows, requests::specs::Choice::both, requests::specs::Choice::either))]
-fn on_precise_core(code: u8, mask: u8) -> Listing
-    ensures { result ≡ listing_of Device.B code mask }
+// The mask rule of a code on B: those of G, and the two precise events.
+#[tactic(auto, unfolding(crate::specs::RuleMasks::listed_with, crate::specs::RuleMasks::rule_in, requests::specs::Bits::in_list, requests::specs::Lookup::listing_of, requests::specs::Catalogue::events_of, requests::specs::Catalogue::architectural_events, requests::specs::Catalogue::precise_events, requests::specs::Catalogue::code_in, requests::specs::Catalogue::pair_in, requests::specs::MaskRules::allows, requests::specs::Choice::both, requests::specs::Choice::either))]
+fn rule_on_precise_core(code: u8) -> Option<MaskRule>
+    ensures { (m : ℕ) → listed_with result m ≡ listing_of Device.B code m }
 {
     match code {
-        // Instruction Retired, INST_RETIRED.ALL
-        0xC0 => Listing {
-            code: true,
-            pair: is_either(mask, 0x00, 0x01),
-        },
-        // MEM_TRANS_RETIRED.PRECISE_STORE
-        0xCD => Listing {
-            code: true,
-            pair: mask == 0x02,
-        },
-        _ => on_core(code, mask),
+        0xC0 => Some(MaskRule::Either(0x00, 0x01)), // Instruction Retired, INST_RETIRED.ALL
+        0xCD => Some(MaskRule::Alone(0x02)), // MEM_TRANS_RETIRED.PRECISE_STORE
+        _ => rule_on_core(code),
     }
 }
 
-// The look-up on C, by the code: one entry of the table is read, and the row in it says what is listed.
-fn on_cbox(code: u8, mask: u8) -> Listing
-    ensures { result ≡ listed_by (found_in (table_of (map row_of cbox_events)) code).row mask }
+// The mask rule that the device's catalogue has for the code.
+fn mask_rule_of(device: Device, code: u8) -> Option<MaskRule>
+    ensures { (m : ℕ) → listed_with result m ≡ listing_of device code m }
 {
-    let row = row_of(code);
-    if row == 0 {
-        return Listing {
-            code: false,
-            pair: false,
-        };
-    }
-    let pair = lists(row, mask);
-    Listing {
-        code: true,
-        pair: pair,
+    match device {
+        Device::G => rule_on_core(code),
+        Device::S => rule_on_sbox(code),
+        Device::C(_) => rule_on_cbox(code),
+        Device::B => rule_on_precise_core(code),
     }
 }
 
 // What the device's catalogue lists of the code and the unit mask.
-#[tactic(auto, unfolding(requests::specs::Lookup::rows_of, requests::specs::Catalogue::events_of))]
+#[tactic(auto, unfolding(crate::specs::RuleMasks::listed_with))]
 pub fn look_up(device: Device, code: u8, mask: u8) -> Listing
     ensures { result ≡ listing_of device code mask }
 {
-    match device {
-        Device::G => on_core(code, mask),
-        Device::S => row_by_row(code, mask),
-        Device::C(_) => on_cbox(code, mask),
-        Device::B => on_precise_core(code, mask),
+    match mask_rule_of(device, code) {
+        Some(rule) => Listing {
+            code: true,
+            pair: rule.lists(mask),
+        },
+        None => UNLISTED,
     }
 }

@@ -1,11 +1,11 @@
 // The devices, and what a session may be opened with.
-ghost use Rattle.std.specs.Prelude.{◌≡◌};
+ghost use Rattle.std.specs.Prelude.{◌≡◌, ◌-◌, ◌^◌, ◌<◌};
 ghost use Rattle.requests.specs.Choice.{first_holding};
 ghost use Rattle.requests.specs.Refusals.{answer_for};
-ghost use Rattle.requests.specs.Devices.{counter_count, all_counters, fixed_count, all_fixed, letter_of, box_count, box_of, devices, packets_on, offcore_on, pairs_judged, usable_set, opens, opening_rows, opened_on, opened_by, opening_of};
+ghost use Rattle.requests.specs.Devices.{counter_count, all_counters, fixed_count, all_fixed, letter_of, box_count, box_of, devices, packets_on, offcore_on, pairs_judged, device_of, usable_set, opens, opening_rows, opened_on, opened_by, opening_of};
 
 use crate::askings::{overflow_fits, overflow_not_on};
-use requests::{Answer, CounterSet, Device, Opened, Opening, Refusal, Setup};
+use requests::{Answer, CounterSet, Device, Opening, Refusal, Setup};
 
 // How many counters the device has.
 #[tactic(auto, unfolding(requests::specs::Devices::counter_count))]
@@ -13,20 +13,25 @@ pub fn counter_count(d: Device) -> u64
     ensures { result ≡ counter_count d }
 {
     match d {
-        Device::G => 4,
-        Device::S => 4,
+        Device::G | Device::S | Device::B => 4,
         Device::C(_) => 6,
-        Device::B => 4,
     }
 }
 
+// The word with as many bits as count, from the lowest on.
+fn low_bits(count: u64) -> u64
+    requires { count < 64 }
+    ensures { result ≡ 2 ^ count - 1 }
+{
+    (1 << count) - 1
+}
+
 // The set of all counters of the device.
-#[tactic(auto, unfolding(requests::specs::Devices::all_counters))]
+#[tactic(auto, unfolding(requests::specs::Devices::all_counters), using(requests::proofs::Openings::counters_fit))]
 pub fn all_counters(d: Device) -> CounterSet
     ensures { result ≡ record { 0 = all_counters d } }
 {
-    let count = counter_count(d);
-    CounterSet((1 << count) - 1)
+    CounterSet(low_bits(counter_count(d)))
 }
 
 // How many fixed counters the device has.
@@ -35,20 +40,17 @@ pub fn fixed_count(d: Device) -> u64
     ensures { result ≡ fixed_count d }
 {
     match d {
-        Device::G => 3,
-        Device::S => 0, // none
-        Device::C(_) => 0, // none
-        Device::B => 3,
+        Device::G | Device::B => 3,
+        Device::S | Device::C(_) => 0,
     }
 }
 
 // The enables of all fixed counters of the device.
-#[tactic(auto, unfolding(requests::specs::Devices::all_fixed))]
+#[tactic(auto, unfolding(requests::specs::Devices::all_fixed, requests::specs::Devices::fixed_count))]
 pub fn all_fixed(d: Device) -> u64
     ensures { result ≡ all_fixed d }
 {
-    let count = fixed_count(d);
-    (1 << count) - 1
+    low_bits(fixed_count(d))
 }
 
 // The code of the device's letter.
@@ -56,12 +58,13 @@ pub fn all_fixed(d: Device) -> u64
 pub fn letter_of(d: Device) -> u64
     ensures { result ≡ letter_of d }
 {
-    match d {
-        Device::G => b'G' as u64,
-        Device::S => b'S' as u64,
-        Device::C(_) => b'C' as u64,
-        Device::B => b'B' as u64,
-    }
+    let letter = match d {
+        Device::G => b'G',
+        Device::S => b'S',
+        Device::C(_) => b'C',
+        Device::B => b'B',
+    };
+    u64::from(letter)
 }
 
 // How many boxes the device has.
@@ -70,10 +73,8 @@ pub fn box_count(d: Device) -> u64
     ensures { result ≡ box_count d }
 {
     match d {
-        Device::G => 1,
-        Device::S => 1,
+        Device::G | Device::S | Device::B => 1,
         Device::C(_) => 8,
-        Device::B => 1,
     }
 }
 
@@ -83,10 +84,8 @@ pub fn box_of(d: Device) -> u64
     ensures { result ≡ box_of d }
 {
     match d {
-        Device::G => 0,
-        Device::S => 0,
         Device::C(number) => number,
-        Device::B => 0,
+        Device::G | Device::S | Device::B => 0,
     }
 }
 
@@ -103,12 +102,7 @@ pub fn devices(cbox: u64) -> [Device; 4]
 pub fn packets_on(d: Device) -> bool
     ensures { result ≡ packets_on d }
 {
-    match d {
-        Device::G => false,
-        Device::S => true,
-        Device::C(_) => false,
-        Device::B => false,
-    }
+    matches!(d, Device::S)
 }
 
 // Whether the device has offcore and latency requests.
@@ -116,12 +110,7 @@ pub fn packets_on(d: Device) -> bool
 pub fn offcore_on(d: Device) -> bool
     ensures { result ≡ offcore_on d }
 {
-    match d {
-        Device::G => true,
-        Device::S => false,
-        Device::C(_) => false,
-        Device::B => false,
-    }
+    matches!(d, Device::G)
 }
 
 // Whether an event is judged as a pair of code and mask.
@@ -129,12 +118,7 @@ pub fn offcore_on(d: Device) -> bool
 pub fn pairs_judged(d: Device) -> bool
     ensures { result ≡ pairs_judged d }
 {
-    match d {
-        Device::G => true,
-        Device::S => false,
-        Device::C(_) => false,
-        Device::B => true,
-    }
+    matches!(d, Device::G | Device::B)
 }
 
 // Whether a usable set has a counter, and none past the device's.
@@ -142,12 +126,7 @@ pub fn pairs_judged(d: Device) -> bool
 pub fn usable_set(d: Device, usable: CounterSet) -> bool
     ensures { result ≡ usable_set d usable }
 {
-    let counters = usable.0;
-    if 0 < counters {
-        let all = all_counters(d);
-        return counters <= all.0;
-    }
-    false
+    usable.0 != 0 && usable.0 <= all_counters(d).0
 }
 
 // Whether the device has the counters, the fixed enables and the box that are given beside its letter.
@@ -155,70 +134,58 @@ pub fn usable_set(d: Device, usable: CounterSet) -> bool
 fn opens(d: Device, o: Opening) -> bool
     ensures { result ≡ opens d o }
 {
-    let usable = o.usable;
-    if usable_set(d, usable) {
-        if o.fixed <= all_fixed(d) {
-            return o.cbox < box_count(d);
-        }
-    }
-    false
+    usable_set(d, o.usable) && o.fixed <= all_fixed(d) && o.cbox < box_count(d)
 }
 
 // How the device answers an opening.
-#[tactic(auto, unfolding(requests::specs::Devices::rows_where, requests::specs::Devices::opening_rows, requests::specs::Refusals::answer_for))]
+#[tactic(auto, unfolding(requests::specs::Devices::rows_where, requests::specs::Devices::opening_rows, requests::specs::Refusals::answer_for, requests::specs::Choice::first_holding))]
 fn opening_answer(d: Device, o: Opening) -> Answer
     ensures { result ≡ answer_for (first_holding (opening_rows d o)) }
 {
     if !opens(d, o) {
-        return Answer::Refused(Refusal::BadOpening);
+        return Err(Refusal::BadOpening);
     }
-    let overflow = o.overflow;
-    if overflow_not_on(d, overflow) {
-        return Answer::Refused(Refusal::KindNotOnDevice);
+    if overflow_not_on(d, o.overflow) {
+        return Err(Refusal::KindNotOnDevice);
     }
-    if !overflow_fits(overflow) {
-        return Answer::Refused(Refusal::OutOfRange);
+    if !overflow_fits(o.overflow) {
+        return Err(Refusal::OutOfRange);
     }
-    Answer::Accepted
+    Ok(())
 }
 
 // What a device opens with what is given beside its letter.
-#[tactic(auto, unfolding(requests::specs::Devices::opened_on, requests::specs::Devices::setup_on))]
-fn opened_on(d: Device, o: Opening) -> Opened
+#[tactic(auto, unfolding(requests::specs::Devices::opened_on, requests::specs::Devices::setup_on), using(requests::proofs::AnswerTests::answer_none))]
+fn opened_on(d: Device, o: Opening) -> Result<Setup, Refusal>
     ensures { result ≡ opened_on d o (first_holding (opening_rows d o)) }
 {
-    let answer = opening_answer(d, o);
-    match answer {
-        Answer::Accepted => {
-            let usable = o.usable;
-            let overflow = o.overflow;
-            Opened::With(Setup {
-                device: d,
-                usable: usable,
-                fixed: o.fixed,
-                overflow: overflow,
-            })
-        }
-        Answer::Refused(refusal) => Opened::Refused(refusal),
-    }
+    opening_answer(d, o)?;
+    Ok(Setup {
+        device: d,
+        usable: o.usable,
+        fixed: o.fixed,
+        overflow: o.overflow,
+    })
+}
+
+// The device with the letter's code, in the box of the number.
+#[tactic(auto, unfolding(requests::specs::Devices::device_of))]
+pub(crate) fn device_of(letter: u64, cbox: u64) -> Option<Device>
+    ensures { result ≡ device_of letter cbox }
+{
+    devices(cbox)
+        .iter()
+        .copied()
+        .find(|device| letter == letter_of(*device))
 }
 
 // What the opening opens, or why none.
-#[tactic(auto, unfolding(requests::specs::Devices::device_of))]
-pub fn setup_of(o: Opening) -> Opened
+#[tactic(auto, unfolding(requests::specs::Devices::opened_by))]
+pub fn setup_of(o: Opening) -> Result<Setup, Refusal>
     ensures { result ≡ opened_by o }
 {
-    let letter = o.device;
-    let devices = devices(o.cbox);
-    let mut i = 0;
-    while i < devices.len() {
-        let device = devices[i];
-        if letter == letter_of(device) {
-            return opened_on(device, o);
-        }
-        i += 1;
-    }
-    Opened::Refused(Refusal::BadOpening)
+    let device = device_of(o.device, o.cbox).ok_or(Refusal::BadOpening)?;
+    opened_on(device, o)
 }
 
 // The opening that a setup is of: its device by its letter, and the rest as it stands.
@@ -226,14 +193,11 @@ pub fn setup_of(o: Opening) -> Opened
 pub fn opening_of(s: Setup) -> Opening
     ensures { result ≡ opening_of s }
 {
-    let device = s.device;
-    let usable = s.usable;
-    let overflow = s.overflow;
     Opening {
-        device: letter_of(device),
-        usable: usable,
+        device: letter_of(s.device),
+        usable: s.usable,
         fixed: s.fixed,
-        cbox: box_of(device),
-        overflow: overflow,
+        cbox: box_of(s.device),
+        overflow: s.overflow,
     }
 }

@@ -5,7 +5,7 @@ ghost use Rattle.requests.specs.Faults.{checked_as, opening_fault, request_fault
 use crate::check::request_refusal;
 use crate::devices::setup_of;
 use crate::fields::{opening_fields, request_fields};
-use requests::{Answer, Checked, Fault, Fields, Opened, Opening, Refusal, Request, Setup};
+use requests::{Answer, Fault, Fields, Opening, Refusal, Request, Setup};
 
 // The field at fault under a refusal of a call with these fields.
 #[tactic(auto, unfolding(requests::specs::Faults::field_of))]
@@ -13,21 +13,18 @@ pub fn field_of(x: Refusal, fields: Fields) -> usize
     ensures { result ≡ field_of x fields }
 {
     match x {
-        Refusal::NotInGrammar => 0,
-        Refusal::CallOrder => 0,
         Refusal::BadOpening => fields.opening,
-        Refusal::BadId => 1,
-        Refusal::IdWaiting => 1,
-        Refusal::IdNotWaiting => 1,
-        Refusal::KindNotOnDevice => 0,
-        Refusal::NotListed => 2,
         Refusal::Incomplete => fields.lack,
         Refusal::OutOfRange => fields.range,
-        Refusal::Conflicting => 2,
-        Refusal::NoPlanAlone => 0,
-        Refusal::QueueFull => 0,
-        Refusal::SliceTooShort => 0,
-        Refusal::NotLeftByPlan => 0,
+        Refusal::BadId | Refusal::IdWaiting | Refusal::IdNotWaiting => 1,
+        Refusal::NotListed | Refusal::Conflicting => 2,
+        Refusal::NotInGrammar
+        | Refusal::CallOrder
+        | Refusal::KindNotOnDevice
+        | Refusal::NoPlanAlone
+        | Refusal::QueueFull
+        | Refusal::SliceTooShort
+        | Refusal::NotLeftByPlan => 0,
     }
 }
 
@@ -37,36 +34,29 @@ pub fn answer_field(answer: Answer, fields: Fields) -> usize
     ensures { result ≡ answer_field answer fields }
 {
     match answer {
-        Answer::Accepted => 0,
-        Answer::Refused(x) => field_of(x, fields),
+        Ok(()) => 0,
+        Err(refusal) => field_of(refusal, fields),
     }
 }
 
 // The first of the rows 7, 8, 10, 9, 11 that applies, with the leftmost field at fault under it.
-pub fn request_fault(setup: Setup, request: Request) -> Checked
+#[tactic(auto, using(requests::proofs::FaultRows::request_told, requests::proofs::FaultRows::passed_told, requests::proofs::FaultRows::failed_told))]
+pub fn request_fault(setup: Setup, request: Request) -> Result<(), Fault>
     ensures { result ≡ checked_as (request_fault setup request) }
 {
-    let device = setup.device;
-    match request_refusal(setup, request) {
-        Answer::Accepted => Checked::Passed,
-        Answer::Refused(x) => {
-            let fields = request_fields(device, request);
-            let field = field_of(x, fields);
-            Checked::Failed(Fault { refusal: x, field })
-        }
-    }
+    request_refusal(setup, request).map_err(|refusal| Fault {
+        refusal,
+        field: field_of(refusal, request_fields(setup.device, request)),
+    })
 }
 
 // The first of the rows 3, 7, 10 that applies to an opening, with the leftmost field at fault under it.
-pub fn opening_fault(o: Opening) -> Checked
+#[tactic(auto, using(requests::proofs::FaultRows::opening_passes, requests::proofs::FaultRows::opening_fails))]
+pub fn opening_fault(o: Opening) -> Result<(), Fault>
     ensures { result ≡ checked_as (opening_fault o) }
 {
-    match setup_of(o) {
-        Opened::With(_) => Checked::Passed,
-        Opened::Refused(x) => {
-            let fields = opening_fields(o);
-            let field = field_of(x, fields);
-            Checked::Failed(Fault { refusal: x, field })
-        }
-    }
+    setup_of(o).map(|_| ()).map_err(|refusal| Fault {
+        refusal,
+        field: field_of(refusal, opening_fields(o)),
+    })
 }

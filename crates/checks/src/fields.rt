@@ -4,83 +4,45 @@ ghost use Rattle.requests.specs.Faults.{freeze_field, range_field, lack_field, r
 
 use crate::bits::{MASK, MATCH, PERMITTED, TYPES, only_bits};
 use crate::check::{mask_unlisted, too_wide};
-use crate::devices::{all_fixed, box_count, devices, letter_of, usable_set};
+use crate::devices::{all_fixed, box_count, device_of, usable_set};
 use requests::{CounterSet, Device, Fields, Opening, Request};
 
-// Where an event is refused with 10: the mask, or the allowed set.
-#[tactic(auto, unfolding(requests::specs::Faults::range_field, requests::specs::Choice::both))]
-fn event_range_field(device: Device, code: u8, mask: u8, allowed: CounterSet) -> usize
-    ensures { result ≡ range_field device (Request.Event code mask allowed) }
-{
-    if mask == 0 {
-        return 4;
-    }
-    if mask_unlisted(device, code, mask) {
-        return 3;
-    }
-    4
-}
-
-// Where a packet request is refused with 10: the match word, the mask word, or the allowed set.
-#[tactic(auto, unfolding(requests::specs::Faults::range_field))]
-fn packet_range_field(device: Device, matching: u64, masking: u64, allowed: CounterSet) -> usize
-    ensures { result ≡ range_field device (Request.Packet matching masking allowed) }
-{
-    if only_bits(MATCH, matching) {
-        if only_bits(MASK, masking) {
-            return 4;
-        }
-        return 3;
-    }
-    2
-}
-
-// Where an offcore request is refused with 10: the word, or the allowed set.
-#[tactic(auto, unfolding(requests::specs::Faults::range_field))]
-fn offcore_range_field(device: Device, word: u64, allowed: CounterSet) -> usize
-    ensures { result ≡ range_field device (Request.Offcore word allowed) }
-{
-    if only_bits(PERMITTED, word) {
-        return 3;
-    }
-    2
-}
-
-// Where a latency request is refused with 10: the type, or the first of the allowed sets that is too wide.
-#[tactic(auto, unfolding(requests::specs::Faults::range_field))]
-fn latency_range_field(device: Device, types: u16, first: CounterSet, second: CounterSet) -> usize
-    ensures { result ≡ range_field device (Request.Latency types first second) }
-{
-    if only_bits(TYPES, types as u64) {
-        if too_wide(device, first) {
-            return 3;
-        }
-        return 4;
-    }
-    2
-}
-
-// Where a request is refused with 10.
+// Where a request is refused with 10: the mask of an event, a word, the types of a latency request, or an allowed set.
+#[tactic(auto, unfolding(requests::specs::Faults::range_field, requests::specs::Choice::both), using(requests::specs::Masks::match_mask, requests::specs::Masks::mask_mask, requests::specs::Masks::permitted_mask, requests::specs::Masks::type_mask))]
 fn range_field(device: Device, request: Request) -> usize
     ensures { result ≡ range_field device request }
 {
     match request {
-        Request::Event {
-            code,
-            mask,
-            allowed,
-        } => event_range_field(device, code, mask, allowed),
+        Request::Event { code, mask, .. } => {
+            if mask != 0 && mask_unlisted(device, code, mask) {
+                3
+            } else {
+                4
+            }
+        }
         Request::Packet {
             match_word,
             mask_word,
-            allowed,
-        } => packet_range_field(device, match_word, mask_word, allowed),
-        Request::Offcore { word, allowed } => offcore_range_field(device, word, allowed),
-        Request::Latency {
-            types,
-            first,
-            second,
-        } => latency_range_field(device, types, first, second),
+            ..
+        } => {
+            if !only_bits(MATCH, match_word) {
+                2
+            } else if !only_bits(MASK, mask_word) {
+                3
+            } else {
+                4
+            }
+        }
+        Request::Offcore { word, .. } => { if !only_bits(PERMITTED, word) { 2 } else { 3 } }
+        Request::Latency { types, first, .. } => {
+            if !only_bits(TYPES, u64::from(types)) {
+                2
+            } else if too_wide(device, first) {
+                3
+            } else {
+                4
+            }
+        }
     }
 }
 
@@ -92,8 +54,7 @@ fn lack_field(request: Request) -> usize
     match request {
         Request::Event { .. } => 3,
         Request::Packet { .. } => 0,
-        Request::Offcore { .. } => 2,
-        Request::Latency { .. } => 2,
+        Request::Offcore { .. } | Request::Latency { .. } => 2,
     }
 }
 
@@ -114,10 +75,7 @@ pub fn request_fields(device: Device, request: Request) -> Fields
 fn freeze_field(d: Device) -> usize
     ensures { result ≡ freeze_field d }
 {
-    if 1 < box_count(d) {
-        return 5;
-    }
-    4
+    if 1 < box_count(d) { 5 } else { 4 }
 }
 
 // Where the device refuses an opening with 3: the usable set, the fixed enables, or the box.
@@ -125,27 +83,26 @@ fn freeze_field(d: Device) -> usize
 fn opening_field(d: Device, o: Opening) -> usize
     ensures { result ≡ opening_field d o }
 {
-    let usable = o.usable;
-    if usable_set(d, usable) {
-        if o.fixed <= all_fixed(d) {
-            return 4;
-        }
-        return 3;
+    if !usable_set(d, o.usable) {
+        2
+    } else if o.fixed > all_fixed(d) {
+        3
+    } else {
+        4
     }
-    2
 }
 
 // Where the device refuses an opening with 10: the freeze, or the core behind it.
-#[tactic(auto, unfolding(requests::specs::Faults::asking_field))]
+#[tactic(auto, unfolding(requests::specs::Faults::asking_field), using(requests::proofs::FaultRows::freeze_small))]
 fn asking_field(d: Device, o: Opening) -> usize
     ensures { result ≡ asking_field d o }
 {
-    let overflow = o.overflow;
     let freeze = freeze_field(d);
-    if overflow.freeze <= 1 {
-        return freeze + 1;
+    if o.overflow.freeze <= 1 {
+        freeze + 1
+    } else {
+        freeze
     }
-    freeze
 }
 
 // The fields of an open with the device's letter.
@@ -161,36 +118,27 @@ fn fields_on(d: Device, o: Opening) -> Fields
 }
 
 // The fields of an open: the letter, where no device has it.
-#[tactic(auto, unfolding(requests::specs::Devices::device_of))]
+#[tactic(auto, unfolding(requests::specs::Faults::opening_fields, requests::specs::Faults::no_fields))]
 pub fn opening_fields(o: Opening) -> Fields
     ensures { result ≡ opening_fields o }
 {
-    let letter = o.device;
-    let devices = devices(o.cbox);
-    let mut i = 0;
-    while i < devices.len() {
-        let device = devices[i];
-        if letter == letter_of(device) {
-            return fields_on(device, o);
-        }
-        i += 1;
-    }
-    Fields {
-        opening: 1,
-        range: 0,
-        lack: 0,
+    match device_of(o.device, o.cbox) {
+        Some(device) => fields_on(device, o),
+        None => Fields {
+            opening: 1,
+            ..no_fields()
+        },
     }
 }
 
 // The fields of several turns at once: their number.
-#[tactic(auto, unfolding(requests::specs::Faults::turns_fields))]
+#[tactic(auto, unfolding(requests::specs::Faults::turns_fields, requests::specs::Faults::no_fields))]
 pub fn turns_fields() -> Fields
     ensures { result ≡ turns_fields }
 {
     Fields {
-        opening: 0,
         range: 1,
-        lack: 0,
+        ..no_fields()
     }
 }
 

@@ -1,8 +1,7 @@
-// The mask rules: which unit masks an event has. The last digit of a catalogue's row is the number of its rule.
+// The mask rules: which unit masks an event has.
 ghost use Rattle.std.specs.Prelude.{◌≡◌};
-ghost use Rattle.requests.specs.Bits.{in_list};
-ghost use Rattle.requests.specs.MaskRules.{allows, range};
-ghost use Rattle.requests.specs.Lookup.{row_allows};
+ghost use Rattle.requests.specs.MaskRules.{allows};
+ghost use Rattle.checks.specs.RuleMasks.{rule_in};
 
 // SINKS_P2C, SINKS_C2P, SINKS_S2C.
 const SINK_MASKS: [u8; 3] = [
@@ -54,47 +53,34 @@ const BYPASS_MASKS: [u8; 8] = [
     0x80, // IV_BYP1
 ];
 
-// Whether the unit mask is one of the list.
-fn is_among(masks: &[u8], mask: u8) -> bool
-    ensures { result ≡ in_list masks.now mask }
-{
-    let mut i = 0;
-    while i < masks.len() {
-        if masks[i] == mask {
-            return true;
+// Which unit masks an event has.
+#[derive(Clone, Copy)]
+pub enum MaskRule {
+    Lost, // none: the manual's rows of them are lost
+    Alone(u8),
+    Either(u8, u8),
+    UpTo(u8), // from 01 on
+    Sinks,
+    Rings,
+    Starved,
+    Bypasses,
+}
+
+impl MaskRule {
+    // Whether the rule lists the unit mask.
+    #[tactic(auto, unfolding(crate::specs::RuleMasks::rule_in, requests::specs::MaskRules::allows, requests::specs::Bits::in_list, requests::specs::Choice::both, requests::specs::Choice::either, requests::specs::CBoxEvents::sink_masks, requests::specs::CBoxEvents::ring_masks, requests::specs::CBoxEvents::starved_masks, requests::specs::CBoxEvents::bypass_masks), using(crate::proofs::Members::any_in))]
+    pub fn lists(self, mask: u8) -> bool
+        ensures { result ≡ allows (rule_in self) mask }
+    {
+        match self {
+            MaskRule::Lost => false,
+            MaskRule::Alone(only) => mask == only,
+            MaskRule::Either(first, second) => mask == first || mask == second,
+            MaskRule::UpTo(last) => (0x01..=last).contains(&mask),
+            MaskRule::Sinks => SINK_MASKS.contains(&mask),
+            MaskRule::Rings => RING_MASKS.contains(&mask),
+            MaskRule::Starved => STARVED_MASKS.contains(&mask),
+            MaskRule::Bypasses => BYPASS_MASKS.contains(&mask),
         }
-        i += 1;
-    }
-    false
-}
-
-// Whether the unit mask is in the range.
-#[tactic(auto, unfolding(requests::specs::MaskRules::allows, requests::specs::Choice::both))]
-fn in_range(low: u8, high: u8, mask: u8) -> bool
-    ensures { result ≡ allows (range low high) mask }
-{
-    if low <= mask {
-        return mask <= high;
-    }
-    false
-}
-
-// Whether the row lists the unit mask.
-#[tactic(auto, unfolding(requests::specs::Lookup::row_allows, requests::specs::MaskRules::allows, requests::specs::Bits::in_list, requests::specs::Lookup::rule_at, requests::specs::Lookup::mask_rules, requests::specs::CBoxEvents::sink_masks, requests::specs::CBoxEvents::ring_masks, requests::specs::CBoxEvents::starved_masks, requests::specs::CBoxEvents::bypass_masks))]
-pub fn lists(row: u16, mask: u8) -> bool
-    ensures { result ≡ row_allows row mask }
-{
-    match row % 16 {
-        0x1 => mask == 0x00,
-        0x2 => in_range(0x01, 0x03, mask),
-        0x3 => is_among(&SINK_MASKS, mask),
-        0x4 => is_among(&RING_MASKS, mask),
-        0x5 => is_among(&STARVED_MASKS, mask),
-        0x6 => is_among(&BYPASS_MASKS, mask),
-        0x7 => in_range(0x01, 0x07, mask),
-        0x8 => in_range(0x01, 0x0F, mask),
-        0x9 => in_range(0x01, 0x1F, mask),
-        0xA => in_range(0x01, 0xFF, mask),
-        _ => false,
     }
 }

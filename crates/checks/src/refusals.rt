@@ -5,6 +5,7 @@ ghost use Rattle.requests.specs.Refusals.{number_of};
 use requests::Refusal;
 
 // The number in the refusal table.
+// Form: (d) a table, as on paper, shows each number; a cast of the variant would hide them in the order of another crate's enum.
 #[tactic(auto, unfolding(requests::specs::Refusals::number_of))]
 pub fn number_of(x: Refusal) -> u64
     ensures { result ≡ number_of x }

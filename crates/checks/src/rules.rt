@@ -9,18 +9,11 @@ use requests::{Device, EventRule, Request};
 fn rule_on_b(code: u8, mask: u8) -> EventRule
     ensures { result ≡ rule_on_b code mask }
 {
-    if code == 0xC0 {
-        if mask == 0x01 {
-            return EventRule::AloneOn(1);
-        }
-        return EventRule::Anywhere;
+    match (code, mask) {
+        (0xC0, 0x01) => EventRule::AloneOn(1),
+        (0xCD, 0x02) => EventRule::OnlyOn(3),
+        _ => EventRule::Anywhere,
     }
-    if code == 0xCD {
-        if mask == 0x02 {
-            return EventRule::OnlyOn(3);
-        }
-    }
-    EventRule::Anywhere
 }
 
 // Whether some event of the device has a rule.
@@ -28,12 +21,7 @@ fn rule_on_b(code: u8, mask: u8) -> EventRule
 pub fn has_rules(device: Device) -> bool
     ensures { result ≡ has_rules device }
 {
-    match device {
-        Device::G => false,
-        Device::S => false,
-        Device::C(_) => false,
-        Device::B => true,
-    }
+    matches!(device, Device::B)
 }
 
 // The rule of an event.
@@ -42,9 +30,10 @@ pub fn rule_of(device: Device, code: u8, mask: u8) -> EventRule
     ensures { result ≡ rule_of device code mask }
 {
     if has_rules(device) {
-        return rule_on_b(code, mask);
+        rule_on_b(code, mask)
+    } else {
+        EventRule::Anywhere
     }
-    EventRule::Anywhere
 }
 
 // The rule of a request.
@@ -54,8 +43,8 @@ pub fn rule_for(device: Device, request: Request) -> EventRule
 {
     match request {
         Request::Event { code, mask, .. } => rule_of(device, code, mask),
-        Request::Packet { .. } => EventRule::Anywhere,
-        Request::Offcore { .. } => EventRule::Anywhere,
-        Request::Latency { .. } => EventRule::Anywhere,
+        Request::Packet { .. } | Request::Offcore { .. } | Request::Latency { .. } => {
+            EventRule::Anywhere
+        }
     }
 }
