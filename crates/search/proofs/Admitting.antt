@@ -1,8 +1,9 @@
 -- What a request takes where it is placed, in the room by rows. Assumes nothing.
+use Rattle.std.specs.Prelude.{Option, None, Some}
 use mathlib.Core.Path.{◌≡◌, refl, sym, ◌∙◌}
 use mathlib.Core.Bool.{Bool, true, false}
 use mathlib.Core.List.{List}
-use Prim.Native.Nat.{ℕ, zero, suc, ◌+◌, ◌-◌, ◌*◌, ◌%◌}
+use Prim.Native.Nat.{ℕ, ◌+◌, ◌*◌, ◌%◌}
 use native.Mathlib.Numerals.{add-one}
 use native.Mathlib.Omega.{arith}
 use lib.Dec.{eqb, leb}
@@ -14,12 +15,8 @@ use Rattle.requests.specs.declared.Request.TheVariants.{Event, Packet, Offcore, 
 use Rattle.requests.specs.Choice.{pick}
 use Rattle.requests.specs.Bits.{latency_word}
 use Rattle.requests.specs.Devices.{has}
-use Rattle.plans.specs.declared.Register.{Register}
-use Rattle.plans.specs.declared.Register.TheVariants.{Word}
 use Rattle.plans.specs.declared.Room.{Room}
 use Rattle.search.specs.declared.left.Left.{Left}
-use Rattle.plans.specs.declared.Admission.{Admission}
-use Rattle.plans.specs.declared.Admission.TheVariants.{Admitted, NoRoom}
 use Rattle.plans.specs.Search.{holds, holds_packet, take_counter, take_word, take_packet, and_then, admit}
 use Rattle.search.specs.Rows.{set_of, request_of, request_at}
 use Rattle.search.specs.Counters.{available}
@@ -29,17 +26,8 @@ use Rattle.search.proofs.CounterBits.{not_available, chosen_same}
 
 -- ---- the user of a register
 
-pub word_of_user : (rows : List ℕ) (i user w v : ℕ) → (user ≡ 0 → ⊥) → v ≡ word_at rows i (user - 1) → eqb v w ≡ holds (rsp_of rows i user) w
-word_of_user rows i zero w v z e = absurd (z refl)
-word_of_user rows i (suc k) w v z e = let s : suc k - 1 ≡ k = omega arith in rw (e, s)
-
-pub packet_of_user : (rows : List ℕ) (user x y : ℕ) (r : Request) (b : Bool) → (user ≡ 0 → ⊥) → r ≡ request_at rows (user - 1)
-    → b ≡ holds_packet (asked_packet r) x y → b ≡ holds_packet (filter_of rows user) x y
-packet_of_user rows zero x y r b z e g = absurd (z refl)
-packet_of_user rows (suc k) x y r b z e g = let s : suc k - 1 ≡ k = omega arith in rw (g, e, s)
-
 -- a test of a register for a word that was made first
-pub word_told : (r : Register) (made w : ℕ) (test told : Bool) → made ≡ w → test ≡ holds r made → test ≡ told → holds r w ≡ told
+pub word_told : (r : Option ℕ) (made w : ℕ) (test told : Bool) → made ≡ w → test ≡ holds r made → test ≡ told → holds r w ≡ told
 word_told r made w test told e f g = rw e at (sym f ∙ g)
 
 packet_used : (rows : List ℕ) (at : ℕ) (r : Request) → r ≡ request_at rows at → filter_of rows (at + 1) ≡ asked_packet r
@@ -86,20 +74,20 @@ module _ (rows : List ℕ) (at : ℕ) where
           let same : cell 1 % 65536 ≡ t = cc in
           rw (lt-leb kind 2 (omega arith), same)
 
-  offcore_used : (i w : ℕ) (a : CounterSet) → Offcore w a ≡ request_at rows at → rsp_of rows i (at + 1) ≡ Word w
+  offcore_used : (i w : ℕ) (a : CounterSet) → Offcore w a ≡ request_at rows at → rsp_of rows i (at + 1) ≡ Some w
   offcore_used i w a e = rw (add-one at, word_offcore i w a e)
 
-  latency_used : (i t : ℕ) (a b : CounterSet) → Latency t a b ≡ request_at rows at → rsp_of rows i (at + 1) ≡ Word (latency_word i t)
+  latency_used : (i t : ℕ) (a b : CounterSet) → Latency t a b ≡ request_at rows at → rsp_of rows i (at + 1) ≡ Some (latency_word i t)
   latency_used i t a b e = rw (add-one at, word_latency i t a b e)
 
 -- ---- a counter
 
 pub counter_taken : (rows : List ℕ) (a : CounterSet) (k : ℕ) (left after : Left) → available a left.free k ≡ true → after ≡ without_counter left k
-    → take_counter a k (room_of rows left) ≡ Admitted (room_of rows after)
+    → take_counter a k (room_of rows left) ≡ Some (room_of rows after)
 unfolding available take_counter
 counter_taken rows a k left after h e = rw (h, e)
 
-pub counter_missing : (a : CounterSet) (k : ℕ) (m : Room) → available a m.free k ≡ false → take_counter a k m ≡ NoRoom
+pub counter_missing : (a : CounterSet) (k : ℕ) (m : Room) → available a m.free k ≡ false → take_counter a k m ≡ None
 unfolding available take_counter
 counter_missing a k m h = rw h
 
@@ -108,28 +96,28 @@ pub counter_chosen : (a choice : CounterSet) (k : ℕ) (m : Room) → has choice
 unfolding take_counter available
 counter_chosen a choice k m chosen = rw (chosen_same a m.free choice k chosen)
 
-pick_then : (b : Bool) (m : Room) (f : Room → Admission) → and_then (pick b (Admitted m) NoRoom) f ≡ pick b (f m) NoRoom
+pick_then : (b : Bool) (m : Room) (f : Room → Option Room) → and_then (pick b (Some m) None) f ≡ pick b (f m) None
 pick_then true m f = refl
 pick_then false m f = refl
 
-neither : (b : Bool) → pick b NoRoom NoRoom ≡ NoRoom
+neither : (b : Bool) → pick {A = Option Room} b None None ≡ None
 neither true = refl
 neither false = refl
 
-either_then : (b p q : Bool) (m l : Room) (f : Room → Admission)
-    → and_then (pick b (pick p (Admitted m) NoRoom) (pick q (Admitted l) NoRoom)) f ≡ pick b (pick p (f m) NoRoom) (pick q (f l) NoRoom)
+either_then : (b p q : Bool) (m l : Room) (f : Room → Option Room)
+    → and_then (pick b (pick p (Some m) None) (pick q (Some l) None)) f ≡ pick b (pick p (f m) None) (pick q (f l) None)
 either_then true p q m l f = pick_then p m f
 either_then false p q m l f = pick_then q l f
 
 -- ---- the registers of a request in row `at`
 
 -- what an offcore request takes at counter k with RSP register j (0, or else 1), where that is held
-abbrev pub offcore_taken : List ℕ → CounterSet → Bool → Bool → Left → Left → ℕ → ℕ → Admission
+abbrev pub offcore_taken : List ℕ → CounterSet → Bool → Bool → Left → Left → ℕ → ℕ → Option Room
 offcore_taken rows a held0 held1 left0 left1 k j =
-    pick (eqb j 0) (pick held0 (take_counter a k (room_of rows left0)) NoRoom) (pick held1 (take_counter a k (room_of rows left1)) NoRoom)
+    pick (eqb j 0) (pick held0 (take_counter a k (room_of rows left0)) None) (pick held1 (take_counter a k (room_of rows left1)) None)
 
 -- what a latency request takes where its registers are held
-abbrev pub pair_taken : List ℕ → CounterSet → CounterSet → Left → ℕ → ℕ → Admission
+abbrev pub pair_taken : List ℕ → CounterSet → CounterSet → Left → ℕ → ℕ → Option Room
 pair_taken rows a b used j k = and_then (take_counter a j (room_of rows used)) (take_counter b k)
 
 -- the counters of `a` that are free, in place of `a`
@@ -138,7 +126,7 @@ module _ (rows : List ℕ) (choice : CounterSet) where
       → offcore_taken rows a held0 held1 left0 left1 k j ≡ offcore_taken rows choice held0 held1 left0 left1 k j
   offcore_chosen a held0 held1 left0 left1 k j p q = rw (counter_chosen a choice k (room_of rows left0) p, counter_chosen a choice k (room_of rows left1) q)
 
-  pub offcore_missing : (held0 held1 : Bool) (left0 left1 : Left) (k j : ℕ) → has choice k ≡ false → offcore_taken rows choice held0 held1 left0 left1 k j ≡ NoRoom
+  pub offcore_missing : (held0 held1 : Bool) (left0 left1 : Left) (k j : ℕ) → has choice k ≡ false → offcore_taken rows choice held0 held1 left0 left1 k j ≡ None
   offcore_missing held0 held1 left0 left1 k j h =
       rw (counter_missing choice k (room_of rows left0) (not_available choice left0.free k h), counter_missing choice k (room_of rows left1) (not_available choice left1.free k h))
       (rw (neither held0, neither held1) (neither (eqb j 0)))
@@ -150,7 +138,7 @@ module _ (rows : List ℕ) (choice : CounterSet) where
     pub pair_first : (after : Left) (k : ℕ) → available choice used.free j ≡ true → after ≡ without_counter used j → pair_taken rows choice b used j k ≡ take_counter b k (room_of rows after)
     pair_first after k h e = rw (counter_taken rows choice j used after h e)
 
-    pub pair_missing : (k : ℕ) → has choice j ≡ false → pair_taken rows choice b used j k ≡ NoRoom
+    pub pair_missing : (k : ℕ) → has choice j ≡ false → pair_taken rows choice b used j k ≡ None
     pair_missing k h = rw (counter_missing choice j (room_of rows used) (not_available choice used.free j h))
 
 module _ (rows : List ℕ) (at : ℕ) (left : Left) where
@@ -163,7 +151,7 @@ module _ (rows : List ℕ) (at : ℕ) (left : Left) where
     unfolding admit take_packet
     packet_held used u r h = rw (h, u, packet_used rows at (Packet x y a) r)
 
-    pub packet_differs : holds_packet room.packet x y ≡ false → admit (Packet x y a) k j room ≡ NoRoom
+    pub packet_differs : holds_packet room.packet x y ≡ false → admit (Packet x y a) k j room ≡ None
     unfolding admit take_packet
     packet_differs h = rw h
 
@@ -181,10 +169,10 @@ module _ (rows : List ℕ) (at : ℕ) (left : Left) where
     unfolding admit take_word
     latency_held half used u v r f g = rw (f, g, v, u, latency_used rows at 0 t a b r, latency_used rows at 1 t a b r)
 
-    pub rsp0_differs : holds room.rsp0 (latency_word 0 t) ≡ false → admit (Latency t a b) j k room ≡ NoRoom
+    pub rsp0_differs : holds room.rsp0 (latency_word 0 t) ≡ false → admit (Latency t a b) j k room ≡ None
     unfolding admit take_word
     rsp0_differs f = rw f
 
-    pub rsp1_differs : holds room.rsp0 (latency_word 0 t) ≡ true → holds room.rsp1 (latency_word 1 t) ≡ false → admit (Latency t a b) j k room ≡ NoRoom
+    pub rsp1_differs : holds room.rsp0 (latency_word 0 t) ≡ true → holds room.rsp1 (latency_word 1 t) ≡ false → admit (Latency t a b) j k room ≡ None
     unfolding admit take_word
     rsp1_differs f g = rw (f, g)

@@ -33,17 +33,10 @@ least_there s r fits some least = go (dec_lt r 64)
         let none : s.0 % 2 ^ 64 ≡ 0 = no_low_bit 64 s.0 (λ i l. least.none_between i (omega arith) (omega arith)) in
         absurd (some (omega (arith, none)))
 
--- a set is a smaller number without one of its counters
-pub taken_less : (s after : CounterSet) (k : ℕ) → has s k ≡ true → after ≡ without s k → after.0 < s.0
-taken_less s after k h e = rw e (omega (arith, has_le s k h, pow_pos k))
-
 -- `left` has the counters of `all` from p on, and no others
 pub record From (all left : CounterSet) (p : ℕ) : Type 0 where
   pub gone : (i : ℕ) → i < p → has left i ≡ false
   pub kept : (i : ℕ) → p ≤ i → has left i ≡ has all i
-
-pub from_first : (all : CounterSet) → From all all 0
-from_first all = record { gone = λ i l. absurd (omega arith); kept = λ i l. refl }
 
 module _ {all left : CounterSet} {p : ℕ} (from : From all left p) where
   -- none are left

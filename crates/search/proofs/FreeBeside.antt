@@ -7,6 +7,7 @@ use Prim.Native.Nat.{ℕ, ◌<◌, ◌≤◌}
 use native.Mathlib.Omega.{arith}
 use native.Mathlib.Decide.{dec_lt}
 use lib.Dec.{eqb}
+use Rattle.std.specs.Prelude.{Option, Some, None, is_some, MatchOption, IfSome}
 use borrow.Author.Tests.{not-true}
 use Rattle.requests.specs.declared.CounterSet.{CounterSet}
 use Rattle.requests.specs.declared.Device.{Device}
@@ -28,7 +29,7 @@ use Rattle.plans.specs.Places.{counted_of, counters_of}
 use Rattle.plans.specs.Legal.{event, packet, offcore, words_of, packets_of, of_all, counters, Legal, HasPlan}
 use Rattle.plans.specs.Narrowed.{any_lone}
 use Rattle.search.specs.Rows.{set_of}
-use Rattle.search.specs.Counters.{available, NextIn, without}
+use Rattle.search.specs.Counters.{available, Least, without}
 use Rattle.plans.specs.Extends.{Unused, LeastUnused, MayFollow}
 use Rattle.search.specs.Beside.{Without, LeftFree, is_anywhere, may_follow, AnyUsable}
 use Rattle.plans.proofs.Sets.{has_other, has_self}
@@ -77,11 +78,6 @@ free_first s x e = rw e (record {
   all = λ i u. has_own s.device s.usable i u.0.0 ∙ u.0.1;
 })
 
--- no place yet, and one place more
-pub without_places : (f : CounterSet) → Without f (counters []) f
-unfolding counters flat_map
-without_places f = record { inside = λ i h. h; away = λ i h. nil; rest = λ i h a. h }
-
 pub without_place : (ps : List Place) (p : Place) (f g h : CounterSet) → Without f (counters ps) g → Without g (counters_of p) h → Without f (counters (ps ++ p ∷ [])) h
 without_place ps p f g h v w = rw (counters_behind ps p) (without_both (counters ps) (counters_of p) v w)
 
@@ -103,17 +99,23 @@ module _ (s : Setup) (ps : List Place) (a free choice : CounterSet) (chosen : (k
       go true e = refl
       go false e = e
 
-  pub least_unused : LeftFree s ps free → (r : ℕ) → NextIn choice 0 r → r < 64 → LeastUnused s a ps r
+  pub least_unused : LeftFree s ps free → (r : ℕ) (left : CounterSet) → Least choice r left → LeastUnused s a ps r
   unfolding available both
-  least_unused l r n b = record {
-    allowed = chosen_allowed r (n.there b);
-    unused = l.unused r (chosen_free a free choice r (chosen r) (n.there b));
+  least_unused l r left n = record {
+    allowed = chosen_allowed r n.there;
+    unused = l.unused r (chosen_free a free choice r (chosen r) n.there);
     least = λ j h u. go j h u (dec_lt j r);
   }
     where
       go : (j : ℕ) → has a j ≡ true → Unused s ps j → Dec (j < r) → r ≤ j
-      go j h u (yes f) = let e : has choice j ≡ true = rw (chosen j, h) (l.all j u) in never e (n.none_between j (omega arith) f)
+      go j h u (yes f) = let e : has choice j ≡ true = rw (chosen j, h) (l.all j u) in never e (n.next.none_between j (omega arith) f)
       go j h u (no f) = omega arith
+
+-- a counter that an iterator told, if it told one
+pub least_told : (choice left : CounterSet) (P : ℕ → Type 0) → ((k : ℕ) → Least choice k left → P k)
+    → (o : Option ℕ) → MatchOption o (choice.0 ≡ 0) (λ k. Least choice k left) → IfSome o P
+least_told choice left P f None m = tt
+least_told choice left P f (Some k) m = f k m
 
 -- ---- which events may follow others
 
@@ -167,8 +169,10 @@ unruled_follows d rs c m h = rw (h, unruled_none d ((ruled_events.unruled d).0 h
 -- ---- a request alone
 
 module _ (s : Setup) where
-  pub any_usable : (a free choice : CounterSet) → ((k : ℕ) → has choice k ≡ available a free k) → LeftFree s [] free → (r : ℕ) → NextIn choice 0 r → r < 64 → AnyUsable s a
-  any_usable a free choice chosen l r n b = let u = least_unused s [] a free choice chosen l r n b in (r, u.allowed, u.unused.0)
+  pub any_usable : (a free choice : CounterSet) → ((k : ℕ) → has choice k ≡ available a free k) → LeftFree s [] free
+      → (o : Option ℕ) (left : CounterSet) → MatchOption o (choice.0 ≡ 0) (λ r. Least choice r left) → is_some o ≡ true → AnyUsable s a
+  any_usable a free choice chosen l None left n h = absurd (false≢true h)
+  any_usable a free choice chosen l (Some r) left n h = let u = least_unused s [] a free choice chosen l r left n in (r, u.allowed, u.unused.0)
 
   -- what fits is legal where the request may run on every counter
   alone_legal : (r : Request) (p : Place) → ((k : ℕ) → ¬ RunsOn s.device r k) → Fits s (r ∷ []) (p ∷ []) → Legal s (r ∷ []) (p ∷ [])

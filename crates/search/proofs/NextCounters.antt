@@ -1,12 +1,11 @@
--- The counters of a set from one on: those that trailing zeros stand for are not in it, and the one that they lead to is. Assumes nothing.
-use mathlib.Core.Path.{◌≡◌, refl, ap, sym, ◌∙◌}
+-- The least counter of a set: those that trailing zeros stand for are not in it, and the one that they lead to is. Assumes nothing.
+use mathlib.Core.Path.{◌≡◌, refl}
 use mathlib.Core.Bool.{true, false}
-use Prim.Native.Nat.{ℕ, zero, suc, ◌+◌, ◌-◌, ◌/◌, ◌%◌, ◌^◌, ◌<◌}
+use Prim.Native.Nat.{ℕ, zero, suc, ◌/◌, ◌%◌, ◌<◌}
 use native.Mathlib.Nat.{div-one}
 use native.Mathlib.Omega.{arith}
 use lib.Count.{under, count_trailing_zeros}
 use lib.Dec.{eqb}
-use lib.Pow.{shr-shr}
 use Rattle.requests.specs.declared.CounterSet.{CounterSet}
 use Rattle.requests.specs.Bits.{bit}
 use Rattle.requests.specs.Devices.{has}
@@ -39,16 +38,6 @@ lowest (suc n) w l = go (lowest n (w / 2)) (w % 2) refl l
     go before zero e m = rw (half_div (count_trailing_zeros n (w / 2)) w) (before (omega arith))
     go before (suc d) e m = let one : w % 2 ≡ 1 = omega arith in rw (div-one w, one)
 
--- a bit of the word without its k lowest ones
-higher : (s : CounterSet) (k i : ℕ) → bit i (s.0 / 2 ^ k) ≡ has s (k + i)
-unfolding has bit
-higher s k i = ap (λ (x : ℕ). eqb (x % 2) 1) (shr-shr s.0 k i)
-
-pub next_counter : (s : CounterSet) (k : ℕ) → NextIn s k (k + count_trailing_zeros 64 (s.0 / 2 ^ k))
-next_counter s k = record {
-  not_before = omega arith;
-  none_between = λ i l m.
-      let p : k + (i - k) ≡ i = omega arith in
-      ap (has s) (sym p) ∙ sym (higher s k (i - k)) ∙ zeros_below 64 (s.0 / 2 ^ k) (i - k) (omega arith);
-  there = λ l. sym (higher s k (count_trailing_zeros 64 (s.0 / 2 ^ k))) ∙ lowest 64 (s.0 / 2 ^ k) (omega arith);
-}
+pub least_counter : (s : CounterSet) → NextIn s 0 (count_trailing_zeros 64 s.0)
+unfolding has
+least_counter s = record { not_before = omega arith; none_between = λ i l m. zeros_below 64 s.0 i m; there = λ l. lowest 64 s.0 l }

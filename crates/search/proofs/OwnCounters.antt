@@ -1,8 +1,8 @@
 -- A plan looks at the device's counters alone: the first plan in the usable set is the first in the part of it that the device has, since
 -- the same plans fit. Assumes nothing.
+use Rattle.std.specs.Prelude.{Option, None, Some}
 use mathlib.Core.Path.{◌≡◌, refl, ap, sym, ◌∙◌}
 use mathlib.Core.List.{List}
-use mathlib.Core.Option.{Option, none, some}
 use Prim.Native.Nat.{ℕ, ◌+◌, ◌-◌, ◌/◌, ◌%◌, ◌^◌, ◌<◌}
 use native.Mathlib.Nat.{mod-lt}
 use native.Mathlib.Omega.{arith}
@@ -69,9 +69,9 @@ module _ (s : Setup) (rs : List Request) where
   own_plan = go (plan_in (counter_count s.device) rs (empty_room (own s))) (plan_in (counter_count s.device) rs (empty_room s)) refl refl
     where
       go : (x y : Option (List Place)) → plan_in (counter_count s.device) rs (empty_room (own s)) ≡ x → plan_in (counter_count s.device) rs (empty_room s) ≡ y → x ≡ y
-      go none none e f = refl
-      go none (some qs) e f = absurd (fit_none (own s) rs e qs (fits_own qs (fit_found s rs qs f)))
-      go (some ps) none e f = absurd (fit_none s rs f ps (own_fits ps (fit_found (own s) rs ps e)))
-      go (some ps) (some qs) e f =
-          ap some
+      go None None e f = refl
+      go None (Some qs) e f = absurd (fit_none (own s) rs e qs (fits_own qs (fit_found s rs qs f)))
+      go (Some ps) None e f = absurd (fit_none s rs f ps (own_fits ps (fit_found (own s) rs ps e)))
+      go (Some ps) (Some qs) e f =
+          ap Some
           (not_after_both ps qs (fit_first (own s) rs ps qs e (fits_own qs (fit_found s rs qs f))) (fit_first s rs qs ps f (own_fits ps (fit_found (own s) rs ps e))))

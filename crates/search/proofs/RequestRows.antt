@@ -69,10 +69,6 @@ pub event_read : (code mask : ℕ) (a : CounterSet) → code < 256 → mask < 25
 unfolding request_of
 event_read code mask a f g = rw (mod-eq_of_lt f, mod-eq_of_lt g)
 
-pub latency_read : (t : ℕ) (a b : CounterSet) → t < 65536 → request_of 3 t a.0 b.0 ≡ Latency t a b
-unfolding request_of
-latency_read t a b f = rw (mod-eq_of_lt f)
-
 module _ (rows : List ℕ) (i : ℕ) where
   pub put_length : (r : Request) → length (set_request rows i r) ≡ length rows
   unfolding set_request

@@ -2,11 +2,14 @@
 use mathlib.Core.Path.{◌≡◌, refl, ap, sym, ◌∙◌}
 use mathlib.Core.Bool.{Bool, true, false, not}
 use mathlib.Core.List.{List, [], ◌∷◌, ◌++◌, map, map-append}
-use Prim.Native.Nat.{ℕ, ◌+◌, ◌-◌, ◌<◌}
+use Prim.Native.Nat.{ℕ, zero, suc, ◌+◌, ◌<◌}
 use native.Mathlib.Numerals.{add-one}
 use native.Mathlib.Omega.{arith}
 use lib.Dec.{eqb}
 use lib.ListN.{length}
+use Rattle.std.specs.Bool.{MatchBool}
+use Rattle.std.specs.List.{range_with_len, AllWithin, HoldsAt}
+use Rattle.std.proofs.lemmas.List.FromFn.{length-range_with_len, get_or-range_with_len}
 use borrow.Author.Tests.{ne_eqb, not-true, not-false}
 use Rattle.requests.specs.declared.Device.{Device}
 use Rattle.requests.specs.declared.Request.{Request}
@@ -21,19 +24,42 @@ use Rattle.plans.specs.Packed.{packed}
 use Rattle.plans.proofs.Narrowing.{all_kept, unnarrowed}
 use Rattle.search.specs.Counters.{with_counters}
 use Rattle.search.specs.Rows.{request_at, set_request, rows_from}
-use Rattle.search.proofs.RequestRows.{rows_next, rows_last, rows_put}
+use Rattle.search.proofs.RequestRows.{rows_last, rows_put}
 
 -- ---- a lone request among the rows
 
-module _ (d : Device) (rows : List ℕ) (count i : ℕ) (more : i < count) (r : Request) (at : r ≡ request_at rows i) where
-  pub lone_found : wants_quiet (rule_for d r) ≡ true → any_lone d (rows_from rows i (count - i)) ≡ true
-  unfolding any_lone either
-  lone_found h = rw (rows_next rows i count more, ← at, h)
+module _ (d : Device) (rows : List ℕ) where
+  -- whether the request in row i wants every other counter quiet
+  abbrev pub lone_at : ℕ → Bool
+  lone_at i = wants_quiet (rule_for d (request_at rows i))
 
-  pub lone_on : wants_quiet (rule_for d r) ≡ false → (total : Bool) → any_lone d (rows_from rows i (count - i)) ≡ total
-      → any_lone d (rows_from rows (i + 1) (count - (i + 1))) ≡ total
-  unfolding any_lone either
-  lone_on h total e = rw (rows_next rows i count more, ← at, h) at e
+  some_lone : (n i k : ℕ) → k < n → lone_at (i + k) ≡ true → any_lone d (rows_from rows i n) ≡ true
+  unfolding any_lone rows_from either
+  some_lone zero i k l h = absurd (omega arith)
+  some_lone (suc n) i zero l h = let here : i + 0 ≡ i = omega arith in rw (rw here at h)
+  some_lone (suc n) i (suc k) l h =
+      let there : i + suc k ≡ i + 1 + k = omega arith in
+      rw (some_lone n (i + 1) k (omega arith) (rw there at h)) (go (lone_at i))
+    where
+      go : (b : Bool) → either b true ≡ true
+      go true = refl
+      go false = refl
+
+  none_lone : (n i : ℕ) → ((k : ℕ) → k < n → lone_at (i + k) ≡ false) → any_lone d (rows_from rows i n) ≡ false
+  unfolding any_lone rows_from either
+  none_lone zero i h = refl
+  none_lone (suc n) i h =
+      let here : i + 0 ≡ i = omega arith in
+      rw (rw here at (h 0 (omega arith))) (none_lone n (i + 1) (λ k l. let there : i + suc k ≡ i + 1 + k = omega arith in rw there at (h (suc k) (omega arith))))
+
+  -- `any` over the rows
+  pub lone_any : (n : ℕ) (b : Bool) → let at = range_with_len 0 n in
+      MatchBool b ((k : ℕ) × (k < length at) × HoldsAt (λ i. lone_at i ≡ true) at k) (AllWithin (λ i. lone_at i ≡ false) at 0 (length at)) → b ≡ any_lone d (rows_from rows 0 n)
+  lone_any n true (k, l, h) =
+      let within : k < n = rw (length-range_with_len 0 n) at l in
+      sym (some_lone n 0 k within (rw (get_or-range_with_len 0 n k 0 within) at (h 0)))
+  lone_any n false h =
+      sym (none_lone n 0 (λ k l. rw (get_or-range_with_len 0 n k 0 l) at (h k 0 (omega arith) (rw (length-range_with_len 0 n) l))))
 
 -- ---- whether the rules let requests through
 

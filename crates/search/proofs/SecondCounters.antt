@@ -1,8 +1,9 @@
 -- A latency request whose first counter is taken: its second counter and the rest have the plan of a request that takes one counter, and the
 -- pair stands in that plan where the counter stood. Assumes nothing.
+use Rattle.std.proofs.lemmas.Option.{none-some}
+use Rattle.std.specs.Prelude.{Option, None, Some}
 use mathlib.Core.Path.{◌≡◌, refl, ap, sym, ◌∙◌}
 use mathlib.Core.List.{List, ◌∷◌}
-use mathlib.Core.Option.{Option, none, some, none-ne-some}
 use Prim.Native.Nat.{ℕ, zero, suc, ◌+◌, ◌-◌, ◌*◌, ◌/◌, ◌%◌, ◌<◌, ◌≤◌}
 use native.Mathlib.Nat.{mul-le-mul, suc-mul}
 use native.Mathlib.Numerals.{add-one}
@@ -12,7 +13,6 @@ use Rattle.requests.specs.declared.Request.TheVariants.{Latency}
 use Rattle.plans.specs.declared.Place.{Place}
 use Rattle.plans.specs.declared.Place.TheVariants.{Counter, Pair}
 use Rattle.plans.specs.declared.Room.{Room}
-use Rattle.plans.specs.declared.Admission.{Admission}
 use Rattle.plans.specs.Places.{first, second}
 use Rattle.plans.specs.Search.{take_counter, place_of, width, first_from, put_first}
 use Rattle.search.specs.Remaining.{plan_after, plan_counter}
@@ -36,8 +36,8 @@ module _ (alone paired rest : ℕ → Option (List Place)) (j base n : ℕ) (few
       go : (x ≡ packed (first_from alone (suc k) left) → (x ≡ 0 → ⊥) → x / 64 * 64 + j * 8 + x % 64 / 8 ≡ packed (first_from paired (suc p) (left + more)))
           → (o : Option (List Place)) → alone k ≡ put_first (Counter k) o → paired p ≡ put_first (Pair j k) o
           → x / 64 * 64 + j * 8 + x % 64 / 8 ≡ packed (first_from paired p (suc left + more))
-      go later none f g = rw (ahead, first_none paired p (left + more) g) (later (e ∙ ap packed (first_none alone k left f)) found)
-      go later (some ps) f g =
+      go later None f g = rw (ahead, first_none paired p (left + more) g) (later (e ∙ ap packed (first_none alone k left f)) found)
+      go later (Some ps) f g =
           let code : x ≡ code_of ps * 64 + k * 8 + 0 = e ∙ ap packed (first_some alone k left (Counter k ∷ ps) f) in
           rw (ahead, first_some paired p (left + more) (Pair j k ∷ ps) g) (omega (arith, code))
 
@@ -51,10 +51,10 @@ module _ (alone paired rest : ℕ → Option (List Place)) (j base n : ℕ) (few
       go : (packed (first_from alone (suc k) left) ≡ 0 → first_from paired (suc p) (left + more) ≡ first_from paired q more)
           → (o : Option (List Place)) → alone k ≡ put_first (Counter k) o → paired p ≡ put_first (Pair j k) o
           → first_from paired p (suc left + more) ≡ first_from paired q more
-      go later none f g =
+      go later None f g =
           let ahead : suc left + more ≡ suc (left + more) = omega arith in
           rw (ahead, first_none paired p (left + more) g) (later (sym (ap packed (first_none alone k left f)) ∙ z))
-      go later (some ps) f g = absurd (none-ne-some (Counter k ∷ ps) (sym (none_packed _ z) ∙ first_some alone k left (Counter k ∷ ps) f))
+      go later (Some ps) f g = absurd (none-some (Counter k ∷ ps) (sym (none_packed _ z) ∙ first_some alone k left (Counter k ∷ ps) f))
 
 -- the number of a plan that begins with a counter
 alone_small : (alone rest : ℕ → Option (List Place)) → ((k : ℕ) → alone k ≡ put_first (Counter k) (rest k)) → ((k : ℕ) → packed (rest k) < 8796093022208)
@@ -65,8 +65,8 @@ alone_small alone rest one small (suc left) k few = go (alone_small alone rest o
   where
     go : packed (first_from alone (suc k) left) < 562949953421312 → (o : Option (List Place)) → alone k ≡ put_first (Counter k) o → packed o < 8796093022208
         → packed (first_from alone k (suc left)) < 562949953421312
-    go later none f g = rw (first_none alone k left f) later
-    go later (some ps) f g = rw (first_some alone k left (Counter k ∷ ps) f) (omega (arith, g))
+    go later None f g = rw (first_none alone k left f) later
+    go later (Some ps) f g = rw (first_some alone k left (Counter k ∷ ps) f) (omega (arith, g))
 
 -- the number of a plan that takes one counter for the first of at most 8 requests
 pub second_small : (n : ℕ) → n ≤ 8 → (rows : List ℕ) (next count : ℕ) (b : CounterSet) (room : Room) (x : ℕ) → count - next ≤ 7 → x ≡ packed (plan_counter n rows next count b room)
@@ -78,7 +78,7 @@ second_small n few rows next count b room x l e =
 
 -- ---- the second counter in the room that the first has left
 
-module _ (n : ℕ) (few : n ≤ 8) (rows : List ℕ) (at count : ℕ) (t : ℕ) (a b : CounterSet) (taken : ℕ → ℕ → Admission) (room : Room) (j : ℕ)
+module _ (n : ℕ) (few : n ≤ 8) (rows : List ℕ) (at count : ℕ) (t : ℕ) (a b : CounterSet) (taken : ℕ → ℕ → Option Room) (room : Room) (j : ℕ)
     (below : j < n) (seconds : (k : ℕ) → taken j k ≡ take_counter b k room) where
   abbrev tries : ℕ → Option (List Place)
   tries = tries_taking n rows at count (Latency t a b) taken

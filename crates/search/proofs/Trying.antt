@@ -1,8 +1,8 @@
 -- The places of a request tried in order give the plan of the requests that remain. Assumes nothing.
+use Rattle.std.specs.Prelude.{Option, None, Some}
 use mathlib.Core.Path.{◌≡◌, refl, sym, ◌∙◌}
 use mathlib.Core.Bool.{Bool, true, false}
 use mathlib.Core.List.{List}
-use mathlib.Core.Option.{Option, none, some}
 use Prim.Native.Nat.{ℕ, zero, suc, ◌+◌, ◌-◌, ◌*◌, ◌/◌, ◌%◌, ◌<◌, ◌≤◌}
 use native.Mathlib.Nat.{mul-le-mul, sub-zero, suc-mul, mul-one, le_refl, le-div_iff_mul-le, div-lt_iff_lt-mul}
 use native.Mathlib.Numerals.{add-one}
@@ -18,8 +18,6 @@ use Rattle.plans.specs.declared.Place.{Place}
 use Rattle.plans.specs.declared.Place.TheVariants.{Counter}
 use Rattle.plans.specs.declared.Room.{Room}
 use Rattle.search.specs.declared.left.Left.{Left}
-use Rattle.plans.specs.declared.Admission.{Admission}
-use Rattle.plans.specs.declared.Admission.TheVariants.{Admitted, NoRoom}
 use Rattle.plans.specs.Places.{first, second}
 use Rattle.plans.specs.Search.{empty_room, holds_packet, take_counter, place_of, admit, width, first_from, put_first, then_rest, try_number, plan_in}
 use Rattle.search.specs.Rows.{request_at, rows_from}
@@ -43,47 +41,47 @@ module _ (try : ℕ → Option (List Place)) (p total : ℕ) (place : Place) (re
       rw s (go rest tried e)
     where
       go : (o : Option (List Place)) → try p ≡ put_first place o → x ≡ packed o → x * 64 + first place * 8 + second place ≡ packed (first_from try p (suc (total - (p + 1))))
-      go none t h = absurd (plan h)
-      go (some ps) t h = rw (t, first_from, h)
+      go None t h = absurd (plan h)
+      go (Some ps) t h = rw (t, first_from, h)
 
   try_next : x ≡ 0 → first_from try p (total - p) ≡ first_from try (p + 1) (total - (p + 1))
   unfolding first_from put_first
   try_next z =
       let s : total - p ≡ suc (total - (p + 1)) = omega arith in
-      let nothing : try p ≡ none = tried ∙ rw (none_packed rest (sym e ∙ z)) in
+      let nothing : try p ≡ None = tried ∙ rw (none_packed rest (sym e ∙ z)) in
       rw (s, nothing, first_from) (rw (← add-one p))
 
-try_done : (try : ℕ → Option (List Place)) (p total : ℕ) → total ≤ p → first_from try p (total - p) ≡ none
+try_done : (try : ℕ → Option (List Place)) (p total : ℕ) → total ≤ p → first_from try p (total - p) ≡ None
 unfolding first_from
 try_done try p total l = let z : total - p ≡ 0 = omega arith in rw z
 
 -- one try, and those after it
-pub first_none : (try : ℕ → Option (List Place)) (p left : ℕ) → try p ≡ none → first_from try p (suc left) ≡ first_from try (suc p) left
+pub first_none : (try : ℕ → Option (List Place)) (p left : ℕ) → try p ≡ None → first_from try p (suc left) ≡ first_from try (suc p) left
 unfolding first_from
 first_none try p left e = rw (e, first_from)
 
-pub first_some : (try : ℕ → Option (List Place)) (p left : ℕ) (ps : List Place) → try p ≡ some ps → first_from try p (suc left) ≡ some ps
+pub first_some : (try : ℕ → Option (List Place)) (p left : ℕ) (ps : List Place) → try p ≡ Some ps → first_from try p (suc left) ≡ Some ps
 unfolding first_from
 first_some try p left ps e = rw (e, first_from)
 
-none_tried : (try : ℕ → Option (List Place)) → ((p : ℕ) → try p ≡ none) → (p left : ℕ) → first_from try p left ≡ none
+none_tried : (try : ℕ → Option (List Place)) → ((p : ℕ) → try p ≡ None) → (p left : ℕ) → first_from try p left ≡ None
 unfolding first_from
 none_tried try h p zero = refl
 none_tried try h p (suc left) = rw (h p, first_from) (none_tried try h (suc p) left)
 
 -- tries that give nothing are passed over
-tries_skipped : (try : ℕ → Option (List Place)) (total p q : ℕ) → p ≤ q → ((i : ℕ) → p ≤ i → i < q → try i ≡ none) → first_from try p (total - p) ≡ first_from try q (total - q)
+tries_skipped : (try : ℕ → Option (List Place)) (total p q : ℕ) → p ≤ q → ((i : ℕ) → p ≤ i → i < q → try i ≡ None) → first_from try p (total - p) ≡ first_from try q (total - q)
 unfolding first_from
 tries_skipped try total p q l h = go (q - p) p (omega arith) h
   where
-    step : (r : ℕ) → try r ≡ none → first_from try r (total - r) ≡ first_from try (suc r) (total - suc r)
+    step : (r : ℕ) → try r ≡ None → first_from try r (total - r) ≡ first_from try (suc r) (total - suc r)
     step r e = past (total - r) refl
       where
         past : (left : ℕ) → total - r ≡ left → first_from try r left ≡ first_from try (suc r) (total - suc r)
         past zero z = let y : total - suc r ≡ 0 = omega arith in rw y
         past (suc left) z = let y : total - suc r ≡ left = omega arith in rw (y, e, first_from)
 
-    go : (gap r : ℕ) → r + gap ≡ q → ((i : ℕ) → r ≤ i → i < q → try i ≡ none) → first_from try r (total - r) ≡ first_from try q (total - q)
+    go : (gap r : ℕ) → r + gap ≡ q → ((i : ℕ) → r ≤ i → i < q → try i ≡ None) → first_from try r (total - r) ≡ first_from try q (total - q)
     go zero r e f = let same : r ≡ q = omega arith in rw same
     go (suc gap) r e f = step r (f r (omega arith) (omega arith)) ∙ go gap (suc r) (omega arith) (λ i a b. f i (omega arith) b)
 
@@ -95,18 +93,18 @@ module _ (n : ℕ) (rows : List ℕ) (at count : ℕ) where
   none_remain m e = let z : count - at ≡ 0 = omega arith in rw z
 
   -- the rest is planned in the room that is left
-  rest_planned : (p : Place) (a : Admission) → then_rest (plan_in n (rows_from rows at (count - at))) p a ≡ put_first p (plan_after n rows at count a)
+  rest_planned : (p : Place) (a : Option Room) → then_rest (plan_in n (rows_from rows at (count - at))) p a ≡ put_first p (plan_after n rows at count a)
   unfolding then_rest put_first
-  rest_planned p (Admitted room) = refl
-  rest_planned p NoRoom = refl
+  rest_planned p (Some room) = refl
+  rest_planned p None = refl
 
   -- a counter is taken where the register is held, and the plan of the rest is x
   module _ (a : CounterSet) (k : ℕ) (left : Left) (held : Bool) (x : ℕ) where
     pub held_taken : (after : Left) (y : ℕ) → held ≡ true → available a left.free k ≡ true → after ≡ without_counter left k
-        → y ≡ packed (plan_from n rows at count (room_of rows after)) → x ≡ y → x ≡ packed (plan_after n rows at count (pick held (take_counter a k (room_of rows left)) NoRoom))
+        → y ≡ packed (plan_from n rows at count (room_of rows after)) → x ≡ y → x ≡ packed (plan_after n rows at count (pick held (take_counter a k (room_of rows left)) None))
     held_taken after y h free e planned is = rw (h, counter_taken rows a k left after free e, is) planned
 
-    pub held_not : held ≡ false → x ≡ 0 → x ≡ packed (plan_after n rows at count (pick held (take_counter a k (room_of rows left)) NoRoom))
+    pub held_not : held ≡ false → x ≡ 0 → x ≡ packed (plan_after n rows at count (pick held (take_counter a k (room_of rows left)) None))
     unfolding packed
     held_not h z = rw h z
 
@@ -115,7 +113,7 @@ abbrev tries : ℕ → List ℕ → ℕ → ℕ → Request → Room → ℕ →
 tries n rows at count r m = try_number (plan_in n (rows_from rows (at + 1) (count - (at + 1)))) n r m
 
 -- the same, where `taken` says what each place leaves
-unfoldable pub tries_taking : ℕ → List ℕ → ℕ → ℕ → Request → (ℕ → ℕ → Admission) → ℕ → Option (List Place)
+unfoldable pub tries_taking : ℕ → List ℕ → ℕ → ℕ → Request → (ℕ → ℕ → Option Room) → ℕ → Option (List Place)
 tries_taking n rows at count r taken p =
     let w = width n r in
     then_rest (plan_in n (rows_from rows (at + 1) (count - (at + 1)))) (place_of r (p / w) (p % w)) (taken (p / w) (p % w))
@@ -124,7 +122,7 @@ tries_taking n rows at count r taken p =
 abbrev pub tries_from : ℕ → ℕ → (ℕ → Option (List Place)) → ℕ → ℕ → Option (List Place)
 tries_from n w try k j = first_from try (k * w + j) (n * w - (k * w + j))
 
-module _ (n : ℕ) (rows : List ℕ) (at count : ℕ) (r : Request) (taken : ℕ → ℕ → Admission) where
+module _ (n : ℕ) (rows : List ℕ) (at count : ℕ) (r : Request) (taken : ℕ → ℕ → Option Room) where
   abbrev try : ℕ → Option (List Place)
   try = tries_taking n rows at count r taken
 
@@ -164,20 +162,20 @@ module _ (n : ℕ) (rows : List ℕ) (at count : ℕ) (r : Request) (taken : ℕ
           rw s (try_next try (k * w + j) (n * w) (place_of r k j) _ x inside place_tried g z)
 
   -- counters that are not there are passed over
-  pub places_skipped : (w k l : ℕ) → w ≡ width n r → 1 ≤ w → k ≤ l → ((i : ℕ) → k ≤ i → i < l → (j : ℕ) → taken i j ≡ NoRoom)
+  pub places_skipped : (w k l : ℕ) → w ≡ width n r → 1 ≤ w → k ≤ l → ((i : ℕ) → k ≤ i → i < l → (j : ℕ) → taken i j ≡ None)
       → tries_from n w try k 0 ≡ tries_from n w try l 0
   unfolding tries_taking then_rest
   places_skipped w k l e wide lower missing =
       tries_skipped try (n * w) (k * w + 0) (l * w + 0) (omega (arith, mul-le-mul lower (le_refl w)))
       (λ p from below. rw (← e, missing (p / w) ((le-div_iff_mul-le wide).1 (omega arith)) ((div-lt_iff_lt-mul wide).1 (omega arith)) (p % w)))
 
-pub tries_done : (n w k j : ℕ) (try : ℕ → Option (List Place)) → n ≤ k → tries_from n w try k j ≡ none
+pub tries_done : (n w k j : ℕ) (try : ℕ → Option (List Place)) → n ≤ k → tries_from n w try k j ≡ None
 tries_done n w k j try h =
     let row : n * w ≤ k * w = mul-le-mul h (omega arith) in
     try_done try (k * w + j) (n * w) (omega (arith, row))
 
 -- a request that is admitted nowhere
-pub nowhere_admitted : (n : ℕ) (rows : List ℕ) (at count : ℕ) (m : Room) (r : Request) → at < count → r ≡ request_at rows at → ((k j : ℕ) → admit r k j m ≡ NoRoom)
+pub nowhere_admitted : (n : ℕ) (rows : List ℕ) (at count : ℕ) (m : Room) (r : Request) → at < count → r ≡ request_at rows at → ((k j : ℕ) → admit r k j m ≡ None)
     → 0 ≡ packed (plan_from n rows at count m)
 unfolding packed plan_in try_number then_rest
 nowhere_admitted n rows at count m r l e h =
@@ -245,7 +243,7 @@ module _ (n : ℕ) (rows : List ℕ) (next count : ℕ) (a : CounterSet) (room :
       number : (k : ℕ) → counter_first n rows next count a room k ≡ counter_first n rows next count choice room k
       number k = rw (counter_chosen a choice k room (chosen k))
 
-  pub counter_done : (k : ℕ) → n ≤ k → first_from counters k (n - k) ≡ none
+  pub counter_done : (k : ℕ) → n ≤ k → first_from counters k (n - k) ≡ None
   counter_done k l = try_done counters k n l
 
 -- the search from the first row on

@@ -2,10 +2,10 @@
 --     none-packed, some-packed   a number that is 0 stands for no plan, and any other for a plan
 --     plan-packed                .. so that it tells whether the requests have a plan
 --     plan-unpacked              the places read out of the number are those of the plan
+use Rattle.std.specs.Prelude.{Option, None, Some}
 use mathlib.Core.Path.{◌≡◌, refl, ap₂, sym, ◌∙◌}
 use mathlib.Core.Bool.{Bool, true, false, not}
 use mathlib.Core.List.{List, [], ◌∷◌, map}
-use mathlib.Core.Option.{Option, none, some}
 use Prim.Native.Nat.{ℕ, zero, suc, ◌+◌, ◌-◌, ◌*◌, ◌/◌, ◌%◌, ◌^◌, ◌<◌, ◌≤◌}
 use native.Mathlib.Omega.{arith}
 use lib.Dec.{eqb}
@@ -21,8 +21,6 @@ use Rattle.requests.specs.Devices.{counter_count}
 use Rattle.requests.proofs.DeviceNumbers.{numbers}
 use Rattle.plans.specs.declared.Place.{Place}
 use Rattle.plans.specs.declared.Room.{Room}
-use Rattle.plans.specs.declared.Admission.{Admission}
-use Rattle.plans.specs.declared.Admission.TheVariants.{Admitted, NoRoom}
 use Rattle.plans.specs.Places.{first, second}
 use Rattle.plans.specs.Narrowed.{narrowed, quiet_kept}
 use Rattle.plans.specs.Search.{empty_room, place_of, width, plan_in, first_plan, has_plan_lem}
@@ -67,23 +65,23 @@ unfolding code_of
 code_pos [] = omega arith
 code_pos (p ∷ ps) = omega (arith, code_pos ps)
 
-pub none_packed : (o : Option (List Place)) → packed o ≡ 0 → o ≡ none
+pub none_packed : (o : Option (List Place)) → packed o ≡ 0 → o ≡ None
 unfolding packed
-none_packed none e = refl
-none_packed (some ps) e = absurd (omega (arith, code_pos ps))
+none_packed None e = refl
+none_packed (Some ps) e = absurd (omega (arith, code_pos ps))
 
-pub some_packed : (o : Option (List Place)) → (packed o ≡ 0 → ⊥) → (ps : List Place) × (o ≡ some ps)
+pub some_packed : (o : Option (List Place)) → (packed o ≡ 0 → ⊥) → (ps : List Place) × (o ≡ Some ps)
 unfolding packed
-some_packed none f = absurd (f refl)
-some_packed (some ps) f = (ps, refl)
+some_packed None f = absurd (f refl)
+some_packed (Some ps) f = (ps, refl)
 
 pub plan_packed : (s : Setup) (rs : List Request) → eqb (packed (first_plan s rs)) 0 ≡ not (has_plan_lem s rs)
 unfolding has_plan_lem packed
 plan_packed s rs = go (first_plan s rs)
   where
     go : (o : Option (List Place)) → eqb (packed o) 0 ≡ not (is_some o)
-    go none = refl
-    go (some ps) = ne_eqb (code_of ps) 0 (λ e. omega (arith, code_pos ps))
+    go None = refl
+    go (Some ps) = ne_eqb (code_of ps) 0 (λ e. omega (arith, code_pos ps))
 
 -- ---- its places
 
@@ -115,7 +113,7 @@ places_narrowed d code i [] = refl
 places_narrowed d code i (r ∷ rs) =
     ap₂ (λ (p : Place) (ps : List Place). p ∷ ps) (place_narrowed d r (code / 2 ^ (6 * i) / 8 % 8) (code / 2 ^ (6 * i) % 8)) (places_narrowed d code (i + 1) rs)
 
-pub plan_unpacked : (s : Setup) (rs : List Request) (ps : List Place) → first_plan s rs ≡ some ps → places_from (packed (first_plan s rs)) 0 rs ≡ ps
+pub plan_unpacked : (s : Setup) (rs : List Request) (ps : List Place) → first_plan s rs ≡ Some ps → places_from (packed (first_plan s rs)) 0 rs ≡ ps
 unfolding packed
 plan_unpacked s rs ps e =
     let n = counter_count s.device in
@@ -154,8 +152,8 @@ unfolding packed
 plan_code n few rs m l = go (plan_in n rs m) refl
   where
     go : (o : Option (List Place)) → plan_in n rs m ≡ o → packed o < 8796093022208
-    go none e = omega arith
-    go (some ps) e = omega (arith, placed_code n few (plan_placed n rs m ps e), limit_le (length rs) l)
+    go None e = omega arith
+    go (Some ps) e = omega (arith, placed_code n few (plan_placed n rs m ps e), limit_le (length rs) l)
 
 pub first_code : (s : Setup) (rs : List Request) → length rs ≤ 7 → packed (first_plan s rs) < 8796093022208
 unfolding first_plan packed
@@ -164,11 +162,11 @@ first_code s rs l = go (quiet_kept s rs)
     plan : Option (List Place)
     plan = plan_in (counter_count s.device) (map (narrowed s.device) rs) (empty_room s)
 
-    go : (b : Bool) → packed (pick b plan none) < 8796093022208
+    go : (b : Bool) → packed (pick b plan None) < 8796093022208
     go true = plan_code (counter_count s.device) (counters_few s.device).1 (map (narrowed s.device) rs) (empty_room s) (omega (arith, length-map rs (narrowed s.device)))
     go false = omega arith
 
-pub rest_code : (n : ℕ) → n ≤ 8 → (rows : List ℕ) (at count : ℕ) (a : Admission) (x : ℕ) → count - at ≤ 7 → x ≡ packed (plan_after n rows at count a) → x < 8796093022208
+pub rest_code : (n : ℕ) → n ≤ 8 → (rows : List ℕ) (at count : ℕ) (a : Option Room) (x : ℕ) → count - at ≤ 7 → x ≡ packed (plan_after n rows at count a) → x < 8796093022208
 unfolding packed
-rest_code n few rows at count (Admitted m) x l e = rw e (plan_code n few (rows_from rows at (count - at)) m (omega (arith, rows_length rows at (count - at))))
-rest_code n few rows at count NoRoom x l e = rw e (omega arith)
+rest_code n few rows at count (Some m) x l e = rw e (plan_code n few (rows_from rows at (count - at)) m (omega (arith, rows_length rows at (count - at))))
+rest_code n few rows at count None x l e = rw e (omega arith)

@@ -24,3 +24,9 @@ pub record NextIn (set : CounterSet) (k r : ℕ) : Type 0 where
   pub not_before : k ≤ r
   pub none_between : (i : ℕ) → k ≤ i → i < r → has set i ≡ false
   pub there : r < 64 → has set r ≡ true
+
+-- k is the least counter of the set, and `left` has the others
+pub record Least (set : CounterSet) (k : ℕ) (left : CounterSet) : Type 0 where
+  pub there : has set k ≡ true
+  pub next : NextIn set 0 k
+  pub others : left ≡ without set k

@@ -1,12 +1,9 @@
 -- The plan of the requests that remain on n counters, which the search answers at each step.
-use Rattle.std.specs.Prelude.{List, ℕ, ◌-◌}
-use Rattle.std.proofs.Math.Option.{Option, none}
+use Rattle.std.specs.Prelude.{List, ℕ, ◌-◌, Option, None, Some}
 use Rattle.requests.specs.declared.CounterSet.{CounterSet}
 use Rattle.plans.specs.declared.Place.{Place}
 use Rattle.plans.specs.declared.Place.TheVariants.{Counter}
 use Rattle.plans.specs.declared.Room.{Room}
-use Rattle.plans.specs.declared.Admission.{Admission}
-use Rattle.plans.specs.declared.Admission.TheVariants.{Admitted, NoRoom}
 use Rattle.plans.specs.Search.{take_counter, first_from, then_rest, plan_in}
 use Rattle.search.specs.Rows.{rows_from}
 
@@ -15,9 +12,9 @@ abbrev pub plan_from : ℕ → List ℕ → ℕ → ℕ → Room → Option (Lis
 plan_from n rows at count room = plan_in n (rows_from rows at (count - at)) room
 
 -- the same in the room that is left
-abbrev pub plan_after : ℕ → List ℕ → ℕ → ℕ → Admission → Option (List Place)
-plan_after n rows at count (Admitted room) = plan_from n rows at count room
-plan_after n rows at count NoRoom = none
+abbrev pub plan_after : ℕ → List ℕ → ℕ → ℕ → Option Room → Option (List Place)
+plan_after n rows at count (Some room) = plan_from n rows at count room
+plan_after n rows at count None = None
 
 -- the plan that begins with counter k, taken from the room
 unfoldable pub counter_first : ℕ → List ℕ → ℕ → ℕ → CounterSet → Room → ℕ → Option (List Place)

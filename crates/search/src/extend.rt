@@ -1,12 +1,12 @@
 // A plan extended by an event, without a search: the event takes the least counter that it allows and the plan leaves free.
-ghost use Rattle.std.specs.Prelude.{true, false, ◌≡◌, [], ◌∷◌, ◌+◌, ◌*◌, ◌^◌, ◌<◌, ◌≤◌};
+ghost use Rattle.std.specs.Prelude.{true, ◌≡◌, [], ◌∷◌, ◌+◌, ◌*◌, ◌^◌, ◌<◌, ◌≤◌, IfSome};
 ghost use Rattle.plans.specs.Places.{counters_of};
 ghost use Rattle.plans.specs.Legal.{HasPlan};
 ghost use Rattle.search.specs.Rows.{rows_from};
 ghost use Rattle.plans.specs.Packed.{places_from};
 ghost use Rattle.search.specs.Beside.{Without, LeftFree, Beside, AnyUsable};
 
-use crate::counters::{available, next_in, without};
+use crate::counters::{Counters, available, without};
 use crate::packed::place_at;
 use crate::rows::{ROW_NUMBERS, request_at};
 use crate::ruled::{may_follow, runs_anywhere};
@@ -32,8 +32,7 @@ fn except_place(set: CounterSet, place: Place) -> CounterSet
     ensures { Without set (counters_of place) result }
 {
     match place {
-        Place::Counter(k) => except(set, k),
-        Place::WithRsp(k, _) => except(set, k),
+        Place::Counter(k) | Place::WithRsp(k, _) => except(set, k),
         Place::Pair(j, k) => except(except(set, j), k),
     }
 }
@@ -42,10 +41,7 @@ fn except_place(set: CounterSet, place: Place) -> CounterSet
 fn own_counters(setup: Setup) -> CounterSet
     ensures { LeftFree setup [] result }
 {
-    let device = setup.device;
-    let usable = setup.usable;
-    let all = all_counters(device);
-    CounterSet(usable.0 & all.0)
+    CounterSet(setup.usable.0 & all_counters(setup.device).0)
 }
 
 // The counters that a packed plan of the first `count` rows leaves free.
@@ -55,41 +51,32 @@ fn free_beside(setup: Setup, code: u64, rows: &[u64; ROW_NUMBERS], count: usize)
     ensures { LeftFree setup (places_from code 0 (rows_from rows.now 0 count)) result }
 {
     let mut free = own_counters(setup);
-    let mut i: usize = 0;
-    while i < count {
-        let place = place_at(code, i, request_at(rows, i));
-        free = except_place(free, place);
-        i += 1;
+    for i in 0..count {
+        free = except_place(free, place_at(code, i, request_at(rows, i)));
     }
     free
 }
 
-// The least counter of an event beside a packed plan, where no rule stands in the way; 64 or more where there is none, and for any other request.
+// The least counter of an event beside a packed plan, where no rule stands in the way. None is told of any other request.
 pub fn counter_beside(
     setup: Setup,
     code: u64,
     rows: &[u64; ROW_NUMBERS],
     count: usize,
     request: Request,
-) -> u64
+) -> Option<u64>
     requires { count ≤ 8 }
-    ensures { result < 64 → Beside setup (rows_from rows.now 0 count) code request result }
+    ensures { IfSome result (λ k. Beside setup (rows_from rows.now 0 count) code request k) }
 {
     match request {
         Request::Event {
             code: event,
             mask,
             allowed,
-        } => {
-            let device = setup.device;
-            if may_follow(device, rows, count, event, mask) {
-                return next_in(available(allowed, free_beside(setup, code, rows, count)), 0);
-            }
-            64
+        } if may_follow(setup.device, rows, count, event, mask) => {
+            Counters(available(allowed, free_beside(setup, code, rows, count))).next()
         }
-        Request::Packet { .. } => 64,
-        Request::Offcore { .. } => 64,
-        Request::Latency { .. } => 64,
+        _ => None,
     }
 }
 
@@ -97,7 +84,9 @@ pub fn counter_beside(
 pub fn any_usable(setup: Setup, allowed: CounterSet) -> bool
     ensures { result ≡ true → AnyUsable setup allowed }
 {
-    next_in(available(allowed, own_counters(setup)), 0) < 64
+    Counters(available(allowed, own_counters(setup)))
+        .next()
+        .is_some()
 }
 
 // Whether a request that takes one counter, any that it allows, has one, and so a plan alone. Nothing is said of the others.
@@ -109,19 +98,10 @@ pub fn counter_alone(setup: Setup, request: Request) -> bool
             code,
             mask,
             allowed,
-        } => {
-            let device = setup.device;
-            if runs_anywhere(rule_of(device, code, mask)) {
-                return any_usable(setup, allowed);
-            }
-            false
+        } => runs_anywhere(rule_of(setup.device, code, mask)) && any_usable(setup, allowed),
+        Request::Packet { allowed, .. } | Request::Offcore { allowed, .. } => {
+            any_usable(setup, allowed)
         }
-        Request::Packet {
-            match_word: _,
-            mask_word: _,
-            allowed,
-        } => any_usable(setup, allowed),
-        Request::Offcore { word: _, allowed } => any_usable(setup, allowed),
         Request::Latency { .. } => false,
     }
 }

@@ -6,33 +6,22 @@ ghost use Rattle.plans.specs.FilterWords.{none_asked, ask_word, ask_packet, aske
 
 use crate::rows::{EVENT, ROW_NUMBERS, request_at};
 use checks::bits::latency_word;
-use plans::{Asked, Filter, Register};
+use plans::Asked;
 use requests::Request;
 
 // Whether an RSP register can hold the word.
-fn holds(register: Register, word: u64) -> bool
+fn holds(register: Option<u64>, word: u64) -> bool
     ensures { result ≡ holds register word }
 {
-    match register {
-        Register::Unused => true,
-        Register::Word(held) => held == word,
-    }
+    register.is_none_or(|held| held == word)
 }
 
 // Whether the match/mask register can hold the words.
 #[tactic(auto, unfolding(requests::specs::Choice::both))]
-fn holds_both(filter: Filter, x: u64, y: u64) -> bool
+fn holds_both(filter: Option<(u64, u64)>, x: u64, y: u64) -> bool
     ensures { result ≡ holds_packet filter x y }
 {
-    match filter {
-        Filter::Off => true,
-        Filter::Words(match_word, mask_word) => {
-            if match_word == x {
-                return mask_word == y;
-            }
-            false
-        }
-    }
+    filter.is_none_or(|(match_word, mask_word)| match_word == x && mask_word == y)
 }
 
 // Nothing is asked for.
@@ -41,9 +30,9 @@ fn none_asked() -> Asked
     ensures { result ≡ none_asked }
 {
     Asked {
-        first: Register::Unused,
-        second: Register::Unused,
-        packet: Filter::Off,
+        first: None,
+        second: None,
+        packet: None,
         crowded: false,
     }
 }
@@ -53,30 +42,21 @@ fn none_asked() -> Asked
 fn ask_word(word: u64, asked: Asked) -> Asked
     ensures { result ≡ ask_word word asked }
 {
-    let first = asked.first;
-    let second = asked.second;
-    let packet = asked.packet;
-    if holds(first, word) {
+    if holds(asked.first, word) {
         return Asked {
-            first: Register::Word(word),
-            second,
-            packet,
-            crowded: asked.crowded,
+            first: Some(word),
+            ..asked
         };
     }
-    if holds(second, word) {
+    if holds(asked.second, word) {
         return Asked {
-            first,
-            second: Register::Word(word),
-            packet,
-            crowded: asked.crowded,
+            second: Some(word),
+            ..asked
         };
     }
     Asked {
-        first,
-        second,
-        packet,
         crowded: true,
+        ..asked
     }
 }
 
@@ -85,22 +65,15 @@ fn ask_word(word: u64, asked: Asked) -> Asked
 fn ask_packet(x: u64, y: u64, asked: Asked) -> Asked
     ensures { result ≡ ask_packet x y asked }
 {
-    let first = asked.first;
-    let second = asked.second;
-    let packet = asked.packet;
-    if holds_both(packet, x, y) {
+    if holds_both(asked.packet, x, y) {
         return Asked {
-            first,
-            second,
-            packet: Filter::Words(x, y),
-            crowded: asked.crowded,
+            packet: Some((x, y)),
+            ..asked
         };
     }
     Asked {
-        first,
-        second,
-        packet,
         crowded: true,
+        ..asked
     }
 }
 
@@ -131,10 +104,8 @@ fn crowded(rows: &[u64; ROW_NUMBERS], count: usize) -> bool
     ensures { result ≡ crowded (rows_from rows.now 0 count) }
 {
     let mut asked = none_asked();
-    let mut i: usize = 0;
-    while i < count {
+    for i in 0..count {
         asked = asked_by(request_at(rows, i), asked);
-        i += 1;
     }
     asked.crowded
 }
@@ -144,11 +115,5 @@ pub fn crowded_by_last(rows: &[u64; ROW_NUMBERS], count: usize) -> bool
     requires { count ≤ 8 }
     ensures { result ≡ true → crowded (rows_from rows.now 0 count) ≡ true }
 {
-    if count == 0 {
-        return false;
-    }
-    if rows[(count - 1) * 4] == EVENT {
-        return false;
-    }
-    crowded(rows, count)
+    count != 0 && rows[(count - 1) * 4] != EVENT && crowded(rows, count)
 }

@@ -27,30 +27,12 @@ fn same_packet(request: Request, x: u64, y: u64) -> bool
     ensures { result ≡ holds_packet (asked_packet request) x y }
 {
     match request {
-        Request::Event {
-            code: _,
-            mask: _,
-            allowed: _,
-        } => true,
         Request::Packet {
             match_word,
             mask_word,
-            allowed: _,
-        } => {
-            if match_word == x {
-                return mask_word == y;
-            }
-            false
-        }
-        Request::Offcore {
-            word: _,
-            allowed: _,
-        } => true,
-        Request::Latency {
-            types: _,
-            first: _,
-            second: _,
-        } => true,
+            ..
+        } => match_word == x && mask_word == y,
+        Request::Event { .. } | Request::Offcore { .. } | Request::Latency { .. } => true,
     }
 }
 

@@ -4,54 +4,44 @@ ghost use Rattle.plans.specs.Search.{first_plan};
 ghost use Rattle.search.specs.Rows.{rows_from};
 ghost use Rattle.search.specs.Found.{found_of};
 
-use crate::Found;
 use crate::packed::places_of;
 use crate::plan_rows::plan_rows;
 use crate::rows::{ROW_NUMBERS, put_request};
+use plans::Place;
 use requests::{CAPACITY, Request, Setup};
 
-// The rows become the first `count` requests.
+// The rows become the requests.
 #[tactic(auto, unfolding(crate::specs::Rows::rows_from))]
-fn put_requests(rows: &mut [u64; ROW_NUMBERS], requests: [Request; CAPACITY], count: usize)
-    requires { (count ≤ 8) × (length rows.old ≡ 32) }
-    ensures { rows_from rows.new 0 count ≡ take count requests }
+fn put_requests(rows: &mut [u64; ROW_NUMBERS], requests: &[Request])
+    requires { (length requests.now ≤ 8) × (length rows.old ≡ 32) }
+    ensures { rows_from rows.new 0 (length requests.now) ≡ requests.now }
 {
-    let mut i: usize = 0;
-    while i < count {
-        let request = requests[i];
-        put_request(rows, i, request);
-        i += 1;
+    for (i, request) in requests.iter().enumerate() {
+        put_request(rows, i, *request);
     }
 }
 
 // The first plan of at most 8 requests.
-fn plan_of(setup: Setup, requests: [Request; CAPACITY], count: usize) -> Found
-    requires { count ≤ 8 }
-    ensures { result ≡ found_of (first_plan setup (take count requests)) }
+fn plan_of(setup: Setup, requests: &[Request]) -> Option<[Place; CAPACITY]>
+    requires { length requests.now ≤ 8 }
+    ensures { result ≡ found_of (first_plan setup requests.now) }
 {
-    let mut rows: [u64; ROW_NUMBERS] = [0; ROW_NUMBERS];
-    put_requests(&mut rows, requests, count);
-    let code = plan_rows(setup, &rows, count);
+    let mut rows = [0; ROW_NUMBERS];
+    put_requests(&mut rows, requests);
+    let code = plan_rows(setup, &rows, requests.len());
     if code == 0 {
-        let places = places_of(0, &rows, 0);
-        return Found {
-            found: false,
-            places: places,
-        };
+        return None;
     }
-    let places = places_of(code, &rows, count);
-    Found {
-        found: true,
-        places: places,
-    }
+    Some(places_of(code, &rows, requests.len()))
 }
 
 // The first plan of the first `count` requests.
-pub fn first_plan(setup: Setup, requests: [Request; CAPACITY], count: usize) -> Found
+pub fn first_plan(
+    setup: Setup,
+    requests: [Request; CAPACITY],
+    count: usize,
+) -> Option<[Place; CAPACITY]>
     ensures { result ≡ found_of (first_plan setup (take count requests)) }
 {
-    if 8 <= count {
-        return plan_of(setup, requests, 8);
-    }
-    plan_of(setup, requests, count)
+    plan_of(setup, &requests[..count.min(CAPACITY)])
 }

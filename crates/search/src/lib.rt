@@ -1,9 +1,6 @@
 // The first plan by a search, and the tests that spare it.
 #![tactic(auto)]
 
-use plans::Place;
-use requests::CAPACITY;
-
 mod counters;
 pub mod extend;
 pub mod filter_words;
@@ -18,19 +15,6 @@ pub mod reach;
 mod remaining;
 pub mod rows;
 mod ruled;
-
-// What one request is given.
-#[derive(Clone, Copy)]
-pub struct Given {
-    pub place: Place,
-}
-
-// Whether there is a plan, and what it gives each request, in their order.
-#[derive(Clone, Copy)]
-pub struct Found {
-    pub found: bool,
-    pub places: [Given; CAPACITY],
-}
 
 // A request as a row of four numbers: its kind, and what it holds.
 #[derive(Clone, Copy)]

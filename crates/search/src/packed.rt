@@ -5,7 +5,6 @@ ghost use Rattle.search.specs.Rows.{rows_from};
 ghost use Rattle.plans.specs.Packed.{place_at_lem, places_from};
 ghost use Rattle.search.specs.Found.{given};
 
-use crate::Given;
 use crate::rows::{ROW_NUMBERS, request_at};
 use plans::Place;
 use requests::{CAPACITY, Request};
@@ -16,25 +15,9 @@ fn place_of(request: Request, k: u64, j: u64) -> Place
     ensures { result ≡ place_of request k j }
 {
     match request {
-        Request::Event {
-            code: _,
-            mask: _,
-            allowed: _,
-        } => Place::Counter(k),
-        Request::Packet {
-            match_word: _,
-            mask_word: _,
-            allowed: _,
-        } => Place::Counter(k),
-        Request::Offcore {
-            word: _,
-            allowed: _,
-        } => Place::WithRsp(k, j),
-        Request::Latency {
-            types: _,
-            first: _,
-            second: _,
-        } => Place::Pair(k, j),
+        Request::Event { .. } | Request::Packet { .. } => Place::Counter(k),
+        Request::Offcore { .. } => Place::WithRsp(k, j),
+        Request::Latency { .. } => Place::Pair(k, j),
     }
 }
 
@@ -50,18 +33,13 @@ pub fn place_at(code: u64, i: usize, request: Request) -> Place
 
 // The places of the requests in the first `count` rows, in their array.
 #[tactic(auto, unfolding(crate::specs::Rows::rows_from, plans::specs::Packed::places_from, crate::specs::Found::given, crate::specs::Found::nothing, requests::specs::Devices::capacity))]
-pub fn places_of(code: u64, rows: &[u64; ROW_NUMBERS], count: usize) -> [Given; CAPACITY]
+pub fn places_of(code: u64, rows: &[u64; ROW_NUMBERS], count: usize) -> [Place; CAPACITY]
     requires { count ≤ 8 }
     ensures { result ≡ given (places_from code 0 (rows_from rows.now 0 count)) }
 {
-    let mut places = [Given {
-        place: Place::Counter(0),
-    }; 8];
-    let mut i: usize = 0;
-    while i < count {
-        let place = place_at(code, i, request_at(rows, i));
-        places[i] = Given { place: place };
-        i += 1;
+    let mut places = [Place::Counter(0); CAPACITY];
+    for i in 0..count {
+        places[i] = place_at(code, i, request_at(rows, i));
     }
     places
 }

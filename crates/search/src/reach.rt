@@ -37,14 +37,10 @@ fn taking_one(n: u64, allowed: CounterSet, sets: u64) -> u64
     requires { n ≤ 6 }
     ensures { result ≡ taking_one n allowed sets }
 {
-    let mut left: u64 = 0;
-    let mut k: u64 = 0;
-    while k < n {
-        let on = has(allowed, k);
-        let one = taking(k, sets);
-        k += 1;
-        if on {
-            left = left | one;
+    let mut left = 0;
+    for k in 0..n {
+        if has(allowed, k) {
+            left |= taking(k, sets);
         }
     }
     left
@@ -57,9 +53,9 @@ pub fn left_by(n: u64, request: Request, sets: u64) -> u64
     ensures { result ≡ left_by n request sets }
 {
     match request {
-        Request::Event { allowed, .. } => taking_one(n, allowed, sets),
-        Request::Packet { allowed, .. } => taking_one(n, allowed, sets),
-        Request::Offcore { allowed, .. } => taking_one(n, allowed, sets),
+        Request::Event { allowed, .. }
+        | Request::Packet { allowed, .. }
+        | Request::Offcore { allowed, .. } => taking_one(n, allowed, sets),
         Request::Latency { first, second, .. } => {
             taking_one(n, second, taking_one(n, first, sets))
         }

@@ -1,4 +1,5 @@
 // Requests as rows of four numbers in one array: the form in which the search reads them.
+// Form: (a) the C interface (`rattle_plan_rows` of bench) gives the rows as numbers, kinds too, in an array of fixed length with a count.
 ghost use Rattle.std.specs.Prelude.{◌≡◌, List, ℕ, ◌<◌, length};
 ghost use Rattle.search.specs.Rows.{request_of, request_at, set_row, set_request};
 
@@ -22,30 +23,26 @@ const LATENCY: u64 = 3;
 pub fn request_of(kind: u64, a: u64, b: u64, c: u64) -> Request
     ensures { result ≡ request_of kind a b c }
 {
-    if kind == EVENT {
-        return Request::Event {
+    match kind {
+        EVENT => Request::Event {
             code: (a % 256) as u8,
             mask: (b % 256) as u8,
             allowed: CounterSet(c),
-        };
-    }
-    if kind == PACKET {
-        return Request::Packet {
+        },
+        PACKET => Request::Packet {
             match_word: a,
             mask_word: b,
             allowed: CounterSet(c),
-        };
-    }
-    if kind == OFFCORE {
-        return Request::Offcore {
+        },
+        OFFCORE => Request::Offcore {
             word: a,
             allowed: CounterSet(c),
-        };
-    }
-    Request::Latency {
-        types: (a % 65536) as u16,
-        first: CounterSet(b),
-        second: CounterSet(c),
+        },
+        _ => Request::Latency {
+            types: (a % 65536) as u16,
+            first: CounterSet(b),
+            second: CounterSet(c),
+        },
     }
 }
 
@@ -55,18 +52,8 @@ pub fn request_at(rows: &[u64; ROW_NUMBERS], at: usize) -> Request
     requires { at < 8 }
     ensures { result ≡ request_at rows.now at }
 {
-    let kind = rows[at * 4];
-    let a = rows[at * 4 + 1];
-    let b = rows[at * 4 + 2];
-    let c = rows[at * 4 + 3];
-    request_of(kind, a, b, c)
-}
-
-// A row of four numbers.
-fn row(kind: u64, a: u64, b: u64, c: u64) -> Row
-    ensures { result ≡ record { kind = kind; a = a; b = b; c = c } }
-{
-    Row { kind, a, b, c }
+    let row = at * 4;
+    request_of(rows[row], rows[row + 1], rows[row + 2], rows[row + 3])
 }
 
 // The row of a request, which reads back as it.
@@ -75,24 +62,25 @@ pub fn row_of(request: Request) -> Row
     ensures c_value { request_of result.kind result.a result.b result.c ≡ request }
     ensures by_index { (rows : List ℕ) (at : ℕ) → set_row rows at result.kind result.a result.b result.c ≡ set_request rows at request }
 {
-    match request {
+    let (kind, a, b, c) = match request {
         Request::Event {
             code,
             mask,
             allowed,
-        } => row(EVENT, code as u64, mask as u64, allowed.0),
+        } => (EVENT, u64::from(code), u64::from(mask), allowed.0),
         Request::Packet {
             match_word,
             mask_word,
             allowed,
-        } => row(PACKET, match_word, mask_word, allowed.0),
-        Request::Offcore { word, allowed } => row(OFFCORE, word, 0, allowed.0),
+        } => (PACKET, match_word, mask_word, allowed.0),
+        Request::Offcore { word, allowed } => (OFFCORE, word, 0, allowed.0),
         Request::Latency {
             types,
             first,
             second,
-        } => row(LATENCY, types as u64, first.0, second.0),
-    }
+        } => (LATENCY, u64::from(types), first.0, second.0),
+    };
+    Row { kind, a, b, c }
 }
 
 // Row `at` becomes the request, and reads back as it.

@@ -30,8 +30,7 @@ fn allowed_by(rule: EventRule, allowed: CounterSet) -> CounterSet
 {
     match rule {
         EventRule::Anywhere => allowed,
-        EventRule::OnlyOn(k) => only_counter(k, allowed),
-        EventRule::AloneOn(k) => only_counter(k, allowed),
+        EventRule::OnlyOn(k) | EventRule::AloneOn(k) => only_counter(k, allowed),
     }
 }
 
@@ -50,9 +49,7 @@ fn narrowed(device: Device, request: Request) -> Request
             mask,
             allowed: allowed_by(rule_of(device, code, mask), allowed),
         },
-        Request::Packet { .. } => request,
-        Request::Offcore { .. } => request,
-        Request::Latency { .. } => request,
+        Request::Packet { .. } | Request::Offcore { .. } | Request::Latency { .. } => request,
     }
 }
 
@@ -67,11 +64,8 @@ pub fn narrow_rows(
     requires { (count ≤ 8) × (length others.old ≡ 32) }
     ensures { rows_from others.new 0 count ≡ map (narrowed device) (rows_from rows.now 0 count) }
 {
-    let mut i: usize = 0;
-    while i < count {
-        let request = narrowed(device, request_at(rows, i));
-        put_request(others, i, request);
-        i += 1;
+    for i in 0..count {
+        put_request(others, i, narrowed(device, request_at(rows, i)));
     }
 }
 
@@ -80,11 +74,7 @@ pub fn narrow_rows(
 fn wants_quiet(rule: EventRule) -> bool
     ensures { result ≡ wants_quiet rule }
 {
-    match rule {
-        EventRule::Anywhere => false,
-        EventRule::OnlyOn(_) => false,
-        EventRule::AloneOn(_) => true,
-    }
+    matches!(rule, EventRule::AloneOn(_))
 }
 
 // Whether a request in the first `count` rows wants every other counter quiet.
@@ -93,15 +83,7 @@ fn any_lone(device: Device, rows: &[u64; ROW_NUMBERS], count: usize) -> bool
     requires { count ≤ 8 }
     ensures { result ≡ any_lone device (rows_from rows.now 0 count) }
 {
-    let mut i: usize = 0;
-    while i < count {
-        let rule = rule_for(device, request_at(rows, i));
-        i += 1;
-        if wants_quiet(rule) {
-            return true;
-        }
-    }
-    false
+    (0..count).any(|i| wants_quiet(rule_for(device, request_at(rows, i))))
 }
 
 // Whether the rule lets an event run on every counter.
@@ -109,11 +91,7 @@ fn any_lone(device: Device, rows: &[u64; ROW_NUMBERS], count: usize) -> bool
 pub fn runs_anywhere(rule: EventRule) -> bool
     ensures { result ≡ is_anywhere rule }
 {
-    match rule {
-        EventRule::Anywhere => true,
-        EventRule::OnlyOn(_) => false,
-        EventRule::AloneOn(_) => false,
-    }
+    matches!(rule, EventRule::Anywhere)
 }
 
 // Whether an event may run on every counter, and beside each of the requests in the first `count` rows.
@@ -128,13 +106,10 @@ pub fn may_follow(
     requires { count ≤ 8 }
     ensures { result ≡ may_follow device (rows_from rows.now 0 count) code mask }
 {
-    if has_rules(device) {
-        if runs_anywhere(rule_of(device, code, mask)) {
-            return !any_lone(device, rows, count);
-        }
-        return false;
+    if !has_rules(device) {
+        return true;
     }
-    true
+    runs_anywhere(rule_of(device, code, mask)) && !any_lone(device, rows, count)
 }
 
 // Whether every other counter is quiet where a request wants it: it is the only request, and all counters are usable.
@@ -147,12 +122,5 @@ pub fn quiet_kept(
     requires { count ≤ 8 }
     ensures { result ≡ quiet_kept (with_counters device usable) (rows_from rows.now 0 count) }
 {
-    if any_lone(device, rows, count) {
-        if count == 1 {
-            let all = all_counters(device);
-            return usable.0 == all.0;
-        }
-        return false;
-    }
-    true
+    !any_lone(device, rows, count) || count == 1 && usable.0 == all_counters(device).0
 }

@@ -5,4 +5,4 @@ use Rattle.search.proofs.extend.except_place.Goals as goal
 
 pub returns-in-Pair : goal.returns-in-Pair
 unfolding counters_of counted_of
-returns-in-Pair c = rw c.in-Pair.is (without_both (_ ∷ []) (_ ∷ []) c.except-in-Pair.ensures c.except-in-Pair-2.ensures)
+returns-in-Pair c = rw c.in-Pair.is (without_both (_ ∷ []) (_ ∷ []) c.except.ensures c.except-in-Pair.ensures)

@@ -7,10 +7,10 @@ use Rattle.search.proofs.extend.free_beside.Goals as goal
 pub loop-i-preserved : goal.loop-i-preserved
 loop-i-preserved c =
     let a = c.args in
-    (omega arith, rw (place_behind a.code a.rows.now c.loop-i.i _ _ c.request_at.ensures c.place_at-place.ensures) (without_place _ _ _ _ _ c.loop-i.invariant.1 c.except_place-free.ensures))
+    rw (place_behind a.code a.rows.now c.loop-i.i _ _ c.request_at.ensures c.place_at.ensures) (without_place _ _ _ _ _ c.loop-i.invariant c.except_place-free.ensures)
 
 pub returns : goal.returns
 returns c =
     let a = c.args in
     let all : c.loop-i.i ≡ a.count = omega arith in
-    rw (← all) (free_after a.setup _ _ _ c.own_counters-free.ensures c.loop-i.invariant.1)
+    rw (← all) (free_after a.setup _ _ _ c.own_counters-free.ensures c.loop-i.invariant)

@@ -5,4 +5,4 @@ use Rattle.search.proofs.extend.own_counters.Goals as goal
 pub returns : goal.returns
 returns c =
     let s = c.args.setup in
-    free_first s _ (masked s.device s.usable _ c.all_counters-all.ensures)
+    free_first s _ (masked s.device s.usable _ c.all_counters.ensures)

@@ -5,4 +5,4 @@ use Rattle.search.proofs.filter_words.crowded.Goals as goal
 pub loop-i-preserved : goal.loop-i-preserved
 loop-i-preserved c =
     let a = c.args in
-    (omega arith, asked_on a.rows.now a.count c.loop-i.i _ _ _ _ (omega arith) c.request_at.ensures c.asked_by-asked.ensures c.loop-i.invariant.1)
+    asked_on a.rows.now a.count c.loop-i.i _ _ _ _ (omega arith) c.request_at.ensures c.asked_by-asked.ensures c.loop-i.invariant

@@ -1,11 +1,7 @@
 use mathlib.Core.Path.{◌≡◌}
-use Prim.Native.Nat.{◌≤◌, ◌-◌}
 use lib.ListN.{length, take}
 use Rattle.search.specs.Rows.{rows_from}
 use Rattle.search.proofs.first_plan.put_requests.Given as goal
 
 abbrev pub invariant-loop-i : goal.invariant-loop-i
-invariant-loop-i l = (l.i ≤ l.count) × (length l.rows ≡ 32) × (rows_from l.rows 0 l.i ≡ take l.i l.requests)
-
-abbrev pub decreases-loop-i : goal.decreases-loop-i
-decreases-loop-i l = l.count - l.i
+invariant-loop-i l = (length l.rows ≡ 32) × (rows_from l.rows 0 l.i ≡ take l.i l.requests)

@@ -1,12 +1,8 @@
 use mathlib.Core.Path.{◌≡◌}
-use Prim.Native.Nat.{◌≤◌, ◌-◌}
 use Rattle.search.specs.Rows.{rows_from}
 use Rattle.plans.specs.Packed.{places_from}
 use Rattle.search.specs.Found.{given}
 use Rattle.search.proofs.packed.places_of.Given as goal
 
 abbrev pub invariant-loop-i : goal.invariant-loop-i
-invariant-loop-i l = (l.i ≤ l.count) × (l.places ≡ given (places_from l.code 0 (rows_from l.rows 0 l.i)))
-
-abbrev pub decreases-loop-i : goal.decreases-loop-i
-decreases-loop-i l = l.count - l.i
+invariant-loop-i l = l.places ≡ given (places_from l.code 0 (rows_from l.rows 0 l.i))

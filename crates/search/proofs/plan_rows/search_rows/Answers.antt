@@ -23,18 +23,17 @@ searched s rows count free x e found = rw (found, e, whole_plan (own s) rows cou
 pub place_from-requires : goal.place_from-requires
 place_from-requires c =
     let few = counters_few c.args.device in (
-      c.requires,
       omega arith,
       (omega arith, omega arith, omega arith),
       rw c.counter_count.ensures (record {
         some = few.0;
         few = few.1;
-        below = rw (masked c.args.device c.args.usable _ c.all_counters-all.ensures) (own_below c.args.device c.args.usable);
+        below = rw (masked c.args.device c.args.usable _ c.all_counters.ensures) (own_below c.args.device c.args.usable);
       }),
     )
 
 pub returns : goal.returns
 returns c =
     let a = c.args in
-    searched (with_counters a.device a.usable) a.rows.now a.count _ _ (masked a.device a.usable _ c.all_counters-all.ensures)
+    searched (with_counters a.device a.usable) a.rows.now a.count _ _ (masked a.device a.usable _ c.all_counters.ensures)
     (rw c.counter_count.ensures at c.place_from.ensures)
