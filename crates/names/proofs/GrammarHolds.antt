@@ -1,9 +1,10 @@
 -- A row is formed exactly when it is a row's text, and a list exactly when it is the texts of rows. Assumes nothing.
+use Rattle.std.proofs.lemmas.Option.{same_Some}
+use Rattle.std.specs.Prelude.{Option, None, Some}
 use Prim.Native.Nat.{ℕ}
 use mathlib.Core.Path.{◌≡◌, refl, ap, ap₂, sym, ◌∙◌}
 use mathlib.Core.Bool.{Bool, true, false, true≢false}
 use mathlib.Core.List.{List, [], ◌∷◌, ◌++◌, append_assoc}
-use mathlib.Core.Option.{Option, none, some, some-injective}
 use native.Mathlib.Omega.{arith}
 use lib.Dec.{eqb}
 use lib.ListN.{length, get_or}
@@ -18,8 +19,6 @@ use Rattle.grammar.specs.Text.{newline, hex_text, line_of}
 use Rattle.grammar.specs.Fields.{fields, field_at}
 use Rattle.grammar.specs.Numbers.{hex_of}
 use Rattle.grammar.specs.Letters.{lettered}
-use Rattle.grammar.specs.declared.Number.{Number}
-use Rattle.grammar.specs.declared.Number.TheVariants as number
 use Rattle.grammar.proofs.Hexes.{hex_reads, hex_only}
 use Rattle.grammar.proofs.LetterFields.{by_letter, letter_reads, lettered_only}
 use Rattle.grammar.proofs.Tabs as tabs
@@ -28,8 +27,6 @@ use Rattle.names.specs.Rows.{with_device, with_number, numbers_on, row_of, is_fo
 use Rattle.names.specs.Lists.{row_texts, is_ended, all_formed, well_formed}
 use Rattle.names.specs.RowGrammar.{NamedRow, RowFits, row_line, list_text, AllFit, empty, more, IsList, RowGrammar, ListGrammar}
 use Rattle.names.specs.declared.Row.{Row}
-use Rattle.names.specs.declared.RowRead.{RowRead}
-use Rattle.names.specs.declared.RowRead.TheVariants.{Formed, Bad}
 use Rattle.names.proofs.Joined.{joined, first_line, ended_after, ended_joined}
 use Rattle.names.proofs.RowReading.{row_numbers}
 use Rattle.names.proofs.Searching.{both_formed, formed_both}
@@ -37,22 +34,22 @@ use Rattle.names.proofs.NameBytes.{names_tested}
 use Rattle.names.proofs.RowTexts.{rest, row_written, same_before}
 
 -- a bad row is not formed
-bad_not_formed : (r : Row) → Bad ≡ Formed r → ⊥
+bad_not_formed : (r : Row) → None ≡ Some r → ⊥
 bad_not_formed r e = let z : ◌≡◌ {A = ℕ} 0 1 = cc in omega arith
 
 -- a device's own letter, where it has no box
-own_letter : (d : Device) → box_of d ≡ 0 → lettered (letter_of d ∷ []) ≡ some d
+own_letter : (d : Device) → box_of d ≡ 0 → lettered (letter_of d ∷ []) ≡ Some d
 unfolding lettered
 own_letter d e = (numbers d).letter_names 0 (sym e)
 
 -- the fields of a row's text
-fields_formed : (n : NamedRow) (t : List ℕ) → RowFits n → fields t ≡ n.name ∷ rest n → row_of t ≡ Formed n.row
+fields_formed : (n : NamedRow) (t : List ℕ) → RowFits n → fields t ≡ n.name ∷ rest n → row_of t ≡ Some n.row
 unfolding numbers_on
 fields_formed n t h e =
     row_numbers t (ap length e) (rw e (names_tested.passes n.name h.named)) n.row.device (rw e (own_letter n.row.device h.no_box))
     ∙ rw (e, hex_reads 2 n.row.code h.code_fits, hex_reads 2 n.row.mask h.mask_fits)
 
-text_formed : (n : NamedRow) (t : List ℕ) → RowFits n → t ++ newline ∷ [] ≡ row_line n → (row_of t ≡ Formed n.row) × (field_at t 0 ≡ n.name)
+text_formed : (n : NamedRow) (t : List ℕ) → RowFits n → t ++ newline ∷ [] ≡ row_line n → (row_of t ≡ Some n.row) × (field_at t 0 ≡ n.name)
 unfolding row_line
 text_formed n t h e =
     let w = row_written n h in
@@ -76,28 +73,28 @@ no_box_by_letter S = refl
 no_box_by_letter (C b) = refl
 no_box_by_letter B = refl
 
-letter_box : (f : List ℕ) (d : Device) → lettered f ≡ some d → box_of d ≡ 0
+letter_box : (f : List ℕ) (d : Device) → lettered f ≡ Some d → box_of d ≡ 0
 letter_box f d e =
-    let same : d ≡ by_letter d = some-injective d (by_letter d) (sym e ∙ ap lettered (lettered_only f d e) ∙ letter_reads d) in
+    let same : d ≡ by_letter d = same_Some d (by_letter d) (sym e ∙ ap lettered (lettered_only f d e) ∙ letter_reads d) in
     ap box_of same ∙ no_box_by_letter d
 
 -- what a formed row tells of its fields
-number_only : (x : Number) (next : ℕ → RowRead) (r : Row) → with_number x next ≡ Formed r → (n : ℕ) × (x ≡ number.Value n) × (next n ≡ Formed r)
-number_only (number.Value n) next r e = (n, refl, e)
-number_only number.Bad next r e = absurd (bad_not_formed r e)
+number_only : (x : Option ℕ) (next : ℕ → Option Row) (r : Row) → with_number x next ≡ Some r → (n : ℕ) × (x ≡ Some n) × (next n ≡ Some r)
+number_only (Some n) next r e = (n, refl, e)
+number_only None next r e = absurd (bad_not_formed r e)
 
-device_only : (x : Option Device) (next : Device → RowRead) (r : Row) → with_device x next ≡ Formed r → (d : Device) × (x ≡ some d) × (next d ≡ Formed r)
-device_only (some d) next r e = (d, refl, e)
-device_only none next r e = absurd (bad_not_formed r e)
+device_only : (x : Option Device) (next : Device → Option Row) (r : Row) → with_device x next ≡ Some r → (d : Device) × (x ≡ Some d) × (next d ≡ Some r)
+device_only (Some d) next r e = (d, refl, e)
+device_only None next r e = absurd (bad_not_formed r e)
 
-pick_only : (b : Bool) (x : RowRead) (r : Row) → pick b x Bad ≡ Formed r → (b ≡ true) × (x ≡ Formed r)
+pick_only : (b : Bool) (x : Option Row) (r : Row) → pick b x None ≡ Some r → (b ≡ true) × (x ≡ Some r)
 pick_only true x r e = (refl, e)
 pick_only false x r e = absurd (bad_not_formed r e)
 
-formed_is : (d : Device) (code mask : ℕ) (r : Row) → Formed (record { device = d; code = code; mask = mask }) ≡ Formed r → r ≡ record { device = d; code = code; mask = mask }
+formed_is : (d : Device) (code mask : ℕ) (r : Row) → Some (record { device = d; code = code; mask = mask }) ≡ Some r → r ≡ record { device = d; code = code; mask = mask }
 formed_is d code mask r e = cc
 
-text_only : (t : List ℕ) (r : Row) → row_of t ≡ Formed r
+text_only : (t : List ℕ) (r : Row) → row_of t ≡ Some r
     → RowFits (record { name = field_at t 0; row = r }) × (t ++ newline ∷ [] ≡ row_line (record { name = field_at t 0; row = r }))
 unfolding row_of numbers_on row_line
 text_only t r e =
@@ -136,9 +133,9 @@ list_formed list l =
     rw l.is (true_both (is_ended (list_text l.rows)) (all_formed (row_texts (list_text l.rows))) ended formed)
 
 -- formed rows, joined, are the text of rows that fit
-some_row : (x : RowRead) → is_formed x ≡ true → (r : Row) × (x ≡ Formed r)
-some_row (Formed r) e = (r, refl)
-some_row Bad e = absurd (true≢false (sym e))
+some_row : (x : Option Row) → is_formed x ≡ true → (r : Row) × (x ≡ Some r)
+some_row (Some r) e = (r, refl)
+some_row None e = absurd (true≢false (sym e))
 
 rows_only : (ts : List (List ℕ)) → all_formed ts ≡ true → (ns : List NamedRow) × AllFit ns × (joined ts ≡ list_text ns)
 unfolding all_formed list_text

@@ -1,7 +1,8 @@
 -- The field of a named request is that of the event that its name stands for, with code and mask at the name. Assumes nothing.
+use Rattle.std.proofs.lemmas.Option.{same_Some}
+use Rattle.std.specs.Prelude.{None, Some}
 use mathlib.Core.Path.{◌≡◌, refl, ap, sym, subst, ◌∙◌}
 use mathlib.Core.List.{List}
-use mathlib.Core.Option.{none, some, some-injective}
 use Prim.Native.Nat.{ℕ, ◌<◌}
 use native.Mathlib.Omega.{arith}
 use Rattle.requests.specs.Devices.{letter_of}
@@ -49,13 +50,13 @@ row_left d row a x j (event_allowed h) left k l (allowed r) = absurd (omega arit
 row_left d row a x j (fields.mask_lacks h) left k l (mask_lacks r) = absurd (omega arith)
 
 -- the fault of a request with this refusal
-told : (s : Setup) (r : Request) (x : Refusal) → request_refusal s r ≡ some x → request_fault s r ≡ some (at x (field_of x (request_fields s.device r)))
+told : (s : Setup) (r : Request) (x : Refusal) → request_refusal s r ≡ Some x → request_fault s r ≡ Some (at x (field_of x (request_fields s.device r)))
 unfolding with_field
 told s r x e = request_told s r ∙ ap (with_field (request_fields s.device r)) e
 
-module _ (n : NameLists) (name : List ℕ) (row : Row) (s : Setup) (a : CounterSet) (f : Fault) (finds : Finds n name row) (here : letter_of row.device ≡ letter_of s.device) (e : request_fault s (request_named n name s.device a) ≡ some f) where
-  event_fault : request_fault s (Event row.code row.mask a) ≡ some f
-  event_fault = subst (λ (r : Request). request_fault s r ≡ some f) (named_requests.found n name row s.device a finds here) e
+module _ (n : NameLists) (name : List ℕ) (row : Row) (s : Setup) (a : CounterSet) (f : Fault) (finds : Finds n name row) (here : letter_of row.device ≡ letter_of s.device) (e : request_fault s (request_named n name s.device a) ≡ Some f) where
+  event_fault : request_fault s (Event row.code row.mask a) ≡ Some f
+  event_fault = subst (λ (r : Request). request_fault s r ≡ Some f) (named_requests.found n name row s.device a finds here) e
 
   fails : RowFailsAt s.device row a f.refusal (named_field f.field)
   fails = row_fails s.device row a f.refusal f.field (fault_fields.fails s (Event row.code row.mask a) f event_fault)
@@ -65,15 +66,15 @@ module _ (n : NameLists) (name : List ℕ) (row : Row) (s : Setup) (a : CounterS
       row_left s.device row a f.refusal f.field (fault_fields.fails s (Event row.code row.mask a) f event_fault)
       (fault_fields.leftmost s (Event row.code row.mask a) f event_fault)
 
-missing : (n : NameLists) (name : List ℕ) (s : Setup) (a : CounterSet) (f : Fault) → row_named n name ≡ none
-    → request_fault s (request_named n name s.device a) ≡ some f → (f.refusal ≡ NotListed) × (named_field f.field ≡ 2)
+missing : (n : NameLists) (name : List ℕ) (s : Setup) (a : CounterSet) (f : Fault) → row_named n name ≡ None
+    → request_fault s (request_named n name s.device a) ≡ Some f → (f.refusal ≡ NotListed) × (named_field f.field ≡ 2)
 unfolding named_field field_of
 missing n name s a f h e =
-    let is : at NotListed 2 ≡ f = some-injective _ _ (sym (told s (request_named n name s.device a) NotListed (named_requests.missing n name s a h)) ∙ e) in
+    let is : at NotListed 2 ≡ f = same_Some _ _ (sym (told s (request_named n name s.device a) NotListed (named_requests.missing n name s a h)) ∙ e) in
     (ap (λ (g : Fault). g.refusal) (sym is), ap (λ (g : Fault). named_field g.field) (sym is))
 
 elsewhere : (n : NameLists) (name : List ℕ) (row : Row) (s : Setup) (a : CounterSet) → Finds n name row → ¬ (letter_of row.device ≡ letter_of s.device)
-    → request_fault s (request_named n name s.device a) ≡ some (at KindNotOnDevice 0)
+    → request_fault s (request_named n name s.device a) ≡ Some (at KindNotOnDevice 0)
 unfolding field_of
 elsewhere n name row s a finds other = told s (request_named n name s.device a) KindNotOnDevice (named_requests.elsewhere n name row s a finds other)
 

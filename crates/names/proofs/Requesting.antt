@@ -1,8 +1,8 @@
 -- The request of a name: the row's event, or one that is refused with 7 or 8. Assumes nothing.
+use Rattle.std.specs.Prelude.{Some, Option, None}
 use mathlib.Core.Path.{◌≡◌, refl}
 use mathlib.Core.Bool.{Bool, true, false}
-use mathlib.Core.List.{List, []}
-use mathlib.Core.Option.{some}
+use mathlib.Core.List.{List}
 use Prim.Native.Nat.{ℕ}
 use native.Mathlib.Omega.{arith}
 use lib.Dec.{eqb}
@@ -19,7 +19,7 @@ use Rattle.requests.specs.declared.Device.TheVariants.{G, S, C, B}
 use Rattle.requests.specs.declared.Refusal.TheVariants.{KindNotOnDevice, NotListed}
 use Rattle.requests.specs.declared.Request.TheVariants.{Event, Packet, Offcore}
 use Rattle.requests.specs.declared.Setup.{Setup}
-use Rattle.grammar.specs.Fields.{fields, field_at}
+use Rattle.grammar.specs.Fields.{field_at}
 use Rattle.grammar.specs.Records.{Decimal, AddFits}
 use Rattle.names.specs.Rows.{row_of}
 use Rattle.names.specs.Lists.{NameLists}
@@ -28,17 +28,16 @@ use Rattle.names.specs.LookUp.{row_named, shown}
 use Rattle.names.specs.Named.{unlisted, foreign, request_for, request_named}
 use Rattle.names.specs.NamedRequests.{NamedRequests}
 use Rattle.names.specs.declared.Row.{Row}
-use Rattle.names.specs.declared.RowRead.{RowRead}
-use Rattle.names.specs.declared.RowRead.TheVariants.{Formed, Bad}
+use Rattle.names.proofs.RowReading.{no_text}
 use Rattle.names.proofs.GrammarHolds.{row_grammar}
 
 -- a row for the device, and a row for another
 module _ (r : Row) (d : Device) (a : CounterSet) where
-  pub request_here : letter_of r.device ≡ letter_of d → request_for (Formed r) d a ≡ Event r.code r.mask a
+  pub request_here : letter_of r.device ≡ letter_of d → request_for (Some r) d a ≡ Event r.code r.mask a
   unfolding request_for
   request_here e = rw (eq-eqb (letter_of r.device) (letter_of d) e)
 
-  pub request_elsewhere : ¬ (letter_of r.device ≡ letter_of d) → request_for (Formed r) d a ≡ foreign d a
+  pub request_elsewhere : ¬ (letter_of r.device ≡ letter_of d) → request_for (Some r) d a ≡ foreign d a
   unfolding request_for
   request_elsewhere n = rw (ne_eqb (letter_of r.device) (letter_of d) n)
 
@@ -50,7 +49,7 @@ foreign_kind S a = refl
 foreign_kind (C b) a = refl
 foreign_kind B a = refl
 
-foreign_refused : (s : Setup) (a : CounterSet) → request_refusal s (foreign s.device a) ≡ some KindNotOnDevice
+foreign_refused : (s : Setup) (a : CounterSet) → request_refusal s (foreign s.device a) ≡ Some KindNotOnDevice
 unfolding request_refusal request_rows first_holding
 foreign_refused s a = rw (foreign_kind s.device a, first_holding)
 
@@ -69,16 +68,11 @@ unlisted_kind S a = refl
 unlisted_kind (C b) a = refl
 unlisted_kind B a = refl
 
-unlisted_refused : (s : Setup) (a : CounterSet) → request_refusal s (unlisted a) ≡ some NotListed
+unlisted_refused : (s : Setup) (a : CounterSet) → request_refusal s (unlisted a) ≡ Some NotListed
 unfolding request_refusal request_rows first_holding
 unlisted_refused s a = rw (unlisted_kind s.device a, unlisted_pair s.device a, first_holding)
 
--- the row of an empty text
-no_text : row_of [] ≡ Bad
-unfolding row_of fields both
-no_text = refl
-
-no_row_request : (d : Device) (a : CounterSet) → request_for Bad d a ≡ unlisted a
+no_row_request : (d : Device) (a : CounterSet) → request_for None d a ≡ unlisted a
 unfolding request_for
 no_row_request d a = refl
 
@@ -92,10 +86,10 @@ named_requests =
     }
 
 -- the numbers of the request fit the fields of a line
-read_fits : (x : RowRead) (t : List ℕ) → row_of t ≡ x → (d : Device) (id : ℕ) (a : CounterSet) → Decimal id → Decimal a.0 → AddFits id (request_for x d a)
+read_fits : (x : Option Row) (t : List ℕ) → row_of t ≡ x → (d : Device) (id : ℕ) (a : CounterSet) → Decimal id → Decimal a.0 → AddFits id (request_for x d a)
 unfolding request_for unlisted foreign
-read_fits Bad t e d id a h k = (h, omega arith, omega arith, k)
-read_fits (Formed r) t e d id a h k = go (eqb (letter_of r.device) (letter_of d)) (packets_on d) (row_grammar.only t r e).0
+read_fits None t e d id a h k = (h, omega arith, omega arith, k)
+read_fits (Some r) t e d id a h k = go (eqb (letter_of r.device) (letter_of d)) (packets_on d) (row_grammar.only t r e).0
   where
     go : (here packets : Bool) → RowFits (record { name = field_at t 0; row = r })
         → AddFits id (pick here (Event r.code r.mask a) (pick packets (Offcore 0 a) (Packet 0 0 a)))

@@ -1,6 +1,5 @@
 -- Rows and lists in the grammar and beside it, and what a name finds in two lists.
-use Rattle.std.specs.Prelude.{◌≡◌, Bool, true, false, List, [], ◌∷◌, ◌++◌, map, ℕ}
-use Rattle.std.proofs.Math.Option.{Option, none, some}
+use Rattle.std.specs.Prelude.{◌≡◌, Bool, true, false, List, [], ◌∷◌, ◌++◌, map, ℕ, Option, None, Some}
 use Prim.Native.String.{String}
 use Rattle.requests.specs.declared.Device.TheVariants.{G, S, C, B}
 use Rattle.grammar.specs.Text.{bytes, newline}
@@ -9,27 +8,26 @@ use Rattle.names.specs.Rows.{row_of}
 use Rattle.names.specs.Lists.{NameLists, well_formed}
 use Rattle.names.specs.LookUp.{row_named}
 use Rattle.names.specs.Named.{named_field}
-use Rattle.names.specs.declared.RowRead.{RowRead}
-use Rattle.names.specs.declared.RowRead.TheVariants.{Formed, Bad}
+use Rattle.names.specs.declared.Row.{Row}
 
 -- a row without its newline, and what it says
-abbrev pub rows : List (String × RowRead)
+abbrev pub rows : List (String × Option Row)
 rows =
-    ("CYCLES G 3C 00", Formed (record { device = G; code = 0x3C; mask = 0x00 }))
-    ∷ ("A S 51 03", Formed (record { device = S; code = 0x51; mask = 0x03 }))
-    ∷ ("_ C 0B 07", Formed (record { device = C 0; code = 0x0B; mask = 0x07 }))
-    ∷ ("STORES B CD 02", Formed (record { device = B; code = 0xCD; mask = 0x02 }))
-    ∷ ("0123456789_ABCDEFGHIJKLMNOPQRSTUVWXYZ_89 G C0 00", Formed (record { device = G; code = 0xC0; mask = 0x00 }))
+    ("CYCLES G 3C 00", Some (record { device = G; code = 0x3C; mask = 0x00 }))
+    ∷ ("A S 51 03", Some (record { device = S; code = 0x51; mask = 0x03 }))
+    ∷ ("_ C 0B 07", Some (record { device = C 0; code = 0x0B; mask = 0x07 }))
+    ∷ ("STORES B CD 02", Some (record { device = B; code = 0xCD; mask = 0x02 }))
+    ∷ ("0123456789_ABCDEFGHIJKLMNOPQRSTUVWXYZ_89 G C0 00", Some (record { device = G; code = 0xC0; mask = 0x00 }))
     -- 41 bytes, none, a lower-case letter, a device that `open` does not know, lower-case hex, one digit, too few and too many fields
-    ∷ ("0123456789_ABCDEFGHIJKLMNOPQRSTUVWXYZ_890 G C0 00", Bad)
-    ∷ (" G C0 00", Bad)
-    ∷ ("cycles G 3C 00", Bad)
-    ∷ ("CYCLES X 3C 00", Bad)
-    ∷ ("CYCLES G 3c 00", Bad)
-    ∷ ("CYCLES G 3C 0", Bad)
-    ∷ ("CYCLES G 3C", Bad)
-    ∷ ("CYCLES G 3C 00 00", Bad)
-    ∷ ("", Bad)
+    ∷ ("0123456789_ABCDEFGHIJKLMNOPQRSTUVWXYZ_890 G C0 00", None)
+    ∷ (" G C0 00", None)
+    ∷ ("cycles G 3C 00", None)
+    ∷ ("CYCLES X 3C 00", None)
+    ∷ ("CYCLES G 3c 00", None)
+    ∷ ("CYCLES G 3C 0", None)
+    ∷ ("CYCLES G 3C", None)
+    ∷ ("CYCLES G 3C 00 00", None)
+    ∷ ("", None)
     ∷ []
 
 abbrev site : List ℕ
@@ -72,26 +70,26 @@ find n name row = record { lists = n; name = name; row = row }
 
 abbrev pub finds : List Find
 finds =
-    find page "CYCLES" (some "CYCLES G 3C 00")
-    ∷ find page "BYPASS" (some "BYPASS S 51 03")
-    ∷ find page "INSTR" (some "INSTR G C0 00")
-    ∷ find page "ODD" (some "ODD G C0 05")
-    ∷ find page "CYC" none
-    ∷ find page "CYCLES_" none
-    ∷ find page "NOSUCH" none
-    ∷ find page "" none
-    ∷ find house_alone "CYCLES" (some "CYCLES S 52 00")
-    ∷ find unended "CYCLES" none
+    find page "CYCLES" (Some "CYCLES G 3C 00")
+    ∷ find page "BYPASS" (Some "BYPASS S 51 03")
+    ∷ find page "INSTR" (Some "INSTR G C0 00")
+    ∷ find page "ODD" (Some "ODD G C0 05")
+    ∷ find page "CYC" None
+    ∷ find page "CYCLES_" None
+    ∷ find page "NOSUCH" None
+    ∷ find page "" None
+    ∷ find house_alone "CYCLES" (Some "CYCLES S 52 00")
+    ∷ find unended "CYCLES" None
     ∷ []
 
 -- a row as bytes
 abbrev pub as_bytes : Option String → Option (List ℕ)
-as_bytes none = none
-as_bytes (some t) = some (tabbed t)
+as_bytes None = None
+as_bytes (Some t) = Some (tabbed t)
 
 -- all are as they stand here
 abbrev pub RowExamples : Type 0
-RowExamples = map (λ (e : String × RowRead). row_of (tabbed e.0)) rows ≡ map (λ (e : String × RowRead). e.1) rows
+RowExamples = map (λ (e : String × Option Row). row_of (tabbed e.0)) rows ≡ map (λ (e : String × Option Row). e.1) rows
 
 abbrev pub ListExamples : Type 0
 ListExamples = map (λ (e : List ℕ × Bool). well_formed e.0) lists ≡ map (λ (e : List ℕ × Bool). e.1) lists

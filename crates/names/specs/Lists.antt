@@ -3,11 +3,16 @@ use Rattle.std.specs.Prelude.{Bool, true, List, [], ◌∷◌, ℕ, suc, eqb}
 use Rattle.requests.specs.Choice.{both, pick}
 use Rattle.grammar.specs.Text.{newline}
 use Rattle.names.specs.Rows.{row_of, is_formed}
+use Rattle.names.specs.declared.BothLists.{BothLists}
 
 -- the two lists, as bytes
 pub record NameLists : Type 0 where
   pub site : List ℕ
   pub house : List ℕ
+
+-- the bytes of two lists that are lent
+abbrev pub lists_of : BothLists → NameLists
+lists_of lists = record { site = lists.site.now; house = lists.house.now }
 
 -- how many bytes stand before the first newline
 unfoldable pub up_to_newline : List ℕ → ℕ

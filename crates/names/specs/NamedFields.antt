@@ -1,6 +1,5 @@
 -- Document 02, order 11: "In a `named` line 8, and 9 or 10 from the row's mask, are at the name". The line has the fields id, name and allowed.
-use Rattle.std.specs.Prelude.{◌≡◌, List, ℕ, ◌<◌}
-use Rattle.std.proofs.Math.Option.{none, some}
+use Rattle.std.specs.Prelude.{◌≡◌, List, ℕ, ◌<◌, None, Some}
 use Rattle.requests.specs.Devices.{all_counters, letter_of}
 use Rattle.requests.specs.MaskRules.{MaskRule}
 use Rattle.requests.specs.RefusedRequests.{Lists, InCatalogue, CodesOn}
@@ -34,11 +33,11 @@ pub record NamedFields : Type 0 where
   pub id : named_field 1 ≡ 1
   -- a row of the device's letter fails in the field that is given, and in no field left of it
   pub fails : (n : NameLists) (name : List ℕ) (row : Row) (s : Setup) (a : CounterSet) (f : Fault) → Finds n name row → letter_of row.device ≡ letter_of s.device
-      → request_fault s (request_named n name s.device a) ≡ some f → RowFailsAt s.device row a f.refusal (named_field f.field)
+      → request_fault s (request_named n name s.device a) ≡ Some f → RowFailsAt s.device row a f.refusal (named_field f.field)
   pub leftmost : (n : NameLists) (name : List ℕ) (row : Row) (s : Setup) (a : CounterSet) (f : Fault) → Finds n name row → letter_of row.device ≡ letter_of s.device
-      → request_fault s (request_named n name s.device a) ≡ some f → (k : ℕ) → k < named_field f.field → ¬ RowFailsAt s.device row a f.refusal k
+      → request_fault s (request_named n name s.device a) ≡ Some f → (k : ℕ) → k < named_field f.field → ¬ RowFailsAt s.device row a f.refusal k
   -- 7, a row for another device, is at the verb; 8, a name in neither list, at the name
   pub elsewhere : (n : NameLists) (name : List ℕ) (row : Row) (s : Setup) (a : CounterSet) → Finds n name row → ¬ (letter_of row.device ≡ letter_of s.device)
-      → request_fault s (request_named n name s.device a) ≡ some (at KindNotOnDevice 0)
-  pub missing : (n : NameLists) (name : List ℕ) (s : Setup) (a : CounterSet) (f : Fault) → row_named n name ≡ none
-      → request_fault s (request_named n name s.device a) ≡ some f → (f.refusal ≡ NotListed) × (named_field f.field ≡ 2)
+      → request_fault s (request_named n name s.device a) ≡ Some (at KindNotOnDevice 0)
+  pub missing : (n : NameLists) (name : List ℕ) (s : Setup) (a : CounterSet) (f : Fault) → row_named n name ≡ None
+      → request_fault s (request_named n name s.device a) ≡ Some f → (f.refusal ≡ NotListed) × (named_field f.field ≡ 2)

@@ -1,5 +1,5 @@
 -- Rows and lists in the grammar: a row is formed exactly when it is a row's text, and a list exactly when it is the texts of rows, one after another.
-use Rattle.std.specs.Prelude.{◌≡◌, true, List, [], ◌∷◌, ◌++◌, ℕ}
+use Rattle.std.specs.Prelude.{◌≡◌, true, List, [], ◌∷◌, ◌++◌, ℕ, Some}
 use Rattle.requests.specs.Devices.{letter_of, box_of}
 use Rattle.grammar.specs.Text.{newline, hex_text, line_of}
 use Rattle.grammar.specs.Records.{Hex}
@@ -8,7 +8,6 @@ use Rattle.names.specs.EventNames.{IsName}
 use Rattle.names.specs.Rows.{row_of}
 use Rattle.names.specs.Lists.{NameLists, well_formed, lists_formed}
 use Rattle.names.specs.declared.Row.{Row}
-use Rattle.names.specs.declared.RowRead.TheVariants.{Formed}
 
 -- a name and what it stands for
 pub record NamedRow : Type 0 where
@@ -37,8 +36,8 @@ pub data AllFit : List NamedRow → Type 0 where
   more : {n : NamedRow} {ns : List NamedRow} → RowFits n → AllFit ns → AllFit (n ∷ ns)
 
 pub record RowGrammar : Type 0 where
-  pub formed : (n : NamedRow) (t : List ℕ) → RowFits n → t ++ newline ∷ [] ≡ row_line n → (row_of t ≡ Formed n.row) × (field_at t 0 ≡ n.name)
-  pub only : (t : List ℕ) (r : Row) → row_of t ≡ Formed r
+  pub formed : (n : NamedRow) (t : List ℕ) → RowFits n → t ++ newline ∷ [] ≡ row_line n → (row_of t ≡ Some n.row) × (field_at t 0 ≡ n.name)
+  pub only : (t : List ℕ) (r : Row) → row_of t ≡ Some r
       → RowFits (record { name = field_at t 0; row = r }) × (t ++ newline ∷ [] ≡ row_line (record { name = field_at t 0; row = r }))
 
 -- the text of rows that all fit

@@ -10,39 +10,15 @@ const LONGEST_NAME: usize = 40;
 fn name_byte(b: u8) -> bool
     ensures { result ≡ name_byte b }
 {
-    if b < b'0' {
-        return false;
-    }
-    if b <= b'9' {
-        return true;
-    }
-    if b < b'A' {
-        return false;
-    }
-    if b <= b'Z' {
-        return true;
-    }
-    b == b'_'
+    matches!(b, b'0'..=b'9' | b'A'..=b'Z' | b'_')
 }
 
 // Whether a field is a name: 1 to 40 such bytes.
 pub fn is_name(field: &[u8]) -> bool
     ensures { result ≡ is_name field.now }
 {
-    let n = field.len();
-    if n == 0 {
+    if field.is_empty() || LONGEST_NAME < field.len() {
         return false;
     }
-    if LONGEST_NAME < n {
-        return false;
-    }
-    let mut i = 0;
-    while i < field.len() {
-        if name_byte(field[i]) {
-            i += 1;
-        } else {
-            return false;
-        }
-    }
-    true
+    field.iter().all(|b| name_byte(*b))
 }

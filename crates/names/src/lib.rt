@@ -17,9 +17,9 @@ pub struct Row {
     pub mask: u8,
 }
 
-// What the text of a row is.
+// Both lists of names: the site's and the house's.
 #[derive(Clone, Copy)]
-pub enum RowRead {
-    Formed(Row),
-    Bad,
+pub struct BothLists<'a> {
+    pub site: &'a [u8],
+    pub house: &'a [u8],
 }

@@ -1,60 +1,72 @@
 // A list: rows, each closed by a newline.
-ghost use Rattle.std.specs.Prelude.{◌≡◌, ◌+◌, drop};
-ghost use Rattle.names.specs.Lists.{NameLists, up_to_newline, is_ended, well_formed, lists_formed};
+ghost use Rattle.std.specs.Prelude.{◌≡◌};
+ghost use Rattle.std.specs.Iterator.{YieldsFirstRef, item_count};
+ghost use Rattle.names.specs.Lists.{lists_of, up_to_newline, row_texts, is_ended, well_formed, lists_formed};
 
+use crate::BothLists;
 use crate::rows::is_formed;
 
-// Where the row that begins at `at` ends: at its newline, or at the end of the list.
-pub fn row_end(list: &[u8], at: usize) -> usize
-    ensures { result ≡ at + up_to_newline (drop at list.now) }
+// Where the first row of a list ends: at its newline, or at the end of the list.
+fn row_end(list: &[u8]) -> usize
+    ensures { result ≡ up_to_newline list.now }
 {
-    let mut end = at;
-    while end < list.len() {
-        if list[end] == b'\n' {
-            return end;
-        }
-        end += 1;
+    list.iter().position(|b| *b == b'\n').unwrap_or(list.len())
+}
+
+// The rows of a list that are left, from the top, each without its newline.
+#[derive(Clone, Copy)]
+pub(crate) struct Rows<'a> {
+    pub rest: &'a [u8],
+}
+
+impl<'a> Rows<'a> {
+    // All rows of a list.
+    pub(crate) fn of(list: &'a [u8]) -> Self
+        ensures { result.rest.now ≡ list.now }
+    {
+        Rows { rest: list }
     }
-    end
+}
+
+impl<'a> Iterator for Rows<'a> {
+    type Item = &'a [u8];
+
+    ghost next_gives = { YieldsFirstRef (λ s. row_texts s.rest.now) };
+
+    ghost remaining = { item_count (λ s. row_texts s.rest.now) };
+
+    fn next(&mut self) -> Option<&'a [u8]> {
+        if self.rest.is_empty() {
+            return None;
+        }
+        let list = self.rest;
+        let end = row_end(list);
+        self.rest = &list[list.len().min(end + 1)..];
+        Some(&list[..end])
+    }
 }
 
 // Whether a list is empty or ends with a newline.
 fn is_ended(list: &[u8]) -> bool
     ensures { result ≡ is_ended list.now }
 {
-    let n = list.len();
-    if n == 0 {
-        return true;
+    match list.last() {
+        Some(last) => *last == b'\n',
+        None => true,
     }
-    list[n - 1] == b'\n'
 }
 
 // Whether a list is well-formed.
 pub fn list_formed(list: &[u8]) -> bool
     ensures { result ≡ well_formed list.now }
 {
-    if is_ended(list) {
-        let mut at = 0;
-        while at < list.len() {
-            let end = row_end(list, at);
-            if is_formed(&list[at..end]) {
-                at = end + 1;
-            } else {
-                return false;
-            }
-        }
-        return true;
-    }
-    false
+    is_ended(list) && Rows::of(list).all(is_formed)
 }
 
 // Whether both lists are.
 #[tactic(auto, unfolding(requests::specs::Choice::both, crate::specs::Lists::lists_formed))]
-pub fn lists_formed(site: &[u8], house: &[u8]) -> bool
-    ensures { result ≡ lists_formed (record { site = site.now; house = house.now }) }
+pub fn lists_formed(lists: &BothLists) -> bool
+    ensures { result ≡ lists_formed (lists_of lists.now) }
 {
-    if list_formed(site) {
-        return list_formed(house);
-    }
-    false
+    list_formed(lists.site) && list_formed(lists.house)
 }

@@ -1,45 +1,36 @@
 // The row of a name, as a part of the list that it stands in.
 ghost use Rattle.std.specs.Prelude.{◌≡◌, true};
-ghost use Rattle.names.specs.Lists.{NameLists, row_texts, lists_formed};
-ghost use Rattle.names.specs.LookUp.{shown, top_row, row_named};
+ghost use Rattle.std.specs.Option.{option_copied};
+ghost use Rattle.names.specs.Lists.{NameLists, lists_of, row_texts, lists_formed};
+ghost use Rattle.names.specs.LookUp.{top_row, row_named};
 
-use crate::lists::{lists_formed, row_end};
+use crate::BothLists;
+use crate::lists::{Rows, lists_formed};
 use crate::rows::has_name;
 
-// The topmost row of the name in one list, without its newline; an empty part where there is none.
-fn row_in<'a>(name: &[u8], list: &'a [u8]) -> &'a [u8]
-    ensures { result.now ≡ shown (top_row name.now (row_texts list.now)) }
+// The topmost row of the name in one list, without its newline.
+fn row_in<'a>(name: &[u8], list: &'a [u8]) -> Option<&'a [u8]>
+    ensures { option_copied result ≡ top_row name.now (row_texts list.now) }
 {
-    let mut at = 0;
-    while at < list.len() {
-        let end = row_end(list, at);
-        if has_name(&list[at..end], name) {
-            return &list[at..end];
-        }
-        at = end + 1;
-    }
-    &list[..0]
+    Rows::of(list).find(|row| has_name(*row, name))
 }
 
-// The row of a name in lists that are well-formed; an empty part where there is none.
-pub fn row_named<'a>(name: &[u8], site: &'a [u8], house: &'a [u8]) -> &'a [u8]
-    requires { lists_formed (record { site = site.now; house = house.now }) ≡ true }
-    ensures { result.now ≡ shown (row_named (record { site = site.now; house = house.now }) name.now) }
+// The row of a name in lists that are well-formed.
+pub fn row_named<'a>(name: &[u8], lists: &BothLists<'a>) -> Option<&'a [u8]>
+    requires { lists_formed (lists_of lists.now) ≡ true }
+    ensures { option_copied result ≡ row_named (lists_of lists.now) name.now }
 {
-    let row = row_in(name, site);
-    if 0 < row.len() {
-        return row;
-    }
-    row_in(name, house)
+    row_in(name, lists.site).or_else(|| row_in(name, lists.house))
 }
 
-// The row of a name, without its newline: the topmost of the site's list, or else of the house's. An empty part where neither
-// has one, or where one of them is ill-formed.
-pub fn look_up<'a>(name: &[u8], site: &'a [u8], house: &'a [u8]) -> &'a [u8]
-    ensures { result.now ≡ shown (row_named (record { site = site.now; house = house.now }) name.now) }
+// The row of a name, without its newline: the topmost of the site's list, or else of the house's. None where one of them is
+// ill-formed.
+pub fn look_up<'a>(name: &[u8], site: &'a [u8], house: &'a [u8]) -> Option<&'a [u8]>
+    ensures { option_copied result ≡ row_named (record { site = site.now; house = house.now }) name.now }
 {
-    if lists_formed(site, house) {
-        return row_named(name, site, house);
+    let lists = BothLists { site, house };
+    if lists_formed(&lists) {
+        return row_named(name, &lists);
     }
-    &site[..0]
+    None
 }

@@ -1,11 +1,11 @@
 // The request that a name stands for.
 ghost use Rattle.std.specs.Prelude.{◌≡◌, true};
-ghost use Rattle.names.specs.Lists.{NameLists, lists_formed};
+ghost use Rattle.names.specs.Lists.{lists_of, lists_formed};
 ghost use Rattle.names.specs.Named.{unlisted, foreign, request_for, request_named, named_field};
 
-use crate::RowRead;
 use crate::look_up::row_named;
 use crate::rows::row_of;
+use crate::{BothLists, Row};
 use checks::devices::{letter_of, packets_on};
 use requests::{CounterSet, Device, Request};
 
@@ -38,39 +38,31 @@ fn foreign(device: Device, allowed: CounterSet) -> Request
 
 // The request of a row on a device.
 #[tactic(auto, unfolding(crate::specs::Named::request_for))]
-fn request_for(read: RowRead, device: Device, allowed: CounterSet) -> Request
-    ensures { result ≡ request_for read device allowed }
+fn request_for(row: Option<Row>, device: Device, allowed: CounterSet) -> Request
+    ensures { result ≡ request_for row device allowed }
 {
-    match read {
-        RowRead::Formed(row) => {
-            let on = row.device;
-            if letter_of(on) == letter_of(device) {
-                return Request::Event {
-                    code: row.code,
-                    mask: row.mask,
-                    allowed,
-                };
-            }
-            foreign(device, allowed)
-        }
-        RowRead::Bad => unlisted(allowed),
+    let Some(row) = row else {
+        return unlisted(allowed);
+    };
+    if letter_of(row.device) != letter_of(device) {
+        return foreign(device, allowed);
+    }
+    Request::Event {
+        code: row.code,
+        mask: row.mask,
+        allowed,
     }
 }
 
 // The request of a name on a device: the event that its row says; where the row is for another device, one that is refused with
 // 7; where there is none, one that is refused with 8.
 #[tactic(auto, unfolding(crate::specs::Named::request_named))]
-pub fn request_named<'a>(
-    name: &[u8],
-    site: &'a [u8],
-    house: &'a [u8],
-    device: Device,
-    allowed: CounterSet,
-) -> Request
-    requires { lists_formed (record { site = site.now; house = house.now }) ≡ true }
-    ensures { result ≡ request_named (record { site = site.now; house = house.now }) name.now device allowed }
+pub fn request_named(name: &[u8], lists: &BothLists, device: Device, allowed: CounterSet) -> Request
+    requires { lists_formed (lists_of lists.now) ≡ true }
+    ensures { result ≡ request_named (lists_of lists.now) name.now device allowed }
 {
-    request_for(row_of(row_named(name, site, house)), device, allowed)
+    let row = row_named(name, lists).and_then(row_of);
+    request_for(row, device, allowed)
 }
 
 // The field of a named line for a field of the event that its name stands for.

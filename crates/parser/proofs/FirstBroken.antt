@@ -1,5 +1,6 @@
 -- The field at fault is the first that breaks the grammar: the fields before it begin a record or a request by name, and neither goes on with it, for
 -- it would have it at fault too. Assumes nothing.
+use Rattle.std.specs.Prelude.{Option, None, Some}
 use mathlib.Core.Path.{◌≡◌, refl, ap, sym, ◌∙◌}
 use mathlib.Core.Bool.{Bool, true, false, true≢false}
 use mathlib.Core.List.{List, [], ◌∷◌, ◌++◌}
@@ -20,8 +21,6 @@ use Rattle.grammar.specs.Records.{record_fields, Fits}
 use Rattle.grammar.specs.Verbs.{is_whole, set_of, has_verb, record_of}
 use Rattle.grammar.specs.Parse.{is_closed, text_length}
 use Rattle.grammar.specs.FirstBroken.{line_fields}
-use Rattle.grammar.specs.declared.Number.{Number}
-use Rattle.grammar.specs.declared.Number.TheVariants.{Value, Bad}
 use Rattle.grammar.specs.declared.Record.{Record}
 use Rattle.grammar.specs.declared.Parsed.{Parsed}
 use Rattle.grammar.specs.declared.Parsed.TheVariants.{Line, Named, Fault}
@@ -98,15 +97,15 @@ module _ (n : NameLists) (l : AreLists n) (d : Device) where
       word : field_at t 0 ≡ bytes "named"
       word = same_bytes (field_at t 0) (bytes "named") verb
 
-      there : (j x : ℕ) → decimal_of (field_at t j) ≡ Value x → j < length (fields t)
+      there : (j x : ℕ) → decimal_of (field_at t j) ≡ Some x → j < length (fields t)
       there j x p = present decimal_of t j (λ z. bad_not_value x (sym decimal_missing ∙ sym z ∙ p))
 
       name_there : is_name (field_at t 2) ≡ true → 2 < length (fields t)
       name_there q = present is_name t 2 (λ z. true≢false (sym q ∙ z ∙ no_name))
 
-      go : (x : Number) → decimal_of (field_at t 1) ≡ x → (b : Bool) → is_name (field_at t 2) ≡ b → (y : Number) → decimal_of (field_at t 3) ≡ y
+      go : (x : Option ℕ) → decimal_of (field_at t 1) ≡ x → (b : Bool) → is_name (field_at t 2) ≡ b → (y : Option ℕ) → decimal_of (field_at t 3) ≡ y
           → (w : Bool) → is_whole t closed 4 ≡ w → TellsWith (named_line n d) t k
-      go Bad p b q y r w u =
+      go None p b q y r w u =
           let at : Fault 1 ≡ Fault k = rw p at e in
           let is : 1 ≡ k = cc in
           rw (← is) (record {
@@ -114,7 +113,7 @@ module _ (n : NameLists) (l : AreLists n) (d : Device) where
             begins = begins_named (fields t) _ 0 (bytes "A") (set_of 0) (omega arith, a_name, omega arith) (sym (first_1 t ∙ rw word));
             same = λ m c a. rw (a.alike 1 (omega arith), p);
           })
-      go (Value id) p false q y r w u =
+      go (Some id) p false q y r w u =
           let at : Fault 2 ≡ Fault k = rw (p, q) at e in
           let is : 2 ≡ k = cc in
           let first = decimal_only (field_at t 1) id p in
@@ -123,7 +122,7 @@ module _ (n : NameLists) (l : AreLists n) (d : Device) where
             begins = begins_named (fields t) _ id (bytes "A") (set_of 0) (first.0, a_name, omega arith) (sym (first_2 t (there 1 id p) ∙ rw (word, first.1)));
             same = λ m c a. rw (a.alike 1 (omega arith), a.alike 2 (omega arith), p, q);
           })
-      go (Value id) p true q Bad r w u =
+      go (Some id) p true q None r w u =
           let at : Fault 3 ≡ Fault k = rw (p, q, r) at e in
           let is : 3 ≡ k = cc in
           let first = decimal_only (field_at t 1) id p in
@@ -132,7 +131,7 @@ module _ (n : NameLists) (l : AreLists n) (d : Device) where
             begins = begins_named (fields t) _ id (field_at t 2) (set_of 0) (first.0, names_tested.passed (field_at t 2) q, omega arith) (sym (first_3 t (name_there q) ∙ rw (word, first.1)));
             same = λ m c a. rw (a.alike 1 (omega arith), a.alike 2 (omega arith), a.alike 3 (omega arith), p, q, r);
           })
-      go (Value id) p true q (Value v) r false u =
+      go (Some id) p true q (Some v) r false u =
           let at : Fault 4 ≡ Fault k = rw (p, q, r, u) at e in
           let is : 4 ≡ k = cc in
           let first = decimal_only (field_at t 1) id p in
@@ -142,7 +141,7 @@ module _ (n : NameLists) (l : AreLists n) (d : Device) where
             begins = begins_named (fields t) _ id (field_at t 2) (set_of v) (first.0, names_tested.passed (field_at t 2) q, last.0) (sym (first_4 t (there 3 v r) ∙ rw (word, first.1, last.1)));
             same = λ m c a. rw (a.alike 1 (omega arith), a.alike 2 (omega arith), a.alike 3 (omega arith), p, q, r, more_fields m c 4 a.other);
           })
-      go (Value id) p true q (Value v) r true u =
+      go (Some id) p true q (Some v) r true u =
           let at : add_named n d (field_at t 2) id (set_of v) ≡ Fault k = rw (p, q, r, u) at e in
           absurd (fault_not_named k id (request_named n (field_at t 2) d (set_of v)) (sym at ∙ added (field_at t 2) id (set_of v)))
 

@@ -1,5 +1,6 @@
 -- The first 80 bytes of a longer text have its first field at fault, by the widths of the fields, names of at most 40 bytes among them. A text
 -- without its newline is read as one that is closed and too long. Assumes nothing.
+use Rattle.std.specs.Prelude.{Option, None, Some}
 use mathlib.Core.Path.{◌≡◌, refl, ap, sym, ◌∙◌}
 use mathlib.Core.Bool.{Bool, true, false, false≢true}
 use mathlib.Core.List.{List}
@@ -17,8 +18,6 @@ use Rattle.grammar.specs.Fields.{fields, field_at}
 use Rattle.grammar.specs.Numbers.{decimal_of}
 use Rattle.grammar.specs.Verbs.{with_number, is_whole, set_of, has_verb, record_of}
 use Rattle.grammar.specs.Parse.{longest, too_long_lem, is_closed, text_length}
-use Rattle.grammar.specs.declared.Number.{Number}
-use Rattle.grammar.specs.declared.Number.TheVariants.{Value, Bad}
 use Rattle.grammar.specs.declared.Parsed.{Parsed}
 use Rattle.grammar.specs.declared.Parsed.TheVariants.{Named, Fault}
 use Rattle.grammar.proofs.CutFields.{CutAt, cut_at, SameFault, Field, cut_field, cut_ends, First, endless, whole, first_field}
@@ -188,15 +187,15 @@ within_named t closed n d k e = go (decimal_of (field_at t 1)) (is_name (field_a
     at : (j : ℕ) → j ≤ 7 → Fault j ≡ Fault k → k ≤ 7
     at j l f = let is : j ≡ k = cc in omega arith
 
-    go : (x : Number) (b : Bool) (y : Number) (w f : Bool)
+    go : (x : Option ℕ) (b : Bool) (y : Option ℕ) (w f : Bool)
         → with_number x 1 (λ id. pick b (with_number y 3 (λ a. pick w (pick f (Named id (request_named n (field_at t 2) d (set_of a))) (Fault 0)) (Fault 4))) (Fault 2)) ≡ Fault k
         → k ≤ 7
-    go Bad b y w f e = at 1 (omega arith) e
-    go (Value id) false y w f e = at 2 (omega arith) e
-    go (Value id) true Bad w f e = at 3 (omega arith) e
-    go (Value id) true (Value a) false f e = at 4 (omega arith) e
-    go (Value id) true (Value a) true false e = at 0 (omega arith) e
-    go (Value id) true (Value a) true true e = let z : ◌≡◌ {A = ℕ} 0 1 = cc in absurd (omega arith)
+    go None b y w f e = at 1 (omega arith) e
+    go (Some id) false y w f e = at 2 (omega arith) e
+    go (Some id) true None w f e = at 3 (omega arith) e
+    go (Some id) true (Some a) false f e = at 4 (omega arith) e
+    go (Some id) true (Some a) true false e = at 0 (omega arith) e
+    go (Some id) true (Some a) true true e = let z : ◌≡◌ {A = ℕ} 0 1 = cc in absurd (omega arith)
 
 within : (n : NameLists) (d : Device) (line : List ℕ) (k : ℕ) → parse_line_with n d line ≡ Fault k → k ≤ 7
 within n d line k e = go (has_verb t "named") refl

@@ -1,4 +1,5 @@
 -- A request by name is read from its text, and from no other. Assumes nothing.
+use Rattle.std.specs.Prelude.{Option, None, Some}
 use mathlib.Core.Path.{◌≡◌, refl, ap, ap₂, sym, ◌∙◌}
 use mathlib.Core.Bool.{Bool, true, false}
 use mathlib.Core.List.{List, [], ◌∷◌, ◌++◌}
@@ -15,8 +16,6 @@ use Rattle.grammar.specs.Text.{bytes, tab, newline, decimal_text, line_of}
 use Rattle.grammar.specs.Fields.{fields, field_at, same_bytes_lem}
 use Rattle.grammar.specs.Numbers.{decimal_of}
 use Rattle.grammar.specs.Verbs.{is_whole, set_of, has_verb}
-use Rattle.grammar.specs.declared.Number.{Number}
-use Rattle.grammar.specs.declared.Number.TheVariants.{Value, Bad}
 use Rattle.grammar.specs.declared.Parsed.TheVariants.{Fault}
 use Rattle.grammar.proofs.Decimals.{decimal_reads, decimal_only}
 use Rattle.grammar.proofs.Tabs as tabs
@@ -72,13 +71,13 @@ pub named_read : (t : List ℕ) (closed : Bool) → has_verb t "named" ≡ true 
 unfolding has_verb named_line
 named_read t closed verb = go (decimal_of (field_at t 1)) refl (is_name (field_at t 2)) refl (decimal_of (field_at t 3)) refl (is_whole t closed 4) refl
   where
-    go : (x : Number) → decimal_of (field_at t 1) ≡ x → (b : Bool) → is_name (field_at t 2) ≡ b → (y : Number) → decimal_of (field_at t 3) ≡ y
+    go : (x : Option ℕ) → decimal_of (field_at t 1) ≡ x → (b : Bool) → is_name (field_at t 2) ≡ b → (y : Option ℕ) → decimal_of (field_at t 3) ≡ y
         → (w : Bool) → is_whole t closed 4 ≡ w → Read t closed
-    go Bad p b q y r w u = faulty 1 (λ n d. rw p)
-    go (Value id) p false q y r w u = faulty 2 (λ n d. rw (p, q))
-    go (Value id) p true q Bad r w u = faulty 3 (λ n d. rw (p, q, r))
-    go (Value id) p true q (Value a) r false u = faulty 4 (λ n d. rw (p, q, r, u))
-    go (Value id) p true q (Value a) r true u =
+    go None p b q y r w u = faulty 1 (λ n d. rw p)
+    go (Some id) p false q y r w u = faulty 2 (λ n d. rw (p, q))
+    go (Some id) p true q None r w u = faulty 3 (λ n d. rw (p, q, r))
+    go (Some id) p true q (Some a) r false u = faulty 4 (λ n d. rw (p, q, r, u))
+    go (Some id) p true q (Some a) r true u =
         let (shut, count) = both_parts closed (eqb (length (fields t)) 4) u in
         let first = decimal_only (field_at t 1) id p in
         let last = decimal_only (field_at t 3) a r in

@@ -1,9 +1,10 @@
 -- What a line asks for, whatever its bytes and the lists, by the grammar of records and that of requests by name. Assumes nothing.
+use Rattle.std.proofs.lemmas.Option.{none-some}
+use Rattle.std.specs.Prelude.{None, Some}
 use mathlib.Core.Path.{◌≡◌, refl, ap, sym, ◌∙◌}
 use mathlib.Core.Bool.{Bool, true, false}
 use mathlib.Mathlib.Data.Bool.Basic.{eq-false_of_not-eq-true}
 use mathlib.Core.List.{List}
-use mathlib.Core.Option.{none, some, none-ne-some}
 use Prim.Native.Nat.{ℕ, ◌≤◌}
 use native.Mathlib.Omega.{arith}
 use lib.Dec.{ltb}
@@ -223,7 +224,7 @@ finding_lists n name row f = list_grammar.both_only n (go (lists_formed n) refl)
   where
     go : (b : Bool) → lists_formed n ≡ b → b ≡ true
     go true w = refl
-    go false w = absurd (none-ne-some f.text (sym (lists_bad n name w) ∙ f.at))
+    go false w = absurd (none-some f.text (sym (lists_bad n name w) ∙ f.at))
 
 typed : (n : NameLists) (d : Device) (line : List ℕ) (id : ℕ) (name : List ℕ) (a : CounterSet) (row : Row) → IsNamed line id name a → Finds n name row
     → letter_of row.device ≡ letter_of d → (parse_line_with n d line ≡ Named id (Event row.code row.mask a))
@@ -241,15 +242,15 @@ unnamed n d line differs = other_line n d line (eq-false_of_not-eq-true (λ e. d
 -- ---- the number
 
 module _ (n : NameLists) (d : Device) (line : List ℕ) where
-  line_number : (r : Record) → parse_line_with n d line ≡ Line r → number_for n d line ≡ none
+  line_number : (r : Record) → parse_line_with n d line ≡ Line r → number_for n d line ≡ None
   unfolding answer_for answer_number parsed_refusal
   line_number r e = rw e
 
-  name_number : (id : ℕ) (r : Request) → parse_line_with n d line ≡ Named id r → number_for n d line ≡ none
+  name_number : (id : ℕ) (r : Request) → parse_line_with n d line ≡ Named id r → number_for n d line ≡ None
   unfolding answer_for answer_number parsed_refusal
   name_number id r e = rw e
 
-  fault_number : (k : ℕ) → parse_line_with n d line ≡ Fault k → number_for n d line ≡ some 1
+  fault_number : (k : ℕ) → parse_line_with n d line ≡ Fault k → number_for n d line ≡ Some 1
   unfolding number_of answer_for answer_number parsed_refusal
   fault_number k e = rw e
 

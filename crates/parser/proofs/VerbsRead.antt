@@ -1,8 +1,7 @@
 -- What a text asks for, by the verb that it has. Assumes nothing.
-use mathlib.Core.Path.{◌≡◌, refl, sym, ◌∙◌}
+use mathlib.Core.Path.{◌≡◌, refl}
 use mathlib.Core.Bool.{Bool, true, false}
 use mathlib.Core.List.{List}
-use mathlib.Core.Option.{some}
 use Prim.Native.Nat.{ℕ}
 use Prim.Native.String.{String}
 use Rattle.requests.specs.Choice.{first_holding}
@@ -11,9 +10,8 @@ use Rattle.requests.specs.declared.Device.{Device}
 use Rattle.grammar.specs.Text.{bytes}
 use Rattle.grammar.specs.Fields.{field_at, same_bytes_lem}
 use Rattle.grammar.specs.Verbs.{has_verb, verbs, record_of}
-use Rattle.grammar.specs.declared.Parsed.{Parsed}
 use Rattle.grammar.specs.declared.Parsed.TheVariants.{Named, Fault}
-use Rattle.grammar.proofs.VerbRows.{read_by, no_verb}
+use Rattle.grammar.proofs.VerbRows.{no_verb}
 use Rattle.grammar.proofs.WordLoops.{same_bytes}
 use Rattle.names.specs.Lists.{NameLists, lists_formed}
 use Rattle.names.specs.Named.{request_named}
@@ -48,11 +46,6 @@ module _ (n : NameLists) (d : Device) (t : List ℕ) (closed : Bool) where
   pub asked_named : has_verb t "named" ≡ true → record_with n d t closed ≡ named_line n d t closed
   unfolding record_with
   asked_named has = rw has
-
-  -- a text is read as its verb says, which is the first that it has
-  pub read_as : (verb : String) (read : List ℕ → Bool → Parsed) (r : Parsed) → same_bytes_lem (bytes verb) (bytes "named") ≡ false → has_verb t verb ≡ true
-      → (has_verb t verb ≡ true → first_holding (verbs t) ≡ some read) → r ≡ read t closed → r ≡ record_with n d t closed
-  read_as verb read r differ has first is = is ∙ sym (asked_record (other_verb t verb "named" differ has) ∙ read_by t closed read (first has))
 
 -- a request by name beside well-formed lists, and beside others
 module _ (n : NameLists) (d : Device) (name : List ℕ) (id : ℕ) (a : CounterSet) where

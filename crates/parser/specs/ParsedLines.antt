@@ -1,6 +1,5 @@
 -- "1: the line is not in the grammar": what a line asks for, whatever its bytes and the lists.
-use Rattle.std.specs.Prelude.{◌≡◌, List, ℕ}
-use Rattle.std.proofs.Math.Option.{Option, none, some}
+use Rattle.std.specs.Prelude.{◌≡◌, List, ℕ, Option, None, Some}
 use Rattle.requests.specs.Devices.{letter_of}
 use Rattle.requests.specs.Refusals.{answer_for, answer_number}
 use Rattle.requests.specs.declared.CounterSet.{CounterSet}
@@ -54,11 +53,11 @@ pub record ParsedLines : Type 0 where
   pub fits : (n : NameLists) (d : Device) (line : List ℕ) (r : Record) → parse_line_with n d line ≡ Line r → Fits r
   pub named_fits : (n : NameLists) (d : Device) (line : List ℕ) (id : ℕ) (r : Request) → parse_line_with n d line ≡ Named id r → AddFits id r
   -- 1 for every line that is neither, and beside an ill-formed list for every request by name; for no other line
-  pub in_grammar : (n : NameLists) (d : Device) (line : List ℕ) (r : Record) → IsText line r → number_for n d line ≡ none
-  pub by_name : (n : NameLists) (d : Device) (line : List ℕ) (id : ℕ) (r : Request) → ByName n d line id r → number_for n d line ≡ none
-  pub outside : (n : NameLists) (d : Device) (line : List ℕ) → Outside line → number_for n d line ≡ some 1
+  pub in_grammar : (n : NameLists) (d : Device) (line : List ℕ) (r : Record) → IsText line r → number_for n d line ≡ None
+  pub by_name : (n : NameLists) (d : Device) (line : List ℕ) (id : ℕ) (r : Request) → ByName n d line id r → number_for n d line ≡ None
+  pub outside : (n : NameLists) (d : Device) (line : List ℕ) → Outside line → number_for n d line ≡ Some 1
   pub list_at_fault : (n : NameLists) (d : Device) (line : List ℕ) (id : ℕ) (name : List ℕ) (a : CounterSet) → IsNamed line id name a → ¬ AreLists n
-      → number_for n d line ≡ some 1
+      → number_for n d line ≡ Some 1
   -- "A found row is used as the same request typed in numbers would be": by name that request is asked for
   pub typed : (n : NameLists) (d : Device) (line : List ℕ) (id : ℕ) (name : List ℕ) (a : CounterSet) (row : Row)
       → IsNamed line id name a → Finds n name row → letter_of row.device ≡ letter_of d

@@ -6,8 +6,9 @@ ghost use Rattle.parser.specs.ParseWith.{parse_text_with, parse_line_with};
 
 use crate::verbs::record_with;
 use grammar::{LONGEST, Parsed};
+use names::BothLists;
 use requests::Device;
-use scanner::fields::parts_of;
+use scanner::fields::Fields;
 
 // A record is none where the line is too long, nor is a request by name; at fault is then field n.
 #[tactic(auto, unfolding(grammar::specs::Parse::too_long_lem))]
@@ -15,8 +16,7 @@ fn too_long(parsed: Parsed, n: usize) -> Parsed
     ensures { result ≡ too_long_lem parsed n }
 {
     match parsed {
-        Parsed::Line(_) => Parsed::Fault(n),
-        Parsed::Named { .. } => Parsed::Fault(n),
+        Parsed::Line(_) | Parsed::Named { .. } => Parsed::Fault(n),
         Parsed::Fault(k) => Parsed::Fault(k),
     }
 }
@@ -33,10 +33,10 @@ pub fn parse_text<'a>(
 ) -> Parsed
     ensures { result ≡ parse_text_with (record { site = site.now; house = house.now }) device text.now closed long }
 {
-    let parts = parts_of(text);
-    let parsed = record_with(text, parts, closed, device, site, house);
+    let fields = Fields::of(text);
+    let parsed = record_with(&fields, closed, device, &BothLists { site, house });
     if long {
-        return too_long(parsed, parts.count);
+        return too_long(parsed, fields.count);
     }
     parsed
 }
@@ -46,11 +46,7 @@ pub fn parse_text<'a>(
 fn is_closed(line: &[u8]) -> bool
     ensures { result ≡ is_closed line.now }
 {
-    let n = line.len();
-    if n == 0 {
-        return false;
-    }
-    line[n - 1] == b'\n'
+    line.last() == Some(&b'\n')
 }
 
 // The number of its bytes without it.
@@ -71,8 +67,6 @@ pub fn parse_line<'a>(line: &[u8], device: Device, site: &'a [u8], house: &'a [u
 {
     let closed = is_closed(line);
     let n = text_length(line, closed);
-    if LONGEST < n {
-        return parse_text(&line[..LONGEST], closed, true, device, site, house);
-    }
-    parse_text(&line[..n], closed, false, device, site, house)
+    let text = &line[..n.min(LONGEST)];
+    parse_text(text, closed, LONGEST < n, device, site, house)
 }

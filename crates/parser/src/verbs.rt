@@ -1,54 +1,59 @@
 // What a text asks for, by its verb.
 ghost use Rattle.std.specs.Prelude.{◌≡◌};
-ghost use Rattle.scanner.specs.Parts.{Parted};
-ghost use Rattle.names.specs.Lists.{NameLists};
+ghost use Rattle.grammar.specs.Verbs.{record_of};
+ghost use Rattle.scanner.specs.LineNumbers.{parsed_as};
+ghost use Rattle.names.specs.Lists.{lists_of};
 ghost use Rattle.parser.specs.ParseWith.{record_with};
 
 use crate::named_lines::named_line;
-use grammar::Parsed;
+use grammar::{Parsed, Record};
+use names::BothLists;
 use requests::Device;
-use scanner::Parts;
-use scanner::fields::is_word;
+use scanner::fields::Fields;
 use scanner::verbs::{
     drop_line, event_line, latency_line, offcore_line, open_line, packet_line, turn_line,
 };
 
-// What a text asks for on a device. Only a request by name looks at the lists.
-#[tactic(auto, unfolding(grammar::specs::Verbs::verbs, grammar::specs::Verbs::has_verb, grammar::specs::Text::bytes, grammar::specs::Fields::same_bytes_lem))]
-pub fn record_with<'a>(
-    text: &[u8],
-    parts: Parts,
-    closed: bool,
-    device: Device,
-    site: &'a [u8],
-    house: &'a [u8],
-) -> Parsed
-    requires { Parted text.now parts }
-    ensures { result ≡ record_with (record { site = site.now; house = house.now }) device text.now closed }
+// The record of a text, or the field at fault.
+// Form: (c) a match on the words: its last arm splits into 36 places by bytes, with no facts there that an answer may cite.
+#[tactic(auto, unfolding(grammar::specs::Verbs::record_of, grammar::specs::Verbs::verbs, grammar::specs::Verbs::has_verb, grammar::specs::Text::bytes, requests::specs::Choice::first_holding))]
+fn record_of(fields: &Fields, closed: bool) -> Result<Record, usize>
+    ensures { parsed_as result ≡ record_of fields.now.text.now closed }
 {
-    if is_word(text, parts, 0, b"open") {
-        return open_line(text, parts, closed);
+    if fields.is_word(0, b"open") {
+        return open_line(fields, closed);
     }
-    if is_word(text, parts, 0, b"event") {
-        return event_line(text, parts, closed);
+    if fields.is_word(0, b"event") {
+        return event_line(fields, closed);
     }
-    if is_word(text, parts, 0, b"packet") {
-        return packet_line(text, parts, closed);
+    if fields.is_word(0, b"packet") {
+        return packet_line(fields, closed);
     }
-    if is_word(text, parts, 0, b"offcore") {
-        return offcore_line(text, parts, closed);
+    if fields.is_word(0, b"offcore") {
+        return offcore_line(fields, closed);
     }
-    if is_word(text, parts, 0, b"latency") {
-        return latency_line(text, parts, closed);
+    if fields.is_word(0, b"latency") {
+        return latency_line(fields, closed);
     }
-    if is_word(text, parts, 0, b"drop") {
-        return drop_line(text, parts, closed);
+    if fields.is_word(0, b"drop") {
+        return drop_line(fields, closed);
     }
-    if is_word(text, parts, 0, b"turn") {
-        return turn_line(text, parts, closed);
+    if fields.is_word(0, b"turn") {
+        return turn_line(fields, closed);
     }
-    if is_word(text, parts, 0, b"named") {
-        return named_line(text, parts, closed, device, site, house);
+    Err(0)
+}
+
+// What a text asks for on a device. Only a request by name looks at the lists.
+#[tactic(auto, unfolding(crate::specs::ParseWith::record_with, grammar::specs::Verbs::has_verb, grammar::specs::Text::bytes))]
+pub fn record_with(fields: &Fields, closed: bool, device: Device, lists: &BothLists) -> Parsed
+    ensures { result ≡ record_with (lists_of lists.now) device fields.now.text.now closed }
+{
+    if fields.is_word(0, b"named") {
+        return named_line(fields, closed, device, lists);
     }
-    Parsed::Fault(0)
+    match record_of(fields, closed) {
+        Ok(record) => Parsed::Line(record),
+        Err(k) => Parsed::Fault(k),
+    }
 }

@@ -1,4 +1,5 @@
 -- A number read digit by digit: at a place of the field, and how large it gets. Assumes nothing.
+use Rattle.std.specs.Prelude.{None, Some}
 use Prim.Native.Nat.{ℕ, ◌+◌, ◌*◌, ◌^◌, ◌<◌, ◌≤◌}
 use mathlib.Core.Path.{◌≡◌}
 use mathlib.Core.List.{List}
@@ -9,11 +10,10 @@ use lib.ListN.{length, get_or, drop}
 use lib.Seq.{drop-cons, drop-length}
 use borrow.Author.Tests.{le-ltb, lt-ltb}
 use Rattle.grammar.specs.Numbers.{digit_of, number_from}
-use Rattle.grammar.specs.declared.Number.TheVariants.{Value, Bad}
 
 -- the digit at place i
 module _ (base n : ℕ) (f : List ℕ) (i d : ℕ) (h : i < length f) (e : d ≡ digit_of (get_or f i 0)) where
-  pub digit_bad : base ≤ d → number_from base n (drop i f) ≡ Bad
+  pub digit_bad : base ≤ d → number_from base n (drop i f) ≡ None
   unfolding number_from
   digit_bad b = rw (drop-cons f i 0 h, ← e, le-ltb d base b)
 
@@ -22,7 +22,7 @@ module _ (base n : ℕ) (f : List ℕ) (i d : ℕ) (h : i < length f) (e : d ≡
   digit_next b = rw (drop-cons f i 0 h, ← e, lt-ltb d base b, add-one)
 
 -- no digit is left
-pub digits_end : (base n : ℕ) (f : List ℕ) (i : ℕ) → i ≤ length f → length f ≤ i → number_from base n (drop i f) ≡ Value n
+pub digits_end : (base n : ℕ) (f : List ℕ) (i : ℕ) → i ≤ length f → length f ≤ i → number_from base n (drop i f) ≡ Some n
 unfolding number_from
 digits_end base n f i h k = rw (le_antisymm h k, drop-length)
 

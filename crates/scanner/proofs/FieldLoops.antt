@@ -126,7 +126,7 @@ module _ {text ends : List ℕ} {tabs i : ℕ} (v : Seen text ends tabs i) (h : 
   unfolding end_of
   end_none k = rw (le_antisymm v.within h, drop-length)
 
-  pub seen_all : Parted text (record { ends = ends; count = tabs + 1 })
+  pub seen_all : Parted text ends (tabs + 1)
   seen_all =
       record {
         counted = omega (arith, v.counts, count_end);

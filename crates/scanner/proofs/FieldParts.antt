@@ -12,7 +12,6 @@ use Rattle.requests.specs.Choice.{pick}
 use Rattle.grammar.specs.Text.{tab}
 use Rattle.grammar.specs.Fields.{onto, fields}
 use Rattle.scanner.specs.Parts.{end_of, Parted}
-use Rattle.scanner.specs.declared.Parts.{Parts}
 
 -- where field k starts, by the ends
 abbrev pub start_by : (ℕ → ℕ) → ℕ → ℕ
@@ -76,22 +75,22 @@ start_after ends zero n = absurd (n refl)
 start_after ends (suc k) n = let d : suc k - 1 ≡ k = omega arith in rw (d, add-one)
 
 -- the text up to its first end is field k
-abbrev pub FirstPart : List ℕ → Parts → ℕ → Type 0
-FirstPart text parts k = (get_or parts.ends k 0 ≤ length text) × (take (get_or parts.ends k 0) text ≡ get_or (fields text) k [])
+abbrev pub FirstPart : List ℕ → List ℕ → ℕ → Type 0
+FirstPart text ends k = (get_or ends k 0 ≤ length text) × (take (get_or ends k 0) text ≡ get_or (fields text) k [])
 
 -- the part after the end before it is field k
-abbrev pub NextPart : List ℕ → Parts → ℕ → Type 0
-NextPart text parts k = Cut (fields text) text k (get_or parts.ends (k - 1) 0 + 1) (get_or parts.ends k 0)
+abbrev pub NextPart : List ℕ → List ℕ → ℕ → Type 0
+NextPart text ends k = Cut (fields text) text k (get_or ends (k - 1) 0 + 1) (get_or ends k 0)
 
 -- the parts that were found are the fields
-module _ {text : List ℕ} {parts : Parts} (p : Parted text parts) (k : ℕ) (few : k < 8) (there : k < parts.count) where
+module _ {text ends : List ℕ} {count : ℕ} (p : Parted text ends count) (k : ℕ) (few : k < 8) (there : k < count) where
   found : Cut (fields text) text k (start_by (end_of text) k) (end_of text k)
   found = cut text k (rw p.counted at there)
 
-  pub first_part : k ≡ 0 → FirstPart text parts k
+  pub first_part : k ≡ 0 → FirstPart text ends k
   first_part z =
       let f = rw z at found in
       rw (p.placed k few, z) (f.within, rw sub-zero at f.part)
 
-  pub next_part : (k ≡ 0 → ⊥) → NextPart text parts k
+  pub next_part : (k ≡ 0 → ⊥) → NextPart text ends k
   next_part n = rw (p.placed k few, p.placed (k - 1) (omega arith), ← start_after (end_of text) k n) found

@@ -1,22 +1,27 @@
--- The numbers of a line, read before it is known what they make.
-use Rattle.std.specs.Prelude.{◌≡◌, Bool, List, [], ◌∷◌, ℕ, ◌≤◌}
-use Rattle.grammar.specs.Numbers.{core_format}
+-- The numbers of a line, read before it is known what they make, and the record that a line is.
+use Rattle.std.specs.Prelude.{◌≡◌, Bool, List, [], ◌∷◌, ℕ, get_or, Result, Ok, Err}
 use Rattle.grammar.specs.Verbs.{Made, number_line}
+use Rattle.grammar.specs.declared.Record.{Record}
 use Rattle.grammar.specs.declared.Parsed.{Parsed}
 use Rattle.grammar.specs.declared.Parsed.TheVariants.{Line, Fault}
-use Rattle.scanner.specs.declared.LineNumbers.{LineNumbers}
-use Rattle.scanner.specs.declared.LineNumbers.TheVariants as numbers
+use Rattle.scanner.specs.declared.Format.{Format}
+use Rattle.scanner.specs.Formats.{IsFormat}
 
 -- formats that there are
-abbrev pub Narrow : List ℕ → Type 0
-Narrow [] = Unit {0}
-Narrow (w ∷ ws) = (w ≤ core_format) × Narrow ws
+abbrev pub AreFormats : List Format → Type 0
+AreFormats [] = Unit {0}
+AreFormats (f ∷ fs) = IsFormat f × AreFormats fs
 
--- the record that is made of a line's numbers, or the field at fault
-abbrev pub made_of : LineNumbers → Made → Parsed
-made_of (numbers.Read a b c d e) made = Line (made a b c d e)
-made_of (numbers.Fault k) made = Fault k
+-- the record that is made of a line's numbers, 0 for those that it does not have, or the field at fault
+abbrev pub made_of : Result (List ℕ) ℕ → Made → Parsed
+made_of (Ok ns) made = Line (made (get_or ns 0 0) (get_or ns 1 0) (get_or ns 2 0) (get_or ns 3 0) (get_or ns 4 0))
+made_of (Err k) made = Fault k
 
 -- they are the numbers of the line, whatever is made of them
-pub record Numbered (first : ℕ) (formats text : List ℕ) (closed : Bool) (r : LineNumbers) : Type 0 where
-  pub tells : (made : Made) → number_line first formats text closed made ≡ made_of r made
+pub record Numbered (first : ℕ) (codes text : List ℕ) (closed : Bool) (r : Result (List ℕ) ℕ) : Type 0 where
+  pub tells : (made : Made) → number_line first codes text closed made ≡ made_of r made
+
+-- a record that a line is, or the field at fault
+abbrev pub parsed_as : Result Record ℕ → Parsed
+parsed_as (Ok r) = Line r
+parsed_as (Err k) = Fault k

@@ -1,71 +1,91 @@
 // The fields of a text, as parts of it between tabs.
-ghost use Rattle.std.specs.Prelude.{◌≡◌, ◌≤◌, ◌<◌};
+ghost use Rattle.std.specs.Prelude.{◌≡◌, ◌<◌};
 ghost use Rattle.grammar.specs.Fields.{field_at, same_bytes_lem};
-ghost use Rattle.grammar.specs.Numbers.{core_format, number_of};
+ghost use Rattle.grammar.specs.Numbers.{number_of};
+ghost use Rattle.grammar.specs.Verbs.{is_whole};
 ghost use Rattle.scanner.specs.Parts.{Parted};
+ghost use Rattle.scanner.specs.Formats.{IsFormat, code_of};
 
+use crate::Format;
 use crate::numbers::{core_number, decimal, hex};
 use crate::words::same;
-use crate::{CORE, DECIMAL, MOST_FIELDS, Parts};
-use grammar::Number;
 
-// Where the fields end, found in one pass.
-pub fn parts_of(text: &[u8]) -> Parts
-    ensures { Parted text.now result }
-{
-    let mut ends = [text.len(); MOST_FIELDS];
-    let mut tabs: usize = 0;
-    let mut i = 0;
-    while i < text.len() {
-        if text[i] == b'\t' {
-            if tabs < MOST_FIELDS {
-                ends[tabs] = i;
+// The most fields that are told apart; no record has as many.
+const MOST_FIELDS: usize = 8;
+
+// The fields of a text: where each ends, those past the last one at its end, and how many there are.
+#[derive(Clone, Copy)]
+pub struct Fields<'a> {
+    pub text: &'a [u8],
+    pub ends: [usize; MOST_FIELDS],
+    pub count: usize,
+    pub ghost parted: { Parted text.now ends count },
+}
+
+impl<'a> Fields<'a> {
+    // Where the fields end, found in one pass.
+    pub fn of(text: &'a [u8]) -> Self
+        ensures { result.text.now ≡ text.now }
+    {
+        let mut ends = [text.len(); MOST_FIELDS];
+        let mut tabs = 0;
+        for (i, b) in text.iter().enumerate() {
+            if *b == b'\t' {
+                if tabs < MOST_FIELDS {
+                    ends[tabs] = i;
+                }
+                tabs += 1;
             }
-            tabs += 1;
         }
-        i += 1;
+        Fields {
+            text,
+            ends,
+            count: tabs + 1,
+        }
     }
-    Parts {
-        ends,
-        count: tabs + 1,
-    }
-}
 
-// Field k, counted from 0: the part of the text between two tabs. Where there is none, an empty part.
-pub fn field(text: &[u8], parts: Parts, k: usize) -> &[u8]
-    requires { (k < 8) × Parted text.now parts }
-    ensures { result.now ≡ field_at text.now k }
-{
-    if parts.count <= k {
-        return &text[..0];
+    // Field k, counted from 0: the part of the text between two tabs. Where there is none, an empty part.
+    pub fn field(&self, k: usize) -> &'a [u8]
+        requires { k < 8 }
+        ensures { result.now ≡ field_at self.now.text.now k }
+    {
+        if self.count <= k {
+            return &self.text[..0];
+        }
+        let end = self.ends[k];
+        if k == 0 {
+            return &self.text[..end];
+        }
+        let begin = self.ends[k - 1] + 1;
+        &self.text[begin..end]
     }
-    let end = parts.ends[k];
-    if k == 0 {
-        return &text[..end];
-    }
-    let begin = parts.ends[k - 1] + 1;
-    &text[begin..end]
-}
 
-// Whether field k is the word.
-pub fn is_word(text: &[u8], parts: Parts, k: usize, word: &[u8]) -> bool
-    requires { (k < 8) × Parted text.now parts }
-    ensures { result ≡ same_bytes_lem (field_at text.now k) word.now }
-{
-    same(field(text, parts, k), word)
-}
+    // Whether there are n fields, and they are closed by a newline.
+    #[tactic(auto, unfolding(requests::specs::Choice::both))]
+    pub fn is_whole(&self, closed: bool, n: usize) -> bool
+        ensures { result ≡ is_whole self.now.text.now closed n }
+    {
+        closed && self.count == n
+    }
 
-// Field k as the number of the format.
-pub fn number_at(text: &[u8], parts: Parts, k: usize, format: usize) -> Number
-    requires { (k < 8) × Parted text.now parts × (format ≤ core_format) }
-    ensures { result ≡ number_of format (field_at text.now k) }
-{
-    let part = field(text, parts, k);
-    if format == DECIMAL {
-        return decimal(part);
+    // Whether field k is the word.
+    pub fn is_word(&self, k: usize, word: &[u8]) -> bool
+        requires { k < 8 }
+        ensures { result ≡ same_bytes_lem (field_at self.now.text.now k) word.now }
+    {
+        same(self.field(k), word)
     }
-    if format == CORE {
-        return core_number(part);
+
+    // Field k as the number of the format.
+    pub fn number_at(&self, k: usize, format: Format) -> Option<u64>
+        requires { (k < 8) × IsFormat format }
+        ensures { result ≡ number_of (code_of format) (field_at self.now.text.now k) }
+    {
+        let field = self.field(k);
+        match format {
+            Format::Decimal => decimal(field),
+            Format::Hex(width) => hex(field, width),
+            Format::Core => core_number(field),
+        }
     }
-    hex(part, format)
 }

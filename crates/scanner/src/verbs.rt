@@ -1,83 +1,46 @@
 // The record of each verb.
-ghost use Rattle.std.specs.Prelude.{◌≡◌, ◌+◌, ◌≤◌, eqb, length};
-ghost use Rattle.requests.specs.Choice.{both, pick};
-ghost use Rattle.scanner.specs.Parts.{Parted};
-ghost use Rattle.grammar.specs.Verbs.{open_formats, open_as, open_with, open_on, open_line, event_line, packet_line, offcore_line, latency_line, drop_line, turn_line};
-ghost use Rattle.scanner.specs.LineNumbers.{Narrow, Numbered};
+ghost use Rattle.std.specs.Prelude.{◌≡◌, ◌+◌, ◌≤◌, map};
+ghost use Rattle.grammar.specs.Verbs.{ended, open_as, open_on, open_line, event_line, packet_line, offcore_line, latency_line, drop_line, turn_line};
+ghost use Rattle.scanner.specs.Formats.{code_of};
+ghost use Rattle.scanner.specs.LineNumbers.{AreFormats, Numbered, parsed_as};
 
-use crate::fields::number_at;
+use crate::Format::{self, Core, Decimal, Hex};
+use crate::fields::Fields;
 use crate::letters::device_at;
 use crate::numbers::core_of;
-use crate::{CORE, DECIMAL, LineNumbers, Parts};
-use grammar::{Lettered, Number, Parsed, Record};
+use grammar::Record;
 use requests::{CounterSet, Device, Overflow, Request, Setup};
 
-// Whether a line is closed by a newline after n fields.
+// A record of n fields in all, closed by a newline; or the field at fault.
 #[tactic(auto, unfolding(requests::specs::Choice::both))]
-pub fn is_whole(count: usize, closed: bool, n: usize) -> bool
-    ensures { result ≡ both closed (eqb count n) }
+fn ended(fields: &Fields, closed: bool, n: usize, asked: Record) -> Result<Record, usize>
+    ensures { parsed_as result ≡ ended fields.now.text.now closed n asked }
 {
-    if closed {
-        return count == n;
+    if fields.is_whole(closed, n) {
+        return Ok(asked);
     }
-    false
+    Err(n)
 }
 
-// A record of n fields in all, closed by a newline.
-fn ended(count: usize, closed: bool, n: usize, asked: Record) -> Parsed
-    ensures { result ≡ pick (both closed (eqb count n)) (Parsed.Line asked) (Parsed.Fault n) }
-{
-    if is_whole(count, closed, n) {
-        return Parsed::Line(asked);
-    }
-    Parsed::Fault(n)
-}
-
-// The numbers of a line that has fields of these formats from field `first` on, and no others behind them.
-fn numbers_of(
-    text: &[u8],
-    parts: Parts,
+// The numbers of a line that has fields of these formats from field `first` on, and no others behind them; or the first field at fault.
+fn numbers_of<const N: usize>(
+    fields: &Fields,
     closed: bool,
     first: usize,
-    formats: &[usize],
-) -> LineNumbers
-    requires { Parted text.now parts × (first + length formats.now ≤ 8) × (length formats.now ≤ 5) × Narrow formats.now }
-    ensures { Numbered first formats.now text.now closed result }
+    formats: &[Format; N],
+) -> Result<[u64; N], usize>
+    requires { (first + N ≤ 8) × (N ≤ 5) × AreFormats formats.now }
+    ensures { Numbered first (map code_of formats.now) fields.now.text.now closed result }
 {
-    let mut values: [u64; 5] = [0; 5];
-    let mut i = 0;
-    while i < formats.len() {
-        let Number::Value(value) = number_at(text, parts, first + i, formats[i]) else {
-            return LineNumbers::Fault(first + i);
-        };
-        values[i] = value;
-        i += 1;
+    let mut values = [0; N];
+    for i in 0..N {
+        values[i] = fields.number_at(first + i, formats[i]).ok_or(first + i)?;
     }
-    let n = first + formats.len();
-    if is_whole(parts.count, closed, n) {
-        return LineNumbers::Read(values[0], values[1], values[2], values[3], values[4]);
+    let n = first + N;
+    if fields.is_whole(closed, n) {
+        return Ok(values);
     }
-    LineNumbers::Fault(n)
-}
-
-// The numbers behind a device's letter.
-#[tactic(auto, unfolding(grammar::specs::Verbs::open_formats))]
-fn open_numbers(text: &[u8], parts: Parts, closed: bool, device: Device) -> LineNumbers
-    requires { Parted text.now parts }
-    ensures { Numbered 2 (open_formats device) text.now closed result }
-{
-    match device {
-        Device::G => numbers_of(text, parts, closed, 2, &[DECIMAL, DECIMAL, DECIMAL, CORE]),
-        Device::S => numbers_of(text, parts, closed, 2, &[DECIMAL, DECIMAL, DECIMAL, CORE]),
-        Device::C(_) => numbers_of(
-            text,
-            parts,
-            closed,
-            2,
-            &[DECIMAL, DECIMAL, DECIMAL, DECIMAL, CORE],
-        ),
-        Device::B => numbers_of(text, parts, closed, 2, &[DECIMAL, DECIMAL, DECIMAL, CORE]),
-    }
+    Err(n)
 }
 
 // The record that opens a device with these numbers.
@@ -97,133 +60,96 @@ fn open_as(device: Device, usable: u64, fixed: u64, freeze: u64, core: u64) -> R
     })
 }
 
-// The record that a device and the numbers behind its letter make: on C the box stands before the last two.
-#[tactic(auto, unfolding(grammar::specs::Verbs::open_with))]
-fn open_with(device: Device, usable: u64, fixed: u64, third: u64, fourth: u64, fifth: u64) -> Record
-    ensures { result ≡ open_with device usable fixed third fourth fifth }
+// `open` with a device that is known: on C the box stands before the last two numbers.
+fn open_on(fields: &Fields, closed: bool, device: Device) -> Result<Record, usize>
+    ensures { parsed_as result ≡ open_on fields.now.text.now closed device }
 {
-    match device {
-        Device::G => open_as(Device::G, usable, fixed, third, fourth),
-        Device::S => open_as(Device::S, usable, fixed, third, fourth),
-        Device::C(_) => open_as(Device::C(third), usable, fixed, fourth, fifth),
-        Device::B => open_as(Device::B, usable, fixed, third, fourth),
+    if let Device::C(_) = device {
+        let formats = [Decimal, Decimal, Decimal, Decimal, Core];
+        let [usable, fixed, cbox, freeze, core] = numbers_of(fields, closed, 2, &formats)?;
+        return Ok(open_as(Device::C(cbox), usable, fixed, freeze, core));
     }
-}
-
-// `open` with a device that is known.
-#[tactic(auto, unfolding(grammar::specs::Verbs::open_on))]
-fn open_on(text: &[u8], parts: Parts, closed: bool, device: Device) -> Parsed
-    requires { Parted text.now parts }
-    ensures { result ≡ open_on text.now closed device }
-{
-    match open_numbers(text, parts, closed, device) {
-        LineNumbers::Fault(k) => Parsed::Fault(k),
-        LineNumbers::Read(usable, fixed, third, fourth, fifth) => {
-            Parsed::Line(open_with(device, usable, fixed, third, fourth, fifth))
-        }
-    }
+    let formats = [Decimal, Decimal, Decimal, Core];
+    let [usable, fixed, freeze, core] = numbers_of(fields, closed, 2, &formats)?;
+    Ok(open_as(device, usable, fixed, freeze, core))
 }
 
 // `open` letter usable fixed, box on C, freeze core
 #[tactic(auto, unfolding(grammar::specs::Verbs::open_line))]
-pub fn open_line(text: &[u8], parts: Parts, closed: bool) -> Parsed
-    requires { Parted text.now parts }
-    ensures { result ≡ open_line text.now closed }
+pub fn open_line(fields: &Fields, closed: bool) -> Result<Record, usize>
+    ensures { parsed_as result ≡ open_line fields.now.text.now closed }
 {
-    match device_at(text, parts, 1) {
-        Lettered::Known(device) => open_on(text, parts, closed, device),
-        Lettered::Unknown => Parsed::Fault(1),
-    }
+    let device = device_at(fields, 1).ok_or(1usize)?;
+    open_on(fields, closed, device)
 }
 
 // `event` id code(2) mask(2) allowed
-pub fn event_line(text: &[u8], parts: Parts, closed: bool) -> Parsed
-    requires { Parted text.now parts }
-    ensures { result ≡ event_line text.now closed }
+pub fn event_line(fields: &Fields, closed: bool) -> Result<Record, usize>
+    ensures { parsed_as result ≡ event_line fields.now.text.now closed }
 {
-    match numbers_of(text, parts, closed, 1, &[DECIMAL, 2, 2, DECIMAL]) {
-        LineNumbers::Fault(k) => Parsed::Fault(k),
-        LineNumbers::Read(id, code, mask, allowed, _) => {
-            let request = Request::Event {
-                code: code as u8,
-                mask: mask as u8,
-                allowed: CounterSet(allowed),
-            };
-            Parsed::Line(Record::Add { id, request })
-        }
-    }
+    let formats = [Decimal, Hex(2), Hex(2), Decimal];
+    let [id, code, mask, allowed] = numbers_of(fields, closed, 1, &formats)?;
+    let request = Request::Event {
+        code: code as u8,
+        mask: mask as u8,
+        allowed: CounterSet(allowed),
+    };
+    Ok(Record::Add { id, request })
 }
 
 // `packet` id match(16) mask(16) allowed
-pub fn packet_line(text: &[u8], parts: Parts, closed: bool) -> Parsed
-    requires { Parted text.now parts }
-    ensures { result ≡ packet_line text.now closed }
+pub fn packet_line(fields: &Fields, closed: bool) -> Result<Record, usize>
+    ensures { parsed_as result ≡ packet_line fields.now.text.now closed }
 {
-    match numbers_of(text, parts, closed, 1, &[DECIMAL, 16, 16, DECIMAL]) {
-        LineNumbers::Fault(k) => Parsed::Fault(k),
-        LineNumbers::Read(id, match_word, mask_word, allowed, _) => {
-            let request = Request::Packet {
-                match_word,
-                mask_word,
-                allowed: CounterSet(allowed),
-            };
-            Parsed::Line(Record::Add { id, request })
-        }
-    }
+    let formats = [Decimal, Hex(16), Hex(16), Decimal];
+    let [id, match_word, mask_word, allowed] = numbers_of(fields, closed, 1, &formats)?;
+    let request = Request::Packet {
+        match_word,
+        mask_word,
+        allowed: CounterSet(allowed),
+    };
+    Ok(Record::Add { id, request })
 }
 
 // `offcore` id word(16) allowed
-pub fn offcore_line(text: &[u8], parts: Parts, closed: bool) -> Parsed
-    requires { Parted text.now parts }
-    ensures { result ≡ offcore_line text.now closed }
+pub fn offcore_line(fields: &Fields, closed: bool) -> Result<Record, usize>
+    ensures { parsed_as result ≡ offcore_line fields.now.text.now closed }
 {
-    match numbers_of(text, parts, closed, 1, &[DECIMAL, 16, DECIMAL]) {
-        LineNumbers::Fault(k) => Parsed::Fault(k),
-        LineNumbers::Read(id, word, allowed, _, _) => {
-            let request = Request::Offcore {
-                word,
-                allowed: CounterSet(allowed),
-            };
-            Parsed::Line(Record::Add { id, request })
-        }
-    }
+    let [id, word, allowed] = numbers_of(fields, closed, 1, &[Decimal, Hex(16), Decimal])?;
+    let request = Request::Offcore {
+        word,
+        allowed: CounterSet(allowed),
+    };
+    Ok(Record::Add { id, request })
 }
 
 // `latency` id type(4) first second
-pub fn latency_line(text: &[u8], parts: Parts, closed: bool) -> Parsed
-    requires { Parted text.now parts }
-    ensures { result ≡ latency_line text.now closed }
+pub fn latency_line(fields: &Fields, closed: bool) -> Result<Record, usize>
+    ensures { parsed_as result ≡ latency_line fields.now.text.now closed }
 {
-    match numbers_of(text, parts, closed, 1, &[DECIMAL, 4, DECIMAL, DECIMAL]) {
-        LineNumbers::Fault(k) => Parsed::Fault(k),
-        LineNumbers::Read(id, types, first, second, _) => {
-            let request = Request::Latency {
-                types: types as u16,
-                first: CounterSet(first),
-                second: CounterSet(second),
-            };
-            Parsed::Line(Record::Add { id, request })
-        }
-    }
+    let formats = [Decimal, Hex(4), Decimal, Decimal];
+    let [id, types, first, second] = numbers_of(fields, closed, 1, &formats)?;
+    let request = Request::Latency {
+        types: types as u16,
+        first: CounterSet(first),
+        second: CounterSet(second),
+    };
+    Ok(Record::Add { id, request })
 }
 
 // `drop` id
 #[tactic(auto, unfolding(grammar::specs::Verbs::drop_line))]
-pub fn drop_line(text: &[u8], parts: Parts, closed: bool) -> Parsed
-    requires { Parted text.now parts }
-    ensures { result ≡ drop_line text.now closed }
+pub fn drop_line(fields: &Fields, closed: bool) -> Result<Record, usize>
+    ensures { parsed_as result ≡ drop_line fields.now.text.now closed }
 {
-    let Number::Value(id) = number_at(text, parts, 1, DECIMAL) else {
-        return Parsed::Fault(1);
-    };
-    ended(parts.count, closed, 2, Record::Drop { id })
+    let id = fields.number_at(1, Decimal).ok_or(1usize)?;
+    ended(fields, closed, 2, Record::Drop { id })
 }
 
 // `turn`
 #[tactic(auto, unfolding(grammar::specs::Verbs::turn_line))]
-pub fn turn_line(text: &[u8], parts: Parts, closed: bool) -> Parsed
-    requires { Parted text.now parts }
-    ensures { result ≡ turn_line text.now closed }
+pub fn turn_line(fields: &Fields, closed: bool) -> Result<Record, usize>
+    ensures { parsed_as result ≡ turn_line fields.now.text.now closed }
 {
-    ended(parts.count, closed, 1, Record::Turn)
+    ended(fields, closed, 1, Record::Turn)
 }

@@ -1,28 +1,26 @@
 use mathlib.Core.Path.{sym, ◌∙◌}
+use mathlib.Core.Logic.{◌≢◌, ⊎_elim}
 use native.Mathlib.Omega.{arith}
-use Rattle.names.proofs.NameLoops.{name_next, name_bad, name_end, no_name, long_name, short_name}
+use lib.ListN.{length}
+use borrow.Author.Tests.{eqb-false, eqb-true}
+use Rattle.std.proofs.Common.{rules, tests}
+use Rattle.std.proofs.lemmas.Iterator.{YieldsList-from_slice}
+use Rattle.std.proofs.lemmas.Iterator.Search.{all_from_yields_List}
+use Rattle.names.specs.EventNames.{name_byte}
+use Rattle.names.proofs.NameLoops.{all_name_bytes, no_name, long_name, short_name}
 use Rattle.names.proofs.event_names.is_name.Goals as goal
 
-pub returns-then-n-eq0 : goal.returns-then-n-eq0
-returns-then-n-eq0 c = sym (no_name _ c.if-n-eq0.true)
-
-pub returns-then-n-gt-LONGEST_NAME : goal.returns-then-n-gt-LONGEST_NAME
-returns-then-n-gt-LONGEST_NAME c = sym (long_name _ c.if-n-gt-LONGEST_NAME.true)
-
-pub loop-i-preserved : goal.loop-i-preserved
-loop-i-preserved c =
-    let l = c.loop-i in
+pub returns-then-is_empty : goal.returns-then-is_empty
+returns-then-is_empty c =
     let f = c.args.field.now in
-    (omega arith, sym (name_next f l.i (omega arith) (sym c.name_byte.ensures ∙ c.if-name_byte.true)) ∙ l.invariant.1)
-
-pub returns-else-name_byte : goal.returns-else-name_byte
-returns-else-name_byte c =
-    let l = c.loop-i in
-    let f = c.args.field.now in
-    sym (short_name f (λ e. omega arith) (omega arith) ∙ sym l.invariant.1 ∙ name_bad f l.i (omega arith) (sym c.name_byte.ensures ∙ c.if-name_byte.false))
+    ⊎_elim
+    (λ e. sym (no_name f (eqb-true (length f) 0 (sym c.is_empty.ensures ∙ e))))
+    (λ long. sym (long_name f long.1))
+    c.then-is_empty.either
 
 pub returns : goal.returns
 returns c =
-    let l = c.loop-i in
     let f = c.args.field.now in
-    sym (short_name f (λ e. omega arith) (omega arith) ∙ sym l.invariant.1 ∙ name_end f l.i (omega arith) (omega arith))
+    let all = all_from_yields_List name_byte _ _ _ c.all.ensures.ran (YieldsList-from_slice f cc) (λ x b q k. search (rules, tests)) in
+    let some : length f ≢ 0 = eqb-false (length f) 0 (sym c.is_empty.ensures ∙ c.if-is_empty.false) in
+    all ∙ all_name_bytes f ∙ sym (short_name f some (omega arith))

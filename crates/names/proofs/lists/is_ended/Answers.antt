@@ -1,9 +1,10 @@
 use mathlib.Core.Path.{sym}
-use Rattle.names.proofs.Newlines.{ended_none, ended_last}
+use native.Mathlib.Omega.{arith}
+use Rattle.names.proofs.Newlines.{ended_none, ended_at}
 use Rattle.names.proofs.lists.is_ended.Goals as goal
 
-pub returns-then-n-eq0 : goal.returns-then-n-eq0
-returns-then-n-eq0 c = sym (ended_none c.args.list.now c.if-n-eq0.true)
+pub returns-in-Some : goal.returns-in-Some
+returns-in-Some c = sym (ended_at c.args.list.now c.in-Some.last.now (sym c.in-Some.ensures.value))
 
-pub returns : goal.returns
-returns c = sym (ended_last c.args.list.now c.if-n-eq0.false)
+pub returns-in-None : goal.returns-in-None
+returns-in-None c = sym (ended_none c.args.list.now (omega (arith, c.in-None.ensures.item)))

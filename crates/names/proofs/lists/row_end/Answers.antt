@@ -1,21 +1,14 @@
-use native.Mathlib.Omega.{arith}
-use Rattle.names.proofs.Newlines.{at_newline, at_other, at_end_lem}
+use mathlib.Core.Path.{◌∙◌}
+use Rattle.std.proofs.Common.{rules, tests, eqb}
+use Rattle.std.proofs.lemmas.Iterator.{YieldsList-from_slice}
+use Rattle.std.proofs.lemmas.Iterator.Search.{position_from_yields_List}
+use Rattle.names.proofs.Newlines.{newline_at}
 use Rattle.names.proofs.lists.row_end.Goals as goal
-
-pub returns-then-list-end-eq10 : goal.returns-then-list-end-eq10
-returns-then-list-end-eq10 c =
-    let l = c.loop-end in
-    let list = c.args.list.now in
-    omega (arith, l.invariant, at_newline list l.end (omega arith) c.if-list-end-eq10.true)
-
-pub loop-end-preserved : goal.loop-end-preserved
-loop-end-preserved c =
-    let l = c.loop-end in
-    let list = c.args.list.now in
-    omega (arith, l.invariant, at_other list l.end (omega arith) c.if-list-end-eq10.false)
 
 pub returns : goal.returns
 returns c =
-    let l = c.loop-end in
     let list = c.args.list.now in
-    omega (arith, l.invariant, at_end_lem list l.end (omega arith))
+    let place =
+    position_from_yields_List (λ b. eqb b 10) _ _ c.position.result c.position.ensures.ran (YieldsList-from_slice list cc)
+    (λ x b q k. search (rules, tests)) in
+    c.unwrap_or.ensures ∙ newline_at list c.position.result place

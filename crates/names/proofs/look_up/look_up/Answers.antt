@@ -1,9 +1,8 @@
-use mathlib.Core.Path.{ap, sym, ◌∙◌}
-use Rattle.names.specs.LookUp.{shown}
+use mathlib.Core.Path.{sym, ◌∙◌}
 use Rattle.names.proofs.Searching.{lists_bad}
 use Rattle.names.proofs.look_up.look_up.Goals as goal
 
 pub returns : goal.returns
 returns c =
     let a = c.args in
-    ap shown (sym (lists_bad (record { site = a.site.now; house = a.house.now }) a.name.now (sym c.lists_formed.ensures ∙ c.if-lists_formed.false)))
+    sym (lists_bad (record { site = a.site.now; house = a.house.now }) a.name.now (sym c.lists_formed.ensures ∙ c.if-lists_formed.false))

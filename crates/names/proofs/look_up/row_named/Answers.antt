@@ -1,18 +1,13 @@
-use mathlib.Core.Path.{ap, ◌∙◌}
-use native.Mathlib.Omega.{arith}
-use lib.ListN.{length}
-use Rattle.names.proofs.Searching.{show_site, show_house}
+use mathlib.Core.Path.{sym, ◌∙◌}
+use Rattle.std.proofs.Common.{rules}
+use Rattle.names.specs.Lists.{lists_of, row_texts}
+use Rattle.names.specs.LookUp.{top_row}
+use Rattle.names.proofs.Searching.{lists_good, one_of_two}
 use Rattle.names.proofs.look_up.row_named.Goals as goal
-
-pub returns-then-row-gt0 : goal.returns-then-row-gt0
-returns-then-row-gt0 c =
-    let a = c.args in
-    let row = c.row_in-row.ensures in
-    row ∙ show_site (record { site = a.site.now; house = a.house.now }) a.name.now c.requires (omega (arith, ap length row, c.if-row-gt0.true))
 
 pub returns : goal.returns
 returns c =
     let a = c.args in
-    let row = c.row_in-row.ensures in
-    c.row_in.ensures
-    ∙ show_house (record { site = a.site.now; house = a.house.now }) a.name.now c.requires (omega (arith, ap length row, c.if-row-gt0.false))
+    one_of_two c.row_in.result c.or_else.result (top_row a.name.now (row_texts a.lists.now.site.now)) (top_row a.name.now (row_texts a.lists.now.house.now)) c.row_in.ensures
+    c.or_else.ensures (λ p. search rules)
+    ∙ sym (lists_good (lists_of a.lists.now) a.name.now c.requires)

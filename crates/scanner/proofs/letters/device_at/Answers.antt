@@ -5,24 +5,27 @@ use Rattle.requests.proofs.Openings.{device_count}
 use Rattle.grammar.proofs.LetterFields.{lettered_all, letter_here, letter_next, letter_none}
 use Rattle.scanner.proofs.letters.device_at.Goals as goal
 
-pub loop-i-init : goal.loop-i-init
-loop-i-init c = rw c.devices-devices.ensures (lettered_all _)
+pub loop-device-init : goal.loop-device-init
+loop-device-init c = rw c.devices-device-items.ensures (lettered_all _)
 
 pub returns-then-is_letter : goal.returns-then-is_letter
 returns-then-is_letter c =
-    let ds = c.devices-devices in
-    let inside : c.loop-i.i < length ds.result = rw (ds.ensures, device_count) c.loop-i-test.true in
-    let here = letter_here _ ds.result c.loop-i.i _ inside (sym c.is_letter.ensures ∙ c.if-is_letter.true) in
-    rw (sym c.loop-i.invariant ∙ here)
+    let ds = c.devices-device-items in
+    let l = c.loop-device in
+    let inside : l.device-index < length ds.result = rw (ds.ensures, device_count) c.loop-device-test.true in
+    let here = letter_here _ ds.result l.device-index _ inside (sym c.is_letter.ensures ∙ c.if-is_letter.true) in
+    rw (sym l.invariant ∙ here)
 
-pub loop-i-preserved : goal.loop-i-preserved
-loop-i-preserved c =
-    let ds = c.devices-devices in
-    let inside : c.loop-i.i < length ds.result = rw (ds.ensures, device_count) c.loop-i-test.true in
-    letter_next _ ds.result c.loop-i.i _ inside (sym c.is_letter.ensures ∙ c.if-is_letter.false) ∙ c.loop-i.invariant
+pub loop-device-preserved : goal.loop-device-preserved
+loop-device-preserved c =
+    let ds = c.devices-device-items in
+    let l = c.loop-device in
+    let inside : l.device-index < length ds.result = rw (ds.ensures, device_count) c.loop-device-test.true in
+    letter_next _ ds.result l.device-index _ inside (sym c.is_letter.ensures ∙ c.if-is_letter.false) ∙ l.invariant
 
 pub returns : goal.returns
 returns c =
-    let ds = c.devices-devices in
-    let past : length ds.result ≤ c.loop-i.i = rw (ds.ensures, device_count) c.loop-i-test.false in
-    rw (sym c.loop-i.invariant ∙ letter_none _ ds.result c.loop-i.i past)
+    let ds = c.devices-device-items in
+    let l = c.loop-device in
+    let past : length ds.result ≤ l.device-index = rw (ds.ensures, device_count) c.loop-device-test.false in
+    rw (sym l.invariant ∙ letter_none _ ds.result l.device-index past)

@@ -1,10 +1,7 @@
-use Prim.Native.Nat.{◌-◌}
-use lib.ListN.{length}
+use Rattle.std.specs.Prelude.{map}
+use Rattle.scanner.specs.Formats.{code_of}
 use Rattle.scanner.proofs.NumberLines.{ReadTo}
 use Rattle.scanner.proofs.verbs.numbers_of.Given as goal
 
 abbrev pub invariant-loop-i : goal.invariant-loop-i
-invariant-loop-i l = ReadTo l.first l.formats l.text l.closed l.values l.i
-
-abbrev pub decreases-loop-i : goal.decreases-loop-i
-decreases-loop-i l = length l.formats - l.i
+invariant-loop-i g l = ReadTo l.first (map code_of l.formats) l.fields.text.now l.closed l.values l.i

@@ -1,27 +1,24 @@
-use mathlib.Core.Path.{sym, ◌∙◌}
-use native.Mathlib.Omega.{arith}
-use Rattle.grammar.proofs.WordLoops.{same_here, differ_here, same_end, differ_length}
+use mathlib.Core.Path.{◌≡◌, refl, ◌∙◌}
+use mathlib.Core.Bool.{Bool, true, false, ◌&&◌}
+use mathlib.Core.List.{List, [], ◌∷◌}
+use Prim.Native.Nat.{ℕ}
+use lib.Dec.{eqb}
+use Rattle.std.specs.Cmp.Lexicographic.{pointwise}
+use Rattle.requests.specs.Choice.{pick}
+use Rattle.grammar.specs.Fields.{same_bytes_lem}
 use Rattle.scanner.proofs.words.same.Goals as goal
 
-pub returns-then-a-b : goal.returns-then-a-b
-returns-then-a-b c =
-    let g = c.args in
-    sym (differ_length g.a.now g.b.now c.if-a-b.true)
-
-pub returns-then-a-i : goal.returns-then-a-i
-returns-then-a-i c =
-    let l = c.loop-i in
-    let g = c.args in
-    sym (differ_here g.a.now g.b.now l.i (omega arith) (omega arith) c.if-a-i.true) ∙ l.invariant.1
-
-pub loop-i-preserved : goal.loop-i-preserved
-loop-i-preserved c =
-    let l = c.loop-i in
-    let g = c.args in
-    (omega arith, sym (same_here g.a.now g.b.now l.i (omega arith) (omega arith) c.if-a-i.false) ∙ l.invariant.1)
+-- bytes equal pair by pair
+pairwise : (a b : List ℕ) → pointwise eqb a b ≡ same_bytes_lem a b
+unfolding same_bytes_lem
+pairwise [] [] = refl
+pairwise [] (y ∷ b) = refl
+pairwise (x ∷ a) [] = refl
+pairwise (x ∷ a) (y ∷ b) = rw (pairwise a b) (chosen (eqb x y) (same_bytes_lem a b))
+  where
+    chosen : (t s : Bool) → (t && s) ≡ pick t s false
+    chosen true s = refl
+    chosen false s = refl
 
 pub returns : goal.returns
-returns c =
-    let l = c.loop-i in
-    let g = c.args in
-    sym (same_end g.a.now g.b.now l.i (omega arith) (omega arith) (omega arith)) ∙ l.invariant.1
+returns c = c.eq.ensures ∙ pairwise c.args.a.now c.args.b.now
