@@ -1,22 +1,22 @@
 -- The reader's tests, one counter after another, and the control values that it looks at.
+use Rattle.std.specs.Prelude.{Option, None, Some}
+use Rattle.std.specs.Result.{is_ok}
 use mathlib.Core.Path.{◌≡◌, refl, sym, ap, ◌∙◌, fun_ext}
 use mathlib.Core.Bool.{Bool, true, false, not}
-use mathlib.Core.Option.{Option, none, some}
-use Prim.Native.Nat.{ℕ, zero, suc, ◌+◌, ◌*◌, ◌-◌, ◌%◌, ◌^◌, ◌≤◌, ◌<◌}
-use native.Mathlib.Numerals.{add-one}
-use native.Mathlib.Decide.{ℕ_discrete, dec_lt}
+use Prim.Native.Nat.{ℕ, suc, ◌+◌, ◌*◌, ◌-◌, ◌%◌, ◌^◌, ◌≤◌, ◌<◌}
+use native.Mathlib.Decide.{dec_lt}
 use native.Mathlib.Omega.{arith}
 use lib.Bits.{bit_and, and_le_r}
 use lib.Pow.{pow_mono}
 use lib.ListN.{length, get_or, get_or-eq_default}
-use borrow.Author.Tests.{eq-eqb, ne_eqb}
+use borrow.Author.Tests.{ne_eqb}
+use Rattle.std.specs.Int.{from_bool}
 use Rattle.requests.specs.declared.CounterSet.{CounterSet}
 use Rattle.requests.specs.declared.Device.{Device}
 use Rattle.requests.specs.declared.Setup.{Setup}
 use Rattle.requests.specs.declared.Request.TheVariants.{Latency}
 use Rattle.requests.specs.declared.Refusal.{Refusal}
-use Rattle.requests.specs.declared.Answer.TheVariants.{Accepted, Refused}
-use Rattle.requests.specs.Choice.{both, either, every, pick, is_some, first_holding}
+use Rattle.requests.specs.Choice.{both, either, pick, is_some, first_holding}
 use Rattle.requests.specs.Bits.{only_bits, type_bits, outstanding}
 use Rattle.requests.specs.Masks.{type_mask}
 use Rattle.requests.specs.Devices.{has, capacity, offcore_on}
@@ -26,7 +26,7 @@ use Rattle.requests.proofs.MaskTests.{only_by_mask}
 use Rattle.requests.proofs.Tests.{both_false}
 use Rattle.layouts.specs.Layout.{tabulate}
 use Rattle.layouts.specs.Settings.{set_from}
-use Rattle.layouts.specs.Read.{ours, count, latency_fits}
+use Rattle.layouts.specs.Read.{ours, latency_fits}
 use Rattle.layouts.specs.declared.RegisterValues.{RegisterValues}
 use Rattle.layouts.proofs.Tabulated.{length_tabulate, get_d_tabulate}
 use Rattle.layouts.proofs.CounterSets.{set_below}
@@ -35,15 +35,10 @@ use Rattle.layouts.proofs.UsableSets.{on}
 -- ---- well-formed
 
 -- the answer to a request's check says whether it is well-formed
-pub answer_formed : (x : Option Refusal) → answer_for x ≡ Accepted → true ≡ not (is_some x)
+pub answer_formed : (x : Option Refusal) → is_ok (answer_for x) ≡ not (is_some x)
 unfolding answer_for
-answer_formed none e = refl
-answer_formed (some y) e = let z : ◌≡◌ {A = ℕ} 0 1 = cc in absurd (omega arith)
-
-pub answer_refused : (x : Option Refusal) (y : Refusal) → answer_for x ≡ Refused y → false ≡ not (is_some x)
-unfolding answer_for
-answer_refused none y e = let z : ◌≡◌ {A = ℕ} 0 1 = cc in absurd (omega arith)
-answer_refused (some x) y e = refl
+answer_formed None = refl
+answer_formed (Some y) = refl
 
 -- types above all request types have a reserved bit
 wide_types : (t : ℕ) → t < 2 ^ 64 → 0xFFBF < t → only_bits type_bits t ≡ false
@@ -71,28 +66,10 @@ latency_wide s n0 n1 w0 w1 wide =
 
 -- ---- one counter after another
 
-module _ (f : ℕ → ℕ) (w : ℕ) where
-  pub count_on : (k n : ℕ) → f k ≡ w → n ≡ count k f w → n + 1 ≡ count (k + 1) f w
-  unfolding count
-  count_on k n same e = rw (add-one k, eq-eqb (f k) w same) (omega arith)
-
-  pub count_off : (k n : ℕ) → (f k ≡ w → ⊥) → n ≡ count k f w → n ≡ count (k + 1) f w
-  unfolding count
-  count_off k n other e = rw (add-one k, ne_eqb (f k) w other) (omega arith)
-
-module _ (p : ℕ → Bool) where
-  pub every_next : (k : ℕ) → p k ≡ true → every k p ≡ true → every (k + 1) p ≡ true
-  unfolding every both
-  every_next k on e = rw (add-one k, e, on)
-
-  pub every_fails : (n k : ℕ) → k < n → p k ≡ false → every n p ≡ false
-  unfolding every both
-  every_fails zero k l off = absurd (omega arith)
-  every_fails (suc n) k l off =
-      elim (ℕ_discrete k n) [
-        | yes e ↦ rw (← e, off) (both_false (every k p))
-        | no ne ↦ rw (every_fails n k (let g = ne in omega arith) off)
-      ]
+-- a test as a number
+pub flag : (b : Bool) → from_bool b ≡ pick b 1 0
+flag true = refl
+flag false = refl
 
 -- the set from counter k on, with the counter before it
 pub set_before : (n k bits flag : ℕ) (on : ℕ → Bool) → 0 < k → k ≤ n → bits ≡ set_from (n - k) k on → flag ≡ pick (on (k - 1)) 1 0

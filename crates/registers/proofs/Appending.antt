@@ -13,6 +13,8 @@ use Rattle.requests.specs.Choice.{pick}
 use Rattle.requests.specs.Devices.{has, size}
 use Rattle.layouts.specs.Writes.{Write, row, rows, flat}
 use Rattle.layouts.specs.Slices.{Appended}
+use Rattle.registers.specs.declared.writer.WriteList.{WriteList}
+use Rattle.registers.specs.WriteLists.{Puts}
 use Rattle.layouts.proofs.ListLaws.{sets_append}
 use Rattle.layouts.proofs.FilledSlices.{flat_append, length_flat}
 
@@ -58,20 +60,32 @@ unfolding size
 size_more zero n s = rw (let e : n + 0 ≡ n = omega arith in e) (le_refl _)
 size_more (suc j) n s = rw (let e : n + suc j ≡ suc (n + j) = omega arith in e) (omega (arith, size_more j n s))
 
+-- ---- the same, of the code's write list
+
+pub puts_none : (l : WriteList) → Puts l [] l
+puts_none l = record { list = appended_none l.out.now l.at; same = refl }
+
+pub puts_then : {first second third : WriteList} {xs ys : List Write} → Puts first xs second → Puts second ys third → Puts first (xs ++ ys) third
+puts_then p q = record { list = appended_then p.list q.list; same = q.same ∙ p.same }
+
 -- one turn of the loop over the counters
 module _ (s : CounterSet) (base step : ℕ) (values : List ℕ) where
-  pub rows_next : {before after last : List ℕ} {at next end address : ℕ} {wanted : Bool} (k : ℕ) → wanted ≡ has s k → address ≡ base + step * k
-      → Appended before at (rows k s base step values) after next → Appended after next (row wanted address (get_or values k 0)) last end
-      → Appended before at (rows (k + 1) s base step values) last end
+  pub rows_with : {before after last : WriteList} (k : ℕ) → has s k ≡ true
+      → Puts before (rows k s base step values) after → Puts after (row true (base + step * k) (get_or values k 0)) last
+      → Puts before (rows (k + 1) s base step values) last
   unfolding rows
-  rows_next k on e p q = rw add-one (appended_then p (rw (on, e) at q))
+  rows_with k on p q = rw (add-one, on) (puts_then p q)
+
+  pub rows_without : {before after : WriteList} (k : ℕ) → has s k ≡ false
+      → Puts before (rows k s base step values) after → Puts before (rows (k + 1) s base step values) after
+  unfolding rows
+  rows_without {after = after} k off p = rw (add-one, off) (puts_then p (puts_none after))
 
   -- the next row has room
-  pub rows_room : {before after : List ℕ} {at next : ℕ} {wanted : Bool} (n k address : ℕ) → wanted ≡ has s k → k < n
-      → at + 2 * size n s ≤ length before → Appended before at (rows k s base step values) after next
-      → next + 2 * length (row wanted address (get_or values k 0)) ≤ length after
+  pub rows_room : {before after : WriteList} (n k : ℕ) → has s k ≡ true → k < n
+      → before.at + 2 * size n s ≤ length before.out.now → Puts before (rows k s base step values) after
+      → after.at + 2 ≤ length after.out.now
   unfolding size
-  rows_room {before} {after} {at} {next} n k address on l room p =
-      rw on
-      (let more = rw (let e : suc k + (n - suc k) ≡ n = omega arith in e) at (size_more (n - suc k) (suc k) s) in
-      omega (arith, more, p.end, p.kept, length_rows k s base step values, length_row (has s k) address (get_or values k 0)))
+  rows_room n k on l room p =
+      let more = rw (let e : suc k + (n - suc k) ≡ n = omega arith in e, on) at (size_more (n - suc k) (suc k) s) in
+      omega (arith, more, p.list.end, p.list.kept, length_rows k s base step values)

@@ -6,3 +6,4 @@ pub mod UsedCounters
 pub mod PlanSteps
 pub mod Accepting
 pub mod ReaderSteps
+pub mod Ranges

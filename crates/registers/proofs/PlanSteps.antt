@@ -1,38 +1,37 @@
 -- The register values of a plan are those of its rest with the first request added.
+use Rattle.std.specs.Option.{option_or}
+use Rattle.std.specs.Prelude.{None}
 use mathlib.Core.Path.{◌≡◌, refl, ap, ◌∙◌}
-use mathlib.Core.List.{List, [], ◌∷◌, ◌++◌, flat_map, map}
+use mathlib.Core.List.{List, [], ◌∷◌, ◌++◌, flat_map}
 use mathlib.Core.Bool.{Bool, false}
-use Prim.Native.Nat.{ℕ, zero, suc, ◌+◌, ◌-◌, ◌<◌, ◌≤◌, min}
+use Prim.Native.Nat.{ℕ, zero, suc, ◌+◌, ◌-◌, ◌<◌, ◌≤◌}
 use native.Mathlib.Omega.{arith}
-use lib.ListN.{length, get_or, take, drop, set, replicate, length-set}
+use lib.ListN.{length, get_or, take, drop, set, replicate}
 use Rattle.requests.specs.declared.Setup.{Setup}
 use Rattle.requests.specs.declared.Request.{Request}
-use Rattle.requests.specs.Choice.{either}
 use Rattle.requests.specs.Bits.{in_list}
 use Rattle.requests.specs.Devices.{counter_count, capacity}
 use Rattle.plans.specs.declared.Place.{Place}
-use Rattle.search.specs.declared.Given.{Given}
 use Rattle.plans.specs.Places.{counters_of}
 use Rattle.plans.specs.Legal.{words_of, packets_of, of_all, counters}
 use Rattle.search.specs.Rows.{request_at, rows_from}
 use Rattle.plans.specs.Packed.{place_at_lem, places_from}
 use Rattle.search.proofs.RequestRows.{rows_next}
 use Rattle.layouts.specs.Layout.{tabulate}
-use Rattle.layouts.specs.Settings.{uses_of, word_at, set_from, head_or, nonempty, settings_of}
+use Rattle.layouts.specs.Settings.{uses_of, word_at, set_from, head_of, head_or, settings_of}
 use Rattle.layouts.specs.declared.Settings.{Settings}
 use Rattle.registers.specs.Adding.{with_uses, with_packets, others_with, settings_with}
 use Rattle.registers.proofs.UsedCounters.{set_of, used_more}
 use Rattle.layouts.proofs.Tabulated.{tabulate_set}
-use Rattle.requests.proofs.Windows.{window_past, window_step}
+use Rattle.requests.proofs.Windows.{window_step}
 
 head_more : {A : Type 0} (a : A) (xs ys : List A) → head_or a (xs ++ ys) ≡ head_or (head_or a ys) xs
 head_more a [] ys = refl
 head_more a (x ∷ xs) ys = refl
 
-nonempty_more : {A : Type 0} (xs ys : List A) → nonempty (xs ++ ys) ≡ either (nonempty xs) (nonempty ys)
-unfolding either
-nonempty_more [] ys = refl
-nonempty_more (x ∷ xs) ys = refl
+first_more : {A : Type 0} (xs ys : List A) → head_of (xs ++ ys) ≡ option_or (head_of xs) (head_of ys)
+first_more [] ys = refl
+first_more (x ∷ xs) ys = refl
 
 -- uses in front are stores
 words_more : (xs us : List (ℕ × ℕ)) → tabulate capacity (word_at (xs ++ us)) ≡ with_uses xs (tabulate capacity (word_at us))
@@ -40,12 +39,6 @@ unfolding with_uses word_at
 words_more [] us = refl
 words_more (x ∷ xs) us =
     tabulate_set capacity x.0 x.1 (word_at (xs ++ us)) ∙ ap (λ (ws : List ℕ). set ws x.0 x.1) (words_more xs us)
-
--- and keep the length
-pub uses_length : (xs : List (ℕ × ℕ)) (words : List ℕ) → length (with_uses xs words) ≡ length words
-unfolding with_uses
-uses_length [] words = refl
-uses_length (x ∷ xs) words = length-set (with_uses xs words) x.0 x.1 ∙ uses_length xs words
 
 -- a plan with one request more in front
 pub settings_add : (s : Setup) (r : Request) (p : Place) (rs : List Request) (ps : List Place)
@@ -57,8 +50,7 @@ settings_add s r p rs ps =
       words_more (uses_of s r p) (of_all (uses_of s) rs ps),
       head_more 0 (words_of 0 r p) (of_all (words_of 0) rs ps),
       head_more 0 (words_of 1 r p) (of_all (words_of 1) rs ps),
-      nonempty_more (packets_of r) (flat_map packets_of rs),
-      head_more (0, 0) (packets_of r) (flat_map packets_of rs),
+      first_more (packets_of r) (flat_map packets_of rs),
     )
 
 -- no counter passes
@@ -69,30 +61,22 @@ set_none (suc n) k on h = rw (h k, set_none n (suc k) on h)
 
 -- the register values of no request
 pub settings_none : (s : Setup)
-    → record { used = set_of 0; words = replicate 8 0; rsp0 = 0; rsp1 = 0; packets = false; match_word = 0; mask_word = 0 } ≡ settings_of s [] []
+    → record { used = set_of 0; words = replicate 8 0; rsp0 = 0; rsp1 = 0; packet = None } ≡ settings_of s [] []
 unfolding settings_of of_all counters flat_map in_list word_at tabulate capacity
 settings_none s = rw (set_none (counter_count s.device) 0 (in_list []) (λ j. refl))
 
 -- ---- requests and places in their arrays, of which the first count are in use
 
--- the places from number i on
-abbrev places_after : ℕ → ℕ → List Given → List Place
-places_after count i gs = map (λ (g : Given). g.place) (drop i (take count gs))
-
-module _ (s : Setup) (count : ℕ) (rs : List Request) (gs : List Given) where
-  -- past the last request
-  pub settings_past : (i : ℕ) → min count (length rs) ≤ i → min count (length gs) ≤ i → settings_of s [] [] ≡ settings_of s (drop i (take count rs)) (places_after count i gs)
-  settings_past i requests places = rw (window_past rs count i requests, window_past gs count i places)
-
+module _ (s : Setup) (count : ℕ) (rs : List Request) (ps : List Place) where
   -- the request before
-  pub settings_before : (left : ℕ) (r : Request) (g : Given) → 0 < left → left ≤ count → left ≤ length rs → left ≤ length gs
-      → settings_with s (get_or rs (left - 1) r) (get_or gs (left - 1) g).place (settings_of s (drop left (take count rs)) (places_after count left gs))
-      ≡ settings_of s (drop (left - 1) (take count rs)) (places_after count (left - 1) gs)
-  settings_before left r g some within ofRequests ofPlaces =
+  pub settings_before : (left : ℕ) (r : Request) (p : Place) → 0 < left → left ≤ count → left ≤ length rs → left ≤ length ps
+      → settings_with s (get_or rs (left - 1) r) (get_or ps (left - 1) p) (settings_of s (drop left (take count rs)) (drop left (take count ps)))
+      ≡ settings_of s (drop (left - 1) (take count rs)) (drop (left - 1) (take count ps))
+  settings_before left r p some within ofRequests ofPlaces =
       let e : left - 1 + 1 ≡ left = omega arith in
       let requests = rw e at (window_step rs count (left - 1) r (omega arith) (omega arith)) in
-      let places = rw e at (window_step gs count (left - 1) g (omega arith) (omega arith)) in
-      rw (requests, places) (settings_add s (get_or rs (left - 1) r) (get_or gs (left - 1) g).place (drop left (take count rs)) (places_after count left gs))
+      let places = rw e at (window_step ps count (left - 1) p (omega arith) (omega arith)) in
+      rw (requests, places) (settings_add s (get_or rs (left - 1) r) (get_or ps (left - 1) p) (drop left (take count rs)) (drop left (take count ps)))
 
 -- ---- requests in rows, and places in a packed plan
 

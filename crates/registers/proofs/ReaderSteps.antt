@@ -1,12 +1,8 @@
 -- The reader's answer from its tests: the filter registers of each device, and the whole of the values.
-use mathlib.Core.Path.{◌≡◌, sym, ap, ◌∙◌}
+use mathlib.Core.Path.{◌≡◌, refl, sym, ap, ◌∙◌}
 use mathlib.Core.Bool.{Bool, true, false, not}
-use mathlib.Core.List.{List}
 use Prim.Native.Nat.{ℕ}
-use native.Mathlib.Omega.{arith}
 use lib.Dec.{eqb}
-use lib.ListN.{get_or}
-use borrow.Author.Tests.{eq-eqb, ne_eqb}
 use Rattle.requests.specs.declared.Device.{Device}
 use Rattle.requests.specs.declared.Device.TheVariants.{G, S, C, B}
 use Rattle.requests.specs.declared.Setup.{Setup}
@@ -27,67 +23,51 @@ module _ (f : ℕ → ℕ) (v : FilterValues) where
       → both (rsp1_fits (on d u) n1 v.rsp1) (rsp0_fits (on d u) n0 n1 v.rsp0 v.rsp1) ≡ filters_fit (on d u) f v
   unfolding filters_fit
   filters_g G u n0 n1 e e0 e1 = rw (e0, e1)
-  filters_g S u n0 n1 e e0 e1 = let z : ◌≡◌ {A = ℕ} 0 1 = cc in absurd (omega arith)
-  filters_g (C b) u n0 n1 e e0 e1 = let z : ◌≡◌ {A = ℕ} 0 1 = cc in absurd (omega arith)
-  filters_g B u n0 n1 e e0 e1 = let z : ◌≡◌ {A = ℕ} 0 1 = cc in absurd (omega arith)
+  filters_g S u n0 n1 e e0 e1 = cc
+  filters_g (C b) u n0 n1 e e0 e1 = cc
+  filters_g B u n0 n1 e e0 e1 = cc
 
   pub filters_s : (d : Device) (u : Setup) (n : ℕ) → d ≡ S → n ≡ count (counter_count d) f (packet_word (on d u))
       → packets_fit (on d u) n v ≡ filters_fit (on d u) f v
   unfolding filters_fit
   filters_s S u n e en = rw en
-  filters_s G u n e en = let z : ◌≡◌ {A = ℕ} 0 1 = cc in absurd (omega arith)
-  filters_s (C b) u n e en = let z : ◌≡◌ {A = ℕ} 0 1 = cc in absurd (omega arith)
-  filters_s B u n e en = let z : ◌≡◌ {A = ℕ} 0 1 = cc in absurd (omega arith)
+  filters_s G u n e en = cc
+  filters_s (C b) u n e en = cc
+  filters_s B u n e en = cc
 
 -- ---- the values
 
--- words: the control values that are looked at
-module _ (s : Setup) (v : RegisterValues) (words : List ℕ) (same : (λ k. get_or words k 0) ≡ ours s v) where
-  abbrev limit : ℕ
-  limit = counter_count s.device
+-- a test, and one more where it holds
+pub holding : {v a x y : Bool} → a ≡ true → a ≡ x → v ≡ y → v ≡ both x y
+unfolding both
+holding h e next = rw (sym e ∙ h) next
 
-  abbrev used : ℕ
-  used = set_from limit 0 (λ k. not (eqb (get_or words k 0) 0))
+pub failing : {v a x : Bool} (y : Bool) → a ≡ false → a ≡ x → v ≡ a → v ≡ both x y
+unfolding both
+failing y h e last = rw (sym e ∙ h) (last ∙ h)
 
-  controls : every limit (λ k. control_fits s (get_or words k 0)) ≡ every limit (λ k. control_fits s (ours s v k))
-  controls = ap (λ (f : ℕ → ℕ). every limit (λ k. control_fits s (f k))) same
+both_assoc : (a b c : Bool) → both (both a b) c ≡ both a (both b c)
+unfolding both
+both_assoc true b c = refl
+both_assoc false b c = refl
 
-  counting : last_global s used ≡ last_global s (set_from limit 0 (λ k. not (eqb (ours s v k) 0)))
-  counting = ap (λ (f : ℕ → ℕ). last_global s (set_from limit 0 (λ k. not (eqb (f k) 0)))) same
+-- the tests in their order, of the control words f
+module _ (s : Setup) (v : RegisterValues) (f : ℕ → ℕ) where
+  abbrev pub to_global : Bool
+  to_global =
+      both (every (counter_count s.device) (λ k. control_fits s (f k)))
+      (eqb v.global (last_global s (set_from (counter_count s.device) 0 (λ k. not (eqb (f k) 0)))))
 
-  filters : filters_fit s (λ k. get_or words k 0) v.filters ≡ filters_fit s (ours s v) v.filters
-  filters = ap (λ (f : ℕ → ℕ). filters_fit s f v.filters) same
+  abbrev pub to_filters : Bool
+  to_filters = both to_global (filters_fit s f v.filters)
 
-  -- the test of IA32_PEBS_ENABLE and of the rules
-  abbrev pub precise : (ℕ → ℕ) → Bool
-  precise f = both (pebs_fits s.device f v.pebs) (every (counter_count s.device) (rule_fits s f))
+  abbrev pub to_ubox : Bool
+  to_ubox = both to_filters (ubox_fits s v.ubox)
 
-  -- the words and the global value fit
-  module _ (fit : every limit (λ k. control_fits s (get_or words k 0)) ≡ true) (global : v.global ≡ last_global s used) where
-    by_filters : both (filters_fit s (ours s v) v.filters) (both (ubox_fits s v.ubox) (precise (ours s v))) ≡ accepts s v
-    unfolding accepts both
-    by_filters = rw (sym controls ∙ fit, eq-eqb v.global (last_global s (set_from limit 0 (λ k. not (eqb (ours s v k) 0)))) (global ∙ counting))
+  abbrev pub to_last : Bool
+  to_last = both to_ubox (both (pebs_fits s.device f v.pebs) (every (counter_count s.device) (rule_fits s f)))
 
-    pub accepts_by_precise : (r : Bool) → r ≡ precise (λ k. get_or words k 0) → filters_fit s (λ k. get_or words k 0) v.filters ≡ true → ubox_fits s v.ubox ≡ true → r ≡ accepts s v
-    unfolding both
-    accepts_by_precise r e h g = e ∙ ap precise same ∙ rw (← by_filters, sym filters ∙ h, g)
-
-    pub ubox_refused : filters_fit s (λ k. get_or words k 0) v.filters ≡ true → ubox_fits s v.ubox ≡ false → false ≡ accepts s v
-    unfolding both
-    ubox_refused h g = rw (← by_filters, sym filters ∙ h, g)
-
-    pub filters_refused : filters_fit s (λ k. get_or words k 0) v.filters ≡ false → false ≡ accepts s v
-    unfolding both
-    filters_refused h = rw (← by_filters, sym filters ∙ h)
-
-  pub global_refused : every limit (λ k. control_fits s (get_or words k 0)) ≡ true → (v.global ≡ last_global s used → ⊥) → false ≡ accepts s v
-  unfolding accepts both
-  global_refused fit other =
-      rw (
-        sym controls ∙ fit,
-        ne_eqb v.global (last_global s (set_from limit 0 (λ k. not (eqb (ours s v k) 0)))) (λ e. other (e ∙ sym counting)),
-      )
-
-  pub controls_refused : every limit (λ k. control_fits s (get_or words k 0)) ≡ false → false ≡ accepts s v
-  unfolding accepts both
-  controls_refused fails = rw (sym controls ∙ fails)
+-- all of them, of the control values that are looked at
+pub accepts_words : (s : Setup) (v : RegisterValues) (f : ℕ → ℕ) → f ≡ ours s v → to_last s v f ≡ accepts s v
+unfolding accepts
+accepts_words s v f same = ap (to_last s v) same ∙ simp both_assoc

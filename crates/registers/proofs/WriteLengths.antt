@@ -1,6 +1,8 @@
 -- How long the write list is, and what the writer answers where it has room and where not.
+use Rattle.requests.specs.declared.Refusal.TheVariants.{SliceTooShort}
+use Rattle.std.specs.Prelude.{Ok, Err}
 use mathlib.Core.Path.{◌≡◌, refl, ap, ◌∙◌}
-use mathlib.Core.List.{List, [], ◌∷◌, ◌++◌, append_assoc}
+use mathlib.Core.List.{List, [], ◌∷◌, ◌++◌}
 use mathlib.Core.Bool.{Bool, true, false}
 use Prim.Native.Nat.{ℕ, ◌+◌, ◌*◌, ◌≤◌, ◌<◌}
 use native.Mathlib.Nat.{le_refl, zero-add}
@@ -20,13 +22,14 @@ use Rattle.plans.proofs.PlanLengthHolds.{plan_length}
 use Rattle.layouts.proofs.DeviceFacts.{facts}
 use Rattle.layouts.proofs.WriteCount.{filter_length, precise_length}
 use Rattle.layouts.specs.Layout.{layout_of, ubox_at, pebs_on}
-use Rattle.layouts.specs.Writes.{Write, row, rows, zeros, flat, filled, first_global, last_global, packet_writes, filter_writes, precise_writes, ubox_value, box_writes, writes_for}
+use Rattle.layouts.specs.Writes.{Write, row, rows, zeros, flat, filled, first_global, last_global, filter_writes, precise_writes, ubox_value, box_writes, writes_for}
 use Rattle.layouts.specs.Slices.{Appended, Wrote, too_short, write_answer, written_answer, written_count, write_slice}
 use Rattle.layouts.specs.declared.Layout.{Layout}
 use Rattle.layouts.specs.declared.Settings.{Settings}
-use Rattle.layouts.specs.declared.WriteAnswer.TheVariants.{Written, TooShort}
 use Rattle.layouts.proofs.FilledSlices.{length_flat}
-use Rattle.registers.proofs.Appending.{appended_then, length_row, length_rows}
+use Rattle.registers.specs.declared.writer.WriteList.{WriteList}
+use Rattle.registers.specs.WriteLists.{Puts}
+use Rattle.registers.proofs.Appending.{puts_then, length_row, length_rows}
 
 -- a test counts at most once
 pub pick_small : (b : Bool) → pick b 1 0 ≤ 1
@@ -37,11 +40,6 @@ pick_small false = omega arith
 pub device_size : (d : Device) (s : CounterSet) → size (counter_count d) s ≤ 8
 unfolding capacity
 device_size d s = omega (arith, size_at_most (counter_count d) s, plan_length.device_at_most d)
-
-pub length_packets : (b : Bool) (x y : ℕ) → length (packet_writes b x y) ≡ 1 + 3 * pick b 1 0
-unfolding packet_writes
-length_packets true x y = refl
-length_packets false x y = refl
 
 pub extra_small : (d : Device) (t : Settings) → length (filter_writes d t) + length (precise_writes d t) ≤ 5
 extra_small d t = omega (arith, filter_length d t, (facts d).filter_small, precise_length d t, pick_small (pebs_on d))
@@ -60,20 +58,23 @@ module _ (s : Setup) (t : Settings) (n : ℕ) (l : Layout) (count : n ≡ counte
   unfolding box_writes
   writes_parts = rw (count, layout)
 
-  -- the parts one after another in a slice
-  pub box_appended : {start first second third fourth fifth end : List ℕ} {at a b c d e f others value : ℕ}
+  -- the parts one after another
+  pub box_puts : {start first second third fourth fifth sixth end : WriteList} {others value : ℕ}
       → others ≡ first_global s
       → value ≡ last_global s t.used.0
-      → Appended start at (row true l.global others) first a
-      → Appended first a (rows n s.usable l.control l.step zeros) second b
-      → Appended second b (filter_writes s.device t) third c
-      → Appended third c (rows n t.used l.counter l.step zeros) fourth d
-      → Appended fourth d (rows n t.used l.control l.step t.words) fifth e
-      → Appended fifth e (precise_writes s.device t ++ row true l.global value) end f
-      → Appended start at (box_writes s t) end f
-  box_appended stopping counting stopped cleared filtered zeroed selected started =
-      rw (← writes_parts, append_assoc)
-      (appended_then (appended_then (appended_then (appended_then (appended_then (rw stopping at stopped) cleared) filtered) zeroed) selected) (rw counting at started))
+      → Puts start (row true l.global others) first
+      → Puts first (rows n s.usable l.control l.step zeros) second
+      → Puts second (filter_writes s.device t) third
+      → Puts third (rows n t.used l.counter l.step zeros) fourth
+      → Puts fourth (rows n t.used l.control l.step t.words) fifth
+      → Puts fifth (precise_writes s.device t) sixth
+      → Puts sixth (row true l.global value) end
+      → Puts start (box_writes s t) end
+  box_puts stopping counting stopped cleared filtered zeroed selected sampled started =
+      rw (← writes_parts)
+      (puts_then
+      (puts_then (puts_then (puts_then (puts_then (puts_then (rw stopping at stopped) cleared) filtered) zeroed) selected) sampled)
+      (rw counting at started))
 
   pub length_parts : length (box_writes s t) ≡ 2 + size n s.usable + (length (filter_writes s.device t) + length (precise_writes s.device t)) + 2 * size n t.used
   length_parts =
@@ -86,11 +87,12 @@ module _ (s : Setup) (t : Settings) (n : ℕ) (l : Layout) (count : n ≡ counte
         length_rows n t.used l.control l.step t.words,
       )
 
-  -- addresses and the number of counters are small
-  pub parts_small : (n ≤ capacity) × (l.control ≤ 0xFFFF) × (l.counter ≤ 0xFFFF) × (l.step ≤ 2)
-  parts_small =
-      let f = facts s.device in
-      rw (count, layout) (plan_length.device_at_most s.device, f.control_small, f.counter_small, f.step_small)
+-- addresses and the number of counters are small
+pub parts_small : (s : Setup) (n : ℕ) (l : Layout) → n ≡ counter_count s.device → l ≡ layout_of s.device
+    → (n ≤ capacity) × (l.control ≤ 0xFFFF) × (l.counter ≤ 0xFFFF) × (l.step ≤ 2)
+parts_small s n l count layout =
+    let f = facts s.device in
+    rw (count, layout) (plan_length.device_at_most s.device, f.control_small, f.counter_small, f.step_small)
 
 module _ (s : Setup) (t : Settings) where
   -- between the two writes of the U-Box, where something is asked
@@ -98,15 +100,14 @@ module _ (s : Setup) (t : Settings) where
   unfolding writes_for
   length_framed = simp length-append (omega (arith, length_row (asked s) ubox_at 0, length_row (asked s) ubox_at (ubox_value s)))
 
-  pub list_appended : {start first second end : List ℕ} {a b c value : ℕ} {framed : Bool}
-      → framed ≡ asked s
+  pub list_puts : {start first second end : WriteList} {value : ℕ}
       → value ≡ ubox_value s
-      → Appended start 0 (row framed ubox_at 0) first a
-      → Appended first a (box_writes s t) second b
-      → Appended second b (row framed ubox_at value) end c
-      → Appended start 0 (writes_for s t) end c
+      → Puts start (row (asked s) ubox_at 0) first
+      → Puts first (box_writes s t) second
+      → Puts second (row (asked s) ubox_at value) end
+      → Puts start (writes_for s t) end
   unfolding writes_for
-  list_appended asks last frozen written started = appended_then (appended_then (rw asks at frozen) written) (rw (asks, last) at started)
+  list_puts last frozen written started = puts_then (puts_then frozen written) (rw last at started)
 
   pub length_writes :
       length (writes_for s t)
@@ -126,18 +127,18 @@ module _ (s : Setup) (t : Settings) where
       )
 
 -- the two answers of the writer
-pub wrote_nothing : {ws : List Write} {n : ℕ} (out : List ℕ) → n ≡ length ws → length out < 2 * n → Wrote ws out out TooShort
+pub wrote_nothing : {ws : List Write} {n : ℕ} (out : List ℕ) → n ≡ length ws → length out < 2 * n → Wrote ws out out (Err SliceTooShort)
 unfolding write_answer written_answer write_slice too_short answer_number number_of
 wrote_nothing {ws} {n} out e short =
     let l = lt-ltb (length out) (2 * length ws) (omega arith) in
     record { answer = rw l; slice = rw l; refused = λ h. refl; accepted = λ room. absurd (omega arith) }
 
-pub wrote_list : {ws : List Write} {n next : ℕ} {out after : List ℕ} → n ≡ length ws → 2 * n ≤ length out → Appended out 0 ws after next → Wrote ws out after (Written n)
+pub wrote_list : {ws : List Write} {n next : ℕ} {out after : List ℕ} → n ≡ length ws → 2 * n ≤ length out → Appended out 0 ws after next → Wrote ws out after (Ok n)
 unfolding write_answer written_answer written_count write_slice too_short filled answer_number
 wrote_list {ws} {n} {next} {out} {after} e room p =
     let l = le-ltb (length out) (2 * length ws) (omega arith) in
     record {
-      answer = rw l (ap Written e);
+      answer = rw l (ap Ok e);
       slice =
           rw l
           (p.list

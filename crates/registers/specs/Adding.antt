@@ -4,12 +4,13 @@ use Rattle.requests.specs.declared.CounterSet.{CounterSet}
 use Rattle.requests.specs.declared.Device.{Device}
 use Rattle.requests.specs.declared.Setup.{Setup}
 use Rattle.requests.specs.declared.Request.{Request}
-use Rattle.requests.specs.Choice.{both, either, pick}
+use Rattle.std.specs.Option.{option_or}
+use Rattle.requests.specs.Choice.{both, pick}
 use Rattle.requests.specs.Devices.{has, counter_count}
 use Rattle.plans.specs.declared.Place.{Place}
 use Rattle.plans.specs.Places.{counters_of}
 use Rattle.plans.specs.Legal.{words_of, packets_of}
-use Rattle.layouts.specs.Settings.{uses_of, head_or, nonempty}
+use Rattle.layouts.specs.Settings.{uses_of, head_of, head_or}
 use Rattle.layouts.specs.declared.Settings.{Settings}
 
 -- the set with counter k, where the device has it
@@ -34,9 +35,7 @@ with_packets r t =
       words = t.words;
       rsp0 = t.rsp0;
       rsp1 = t.rsp1;
-      packets = either (nonempty (packets_of r)) t.packets;
-      match_word = (head_or (t.match_word, t.mask_word) (packets_of r)).0;
-      mask_word = (head_or (t.match_word, t.mask_word) (packets_of r)).1;
+      packet = option_or (head_of (packets_of r)) t.packet;
     }
 
 -- the used counters and the filter registers with one more request in front; the control words stay
@@ -47,9 +46,7 @@ others_with s r p t =
       words = t.words;
       rsp0 = head_or t.rsp0 (words_of 0 r p);
       rsp1 = head_or t.rsp1 (words_of 1 r p);
-      packets = (with_packets r t).packets;
-      match_word = (with_packets r t).match_word;
-      mask_word = (with_packets r t).mask_word;
+      packet = (with_packets r t).packet;
     }
 
 -- register values with other control words
@@ -60,9 +57,7 @@ with_words words t =
       words = words;
       rsp0 = t.rsp0;
       rsp1 = t.rsp1;
-      packets = t.packets;
-      match_word = t.match_word;
-      mask_word = t.mask_word;
+      packet = t.packet;
     }
 
 -- the register values with one more request in front

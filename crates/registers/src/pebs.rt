@@ -27,9 +27,7 @@ pub fn pebs_on(device: Device) -> bool
     ensures { result ≡ pebs_on device }
 {
     match device {
-        Device::G => false,
-        Device::S => false,
-        Device::C(_) => false,
+        Device::G | Device::S | Device::C(_) => false,
         Device::B => true,
     }
 }
@@ -39,18 +37,17 @@ pub fn pebs_on(device: Device) -> bool
 fn bits_where(code: u8, mask: u8, word: u64, bits: u64) -> u64
     ensures { result ≡ pick (is_event code mask word) bits 0 }
 {
-    if code_of(word) == code {
-        if mask_of(word) == mask {
-            return bits;
-        }
+    if code_of(word) == code && mask_of(word) == mask {
+        bits
+    } else {
+        0
     }
-    0
 }
 
 // The value beside the control words.
 #[tactic(auto, unfolding(layouts::specs::Writes::pebs_enable, layouts::specs::Layout::precise_store))]
-pub fn pebs_enable(words: [u64; CAPACITY]) -> u64
-    ensures { result ≡ pebs_enable (λ k. get_or words k 0) }
+pub fn pebs_enable(words: &[u64; CAPACITY]) -> u64
+    ensures { result ≡ pebs_enable (λ k. get_or words.now k 0) }
 {
     let pdir = bits_where(INST_RETIRED, ALL_UMASK, words[1], PDIR);
     let store = bits_where(

@@ -1,12 +1,12 @@
 // The register values of a plan, one request after another from the last to the first.
-ghost use Rattle.std.specs.Prelude.{◌≡◌, [], map, ◌<◌, min, length, take, set};
+ghost use Rattle.std.specs.Prelude.{◌≡◌, [], min, take, set};
 ghost use Rattle.requests.specs.Devices.{capacity};
 ghost use Rattle.plans.specs.Places.{first, second, counters_of};
 ghost use Rattle.plans.specs.Legal.{words_of};
 ghost use Rattle.plans.specs.Packed.{places_from};
 ghost use Rattle.search.specs.Rows.{rows_from};
 ghost use Rattle.layouts.specs.Settings.{uses_of, head_or, settings_of};
-ghost use Rattle.registers.specs.Adding.{with_counter, with_counters, with_uses, with_packets, others_with, settings_with};
+ghost use Rattle.registers.specs.Adding.{with_counter, with_counters, with_uses, with_packets, settings_with};
 
 use crate::tables::{event_word, packet_word, rsp_word};
 use checks::bits::latency_word;
@@ -15,7 +15,6 @@ use checks::set::has;
 use layouts::Settings;
 use plans::Place;
 use requests::{CAPACITY, CounterSet, Device, Request, Setup};
-use search::Given;
 use search::packed::place_at;
 use search::rows::{ROW_NUMBERS, request_at};
 
@@ -25,9 +24,7 @@ fn first_of(place: Place) -> u64
     ensures { result ≡ first place }
 {
     match place {
-        Place::Counter(counter) => counter,
-        Place::WithRsp(counter, _) => counter,
-        Place::Pair(counter, _) => counter,
+        Place::Counter(counter) | Place::WithRsp(counter, _) | Place::Pair(counter, _) => counter,
     }
 }
 
@@ -47,12 +44,11 @@ fn second_of(place: Place) -> u64
 fn with_counter(device: Device, counter: u64, used: CounterSet) -> CounterSet
     ensures { result ≡ with_counter device counter used }
 {
-    if counter < counter_count(device) {
-        if !has(used, counter) {
-            return CounterSet(used.0 + (1 << counter));
-        }
+    if counter < counter_count(device) && !has(used, counter) {
+        CounterSet(used.0 + (1 << counter))
+    } else {
+        used
     }
-    used
 }
 
 // The set with the counters of a place.
@@ -61,8 +57,7 @@ fn with_counters(device: Device, place: Place, used: CounterSet) -> CounterSet
     ensures { result ≡ with_counters device (counters_of place) used }
 {
     match place {
-        Place::Counter(counter) => with_counter(device, counter, used),
-        Place::WithRsp(counter, _) => with_counter(device, counter, used),
+        Place::Counter(counter) | Place::WithRsp(counter, _) => with_counter(device, counter, used),
         Place::Pair(first, second) => with_counter(
             device,
             first,
@@ -73,19 +68,16 @@ fn with_counters(device: Device, place: Place, used: CounterSet) -> CounterSet
 
 // Stores the control word of a counter. A counter past the array has none.
 fn put_word(words: &mut [u64; CAPACITY], counter: u64, word: u64)
-    requires { length words.old ≡ 8 }
     ensures { words.new ≡ set words.old counter word }
 {
-    if CAPACITY as u64 <= counter {
-        return;
+    if counter < CAPACITY as u64 {
+        words[counter as usize] = word;
     }
-    words[counter as usize] = word;
 }
 
 // Stores the control words of a request at its place.
 #[tactic(auto, unfolding(crate::specs::Adding::with_uses, layouts::specs::Settings::uses_of))]
 fn put_uses(setup: Setup, request: Request, place: Place, words: &mut [u64; CAPACITY])
-    requires { length words.old ≡ 8 }
     ensures { words.new ≡ with_uses (uses_of setup request place) words.old }
 {
     let counter = first_of(place);
@@ -110,9 +102,8 @@ fn with_offcore(register: u64, word: u64, place: Place, held: u64) -> u64
     ensures { (a : CounterSet) → result ≡ head_or held (words_of register (Request.Offcore word a) place) }
 {
     match place {
-        Place::Counter(_) => held,
-        Place::WithRsp(_, given) => if given == register { word } else { held },
-        Place::Pair(..) => held,
+        Place::WithRsp(_, given) if given == register => word,
+        Place::Counter(_) | Place::WithRsp(..) | Place::Pair(..) => held,
     }
 }
 
@@ -122,8 +113,7 @@ fn with_rsp(register: u64, request: Request, place: Place, held: u64) -> u64
     ensures { result ≡ head_or held (words_of register request place) }
 {
     match request {
-        Request::Event { .. } => held,
-        Request::Packet { .. } => held,
+        Request::Event { .. } | Request::Packet { .. } => held,
         Request::Offcore { word, .. } => with_offcore(register, word, place, held),
         Request::Latency { types, .. } => latency_word(register, types),
     }
@@ -131,67 +121,31 @@ fn with_rsp(register: u64, request: Request, place: Place, held: u64) -> u64
 
 // The match/mask register with what a request asks of it.
 #[tactic(auto, unfolding(crate::specs::Adding::with_packets, plans::specs::Legal::packets_of, requests::specs::Choice::either))]
-fn with_packets(request: Request, settings: Settings) -> Settings
-    ensures { result ≡ with_packets request settings }
+fn add_packets(request: Request, settings: &mut Settings)
+    ensures { settings.new ≡ with_packets request settings.old }
 {
     match request {
-        Request::Event { .. } => settings,
         Request::Packet {
             match_word,
             mask_word,
             ..
         } => {
-            let mut next = settings;
-            next.packets = true;
-            next.match_word = match_word;
-            next.mask_word = mask_word;
-            next
+            settings.packet = Some((match_word, mask_word));
         }
-        Request::Offcore { .. } => settings,
-        Request::Latency { .. } => settings,
-    }
-}
-
-// The used counters and the filter registers with one more request in front. The control words stay: they are stored in place, since a
-// struct by value is copied with all of them.
-#[tactic(auto, unfolding(crate::specs::Adding::others_with))]
-fn others_with(setup: Setup, request: Request, place: Place, settings: Settings) -> Settings
-    ensures { result ≡ others_with setup request place settings }
-{
-    let device = setup.device;
-    let before = settings.used;
-    let words = settings.words;
-    let used = with_counters(device, place, before);
-    let filter = with_packets(request, settings);
-    Settings {
-        used: used,
-        words: words,
-        rsp0: with_rsp(0, request, place, settings.rsp0),
-        rsp1: with_rsp(1, request, place, settings.rsp1),
-        packets: filter.packets,
-        match_word: filter.match_word,
-        mask_word: filter.mask_word,
+        Request::Event { .. } | Request::Offcore { .. } | Request::Latency { .. } => {}
     }
 }
 
 // The register values with one more request in front.
-#[tactic(auto, unfolding(crate::specs::Adding::settings_with))]
-fn settings_with(setup: Setup, request: Request, place: Place, settings: Settings) -> Settings
-    ensures { result ≡ settings_with setup request place settings }
+#[tactic(auto, unfolding(crate::specs::Adding::settings_with, crate::specs::Adding::others_with, crate::specs::Adding::with_packets))]
+fn add_request(setup: Setup, request: Request, place: Place, settings: &mut Settings)
+    ensures { settings.new ≡ settings_with setup request place settings.old }
 {
-    let mut words = settings.words;
-    put_uses(setup, request, place, &mut words);
-    let mut next = others_with(setup, request, place, settings);
-    next.words = words;
-    next
-}
-
-// How many of the places of an array are in use.
-#[tactic(auto, unfolding(requests::specs::Devices::capacity))]
-fn bounded(count: usize) -> usize
-    ensures { result ≡ min count capacity }
-{
-    if count < CAPACITY { count } else { CAPACITY }
+    put_uses(setup, request, place, &mut settings.words);
+    settings.used = with_counters(setup.device, place, settings.used);
+    settings.rsp0 = with_rsp(0, request, place, settings.rsp0);
+    settings.rsp1 = with_rsp(1, request, place, settings.rsp1);
+    add_packets(request, settings);
 }
 
 // The register values of no request.
@@ -203,9 +157,7 @@ fn no_settings() -> Settings
         words: [0; CAPACITY],
         rsp0: 0,
         rsp1: 0,
-        packets: false,
-        match_word: 0,
-        mask_word: 0,
+        packet: None,
     }
 }
 
@@ -214,38 +166,28 @@ fn no_settings() -> Settings
 pub fn settings_of(
     setup: Setup,
     requests: [Request; CAPACITY],
-    places: [Given; CAPACITY],
+    places: [Place; CAPACITY],
     count: usize,
 ) -> Settings
-    ensures { result ≡ settings_of setup (take count requests) (map (λ (g : Given). g.place) (take count places)) }
+    ensures { result ≡ settings_of setup (take count requests) (take count places) }
 {
     let mut settings = no_settings();
-    let mut left = bounded(count);
-    while 0 < left {
-        left -= 1;
-        let request = requests[left];
-        let given = places[left];
-        let place = given.place;
-        settings = settings_with(setup, request, place, settings);
+    for i in (0..count.min(CAPACITY)).rev() {
+        add_request(setup, requests[i], places[i], &mut settings);
     }
     settings
 }
 
 // The register values of the requests in the first rows, each at its place in a packed plan.
-#[tactic(auto, unfolding(layouts::specs::Settings::settings_of, requests::specs::Devices::capacity, crate::specs::Adding::settings_with, crate::specs::Adding::others_with, crate::specs::Adding::with_packets))]
+// Form: beside `settings_of` (d): they share `add_request`, and a closure for the two look-ups would be longer than the loop.
+#[tactic(auto, unfolding(layouts::specs::Settings::settings_of, requests::specs::Devices::capacity))]
 pub fn settings_in(setup: Setup, code: u64, rows: &[u64; ROW_NUMBERS], count: usize) -> Settings
     ensures { result ≡ settings_of setup (rows_from rows.now 0 (min count capacity)) (places_from code 0 (rows_from rows.now 0 (min count capacity))) }
 {
     let mut settings = no_settings();
-    let mut words = settings.words;
-    let mut left = bounded(count);
-    while 0 < left {
-        left -= 1;
-        let request = request_at(rows, left);
-        let place = place_at(code, left, request);
-        put_uses(setup, request, place, &mut words);
-        settings = others_with(setup, request, place, settings);
+    for i in (0..count.min(CAPACITY)).rev() {
+        let request = request_at(rows, i);
+        add_request(setup, request, place_at(code, i, request), &mut settings);
     }
-    settings.words = words;
     settings
 }

@@ -89,10 +89,10 @@ pub const MM_CFG_ENABLE: u64 = 0x8000_0000_0000_0000; // S, 2.5.3.4, S_MSR_MM_CF
 fn cbox_global(cbox: u64) -> u64
     ensures { result ≡ cbox_global cbox }
 {
-    if C_GLOBAL_CTL.len() as u64 <= cbox {
-        return C_GLOBAL_CTL[0];
-    }
-    C_GLOBAL_CTL[cbox as usize]
+    C_GLOBAL_CTL
+        .get(cbox as usize)
+        .copied()
+        .unwrap_or(C_GLOBAL_CTL[0])
 }
 
 // Where the registers of a C-Box's counters are.
@@ -115,7 +115,7 @@ pub fn layout_of(device: Device) -> Layout
     ensures { result ≡ layout_of device }
 {
     match device {
-        Device::G => Layout {
+        Device::G | Device::B => Layout {
             global: PERF_GLOBAL_CTRL,
             control: PERFEVTSEL0,
             counter: PMC0,
@@ -128,12 +128,6 @@ pub fn layout_of(device: Device) -> Layout
             step: PMON_STEP,
         },
         Device::C(cbox) => cbox_layout(cbox),
-        Device::B => Layout {
-            global: PERF_GLOBAL_CTRL,
-            control: PERFEVTSEL0,
-            counter: PMC0,
-            step: MSR_STEP,
-        },
     }
 }
 
@@ -143,10 +137,9 @@ fn enabled_on(device: Device) -> u64
     ensures { result ≡ enabled_on device }
 {
     match device {
-        Device::G => PERFEVTSEL_ENABLED,
+        Device::G | Device::B => PERFEVTSEL_ENABLED,
         Device::S => PMON_CTL_ENABLED,
         Device::C(_) => EVT_SEL_ENABLED,
-        Device::B => PERFEVTSEL_ENABLED,
     }
 }
 
@@ -155,12 +148,8 @@ fn enabled_on(device: Device) -> u64
 fn enabled_bits(setup: Setup) -> u64
     ensures { result ≡ enabled setup }
 {
-    let device = setup.device;
-    let bits = enabled_on(device);
-    if asked(setup) {
-        return bits + PMI_EN;
-    }
-    bits
+    let bits = enabled_on(setup.device);
+    if asked(setup) { bits + PMI_EN } else { bits }
 }
 
 // The control word of an event.
@@ -172,14 +161,17 @@ pub fn event_word(setup: Setup, code: u8, mask: u8) -> u64
 }
 
 // The control word of a counter on an RSP register.
+// Form: the register stays a number (a): plans::Place has it as one, and so do the clauses `rsp_word` and `words_of`.
 #[tactic(auto, unfolding(layouts::specs::Layout::rsp_word, layouts::specs::Layout::rsp_mask, layouts::specs::Layout::offcore_code))]
 pub fn rsp_word(setup: Setup, register: u64) -> u64
     ensures { result ≡ rsp_word setup register }
 {
-    if register == 0 {
-        return event_word(setup, OFFCORE_RESPONSE, RSP0_UMASK);
-    }
-    event_word(setup, OFFCORE_RESPONSE, RSP1_UMASK)
+    let mask = if register == 0 {
+        RSP0_UMASK
+    } else {
+        RSP1_UMASK
+    };
+    event_word(setup, OFFCORE_RESPONSE, mask)
 }
 
 // The control word of a counter on the match/mask register.

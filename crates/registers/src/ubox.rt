@@ -6,7 +6,7 @@ ghost use Rattle.layouts.specs.Writes.{core_bit, ubox_value};
 ghost use Rattle.layouts.specs.Read.{ubox_fits};
 
 use checks::askings::{CORE_COUNT, asked};
-use requests::{Core, Setup};
+use requests::Setup;
 
 pub const U_GLOBAL_CTL: u64 = 0x0C00; // document 004, table 2-1
 
@@ -26,28 +26,22 @@ fn freeze_bit(freeze: u64) -> u64
 
 // The bit of a core in pmi_core_sel.
 #[tactic(auto, unfolding(layouts::specs::Writes::core_bit))]
-fn core_bit(core: Core) -> u64
+fn core_bit(core: Option<u64>) -> u64
     ensures { result ≡ core_bit core }
 {
     match core {
-        Core::NoCore => 0,
-        Core::At(number) => {
-            if number < CORE_COUNT {
-                return 1 << (CORE_SEL + number);
-            }
-            0
-        }
+        None => 0,
+        Some(number) if number < CORE_COUNT => 1 << (CORE_SEL + number),
+        Some(_) => 0,
     }
 }
 
 // The last value: en_all and what is asked.
-#[tactic(auto, unfolding(layouts::specs::Writes::ubox_value, layouts::specs::Layout::en_all))]
+#[tactic(auto, using(crate::proofs::UBoxValues::freeze_small, crate::proofs::UBoxValues::core_small), unfolding(layouts::specs::Writes::ubox_value, layouts::specs::Layout::en_all))]
 pub fn ubox_value(setup: Setup) -> u64
     ensures { result ≡ ubox_value setup }
 {
-    let overflow = setup.overflow;
-    let core = overflow.core;
-    EN_ALL + freeze_bit(overflow.freeze) + core_bit(core)
+    EN_ALL + freeze_bit(setup.overflow.freeze) + core_bit(setup.overflow.core)
 }
 
 // Whether the register may hold the value.
@@ -55,8 +49,5 @@ pub fn ubox_value(setup: Setup) -> u64
 pub fn ubox_fits(setup: Setup, value: u64) -> bool
     ensures { result ≡ ubox_fits setup value }
 {
-    if asked(setup) {
-        return value == ubox_value(setup);
-    }
-    true
+    !asked(setup) || value == ubox_value(setup)
 }

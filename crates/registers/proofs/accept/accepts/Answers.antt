@@ -1,77 +1,36 @@
-use mathlib.Core.Path.{◌≡◌, sym, ap, ◌∙◌}
-use mathlib.Core.List.{List}
+use mathlib.Core.Path.{◌≡◌, refl, ◌∙◌}
 use Prim.Native.Nat.{ℕ}
-use lib.ListN.{length, get_or}
-use Rattle.requests.specs.Devices.{capacity}
-use Rattle.layouts.specs.Writes.{last_global}
-use Rattle.layouts.specs.Read.{ours}
-use Rattle.plans.proofs.PlanLengthHolds.{plan_length}
-use Rattle.registers.proofs.Accepting.{looked}
-use Rattle.registers.proofs.ReaderSteps.{accepts_by_precise, ubox_refused, filters_refused, global_refused, controls_refused}
-use Rattle.std.proofs.Common.{rules}
+use lib.ListN.{get_or}
+use Rattle.registers.proofs.ReaderSteps.{holding, failing, to_global, to_filters, to_ubox, accepts_words}
 use Rattle.registers.proofs.accept.accepts.Goals as goal
+use Rattle.registers.proofs.accept.accepts.Goals.{Joined-filters_fit, then-controls_fit, else-controls_fit, then-values-last_global, else-values-last_global, then-filters_fit, else-filters_fit}
 
-pub controls_fit-requires : goal.controls_fit-requires
-controls_fit-requires c = rw c.counter_count-limit.ensures (plan_length.device_at_most c.args.setup.device)
-
-pub used_by-used-requires : goal.used_by-used-requires
-used_by-used-requires c = rw c.counter_count-limit.ensures (plan_length.device_at_most c.args.setup.device)
+tests_to_ubox : (c : Joined-filters_fit) → c.if-filters_fit.value ≡ to_ubox c.args.setup c.args.values.now (λ k. get_or c.looked_at-words.result k 0)
+tests_to_ubox c =
+    let a = c.args in
+    let f = λ (k : ℕ). get_or c.looked_at-words.result k 0 in
+    let fit = c.controls_fit.ensures in
+    let global : c.if-controls_fit.value ≡ to_global a.setup a.values.now f = elim c.if-controls_fit.branch [
+      | then-controls_fit w ↦ holding w.if-controls_fit.true fit (w.value-is ∙ rw (w.last_global.ensures, w.used_by.ensures))
+      | else-controls_fit w ↦ failing _ w.if-controls_fit.false fit w.value-is
+    ] in
+    let filters : c.if-values-last_global.value ≡ to_filters a.setup a.values.now f = elim c.if-values-last_global.branch [
+      | then-values-last_global w ↦ holding w.if-values-last_global.true global (w.value-is ∙ w.filters_fit.ensures)
+      | else-values-last_global w ↦ failing _ w.if-values-last_global.false global w.value-is
+    ] in
+    elim c.if-filters_fit.branch [
+      | then-filters_fit w ↦ holding w.if-filters_fit.true filters (w.value-is ∙ w.ubox_fits.ensures)
+      | else-filters_fit w ↦ failing _ w.if-filters_fit.false filters w.value-is
+    ]
 
 pub returns-then-ubox_fits : goal.returns-then-ubox_fits
-unfolding capacity
 returns-then-ubox_fits c =
-    let whole : length c.args.values.control ≡ capacity = search rules in
-    let same : (λ k. get_or c.looked_at-words.result k 0) ≡ ours c.args.setup c.args.values = ap (λ (l : List ℕ). λ (k : ℕ). get_or l k 0) c.looked_at-words.ensures ∙ looked c.args.setup c.args.values whole in
     let a = c.args in
-    let words = c.looked_at-words.result in
-    let fit = rw c.counter_count-limit.ensures at (sym c.controls_fit.ensures ∙ c.if-controls_fit.true) in
-    let used = rw c.counter_count-limit.ensures at c.used_by-used.ensures in
-    let value = c.last_global.ensures ∙ ap (last_global a.setup) used in
-    accepts_by_precise a.setup a.values words same fit (c.if-values-last_global.true ∙ value) _ c.precise_fits.ensures
-    (sym c.filters_fit.ensures ∙ c.if-filters_fit.true) (sym c.ubox_fits.ensures ∙ c.if-ubox_fits.true)
+    holding c.if-ubox_fits.true (tests_to_ubox (goal.at.returns-then-ubox_fits c).Joined-filters_fit) c.precise_fits.ensures
+    ∙ accepts_words a.setup a.values.now _ c.looked_at-words.ensures.by_counter
 
 pub returns-else-ubox_fits : goal.returns-else-ubox_fits
-unfolding capacity
 returns-else-ubox_fits c =
-    let whole : length c.args.values.control ≡ capacity = search rules in
-    let same : (λ k. get_or c.looked_at-words.result k 0) ≡ ours c.args.setup c.args.values = ap (λ (l : List ℕ). λ (k : ℕ). get_or l k 0) c.looked_at-words.ensures ∙ looked c.args.setup c.args.values whole in
     let a = c.args in
-    let words = c.looked_at-words.result in
-    let fit = rw c.counter_count-limit.ensures at (sym c.controls_fit.ensures ∙ c.if-controls_fit.true) in
-    let used = rw c.counter_count-limit.ensures at c.used_by-used.ensures in
-    let value = c.last_global.ensures ∙ ap (last_global a.setup) used in
-    ubox_refused a.setup a.values words same fit (c.if-values-last_global.true ∙ value)
-    (sym c.filters_fit.ensures ∙ c.if-filters_fit.true) (sym c.ubox_fits.ensures ∙ c.if-ubox_fits.false)
-
-pub returns-else-filters_fit : goal.returns-else-filters_fit
-unfolding capacity
-returns-else-filters_fit c =
-    let whole : length c.args.values.control ≡ capacity = search rules in
-    let same : (λ k. get_or c.looked_at-words.result k 0) ≡ ours c.args.setup c.args.values = ap (λ (l : List ℕ). λ (k : ℕ). get_or l k 0) c.looked_at-words.ensures ∙ looked c.args.setup c.args.values whole in
-    let a = c.args in
-    let words = c.looked_at-words.result in
-    let fit = rw c.counter_count-limit.ensures at (sym c.controls_fit.ensures ∙ c.if-controls_fit.true) in
-    let used = rw c.counter_count-limit.ensures at c.used_by-used.ensures in
-    let value = c.last_global.ensures ∙ ap (last_global a.setup) used in
-    filters_refused a.setup a.values words same fit (c.if-values-last_global.true ∙ value) (sym c.filters_fit.ensures ∙ c.if-filters_fit.false)
-
-pub returns-else-values-last_global : goal.returns-else-values-last_global
-unfolding capacity
-returns-else-values-last_global c =
-    let whole : length c.args.values.control ≡ capacity = search rules in
-    let same : (λ k. get_or c.looked_at-words.result k 0) ≡ ours c.args.setup c.args.values = ap (λ (l : List ℕ). λ (k : ℕ). get_or l k 0) c.looked_at-words.ensures ∙ looked c.args.setup c.args.values whole in
-    let a = c.args in
-    let words = c.looked_at-words.result in
-    let fit = rw c.counter_count-limit.ensures at (sym c.controls_fit.ensures ∙ c.if-controls_fit.true) in
-    let used = rw c.counter_count-limit.ensures at c.used_by-used.ensures in
-    let value = c.last_global.ensures ∙ ap (last_global a.setup) used in
-    global_refused a.setup a.values words same fit (λ e. c.if-values-last_global.false (e ∙ sym value))
-
-pub returns-else-controls_fit : goal.returns-else-controls_fit
-unfolding capacity
-returns-else-controls_fit c =
-    let whole : length c.args.values.control ≡ capacity = search rules in
-    let same : (λ k. get_or c.looked_at-words.result k 0) ≡ ours c.args.setup c.args.values = ap (λ (l : List ℕ). λ (k : ℕ). get_or l k 0) c.looked_at-words.ensures ∙ looked c.args.setup c.args.values whole in
-    let a = c.args in
-    let fails = rw c.counter_count-limit.ensures at (sym c.controls_fit.ensures ∙ c.if-controls_fit.false) in
-    controls_refused a.setup a.values c.looked_at-words.result same fails
+    failing _ c.if-ubox_fits.false (tests_to_ubox (goal.at.returns-else-ubox_fits c).Joined-filters_fit) refl
+    ∙ accepts_words a.setup a.values.now _ c.looked_at-words.ensures.by_counter

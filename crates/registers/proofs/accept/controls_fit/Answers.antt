@@ -1,23 +1,20 @@
-use mathlib.Core.Path.{sym, ◌∙◌}
-use Prim.Native.Nat.{◌-◌}
+use mathlib.Core.Path.{◌∙◌}
 use native.Mathlib.Omega.{arith}
-use lib.ListN.{get_or}
+use lib.ListN.{take}
+use Rattle.std.proofs.Common.{rules, tests}
+use Rattle.std.proofs.lemmas.Iterator.{YieldsList-from_slice}
+use Rattle.std.proofs.lemmas.Iterator.Search.{all_from_yields_List}
+use Rattle.requests.specs.Devices.{counter_count, capacity}
+use Rattle.plans.proofs.PlanLengthHolds.{plan_length}
 use Rattle.layouts.specs.Read.{control_fits}
-use Rattle.registers.proofs.Accepting.{every_next, every_fails}
+use Rattle.registers.proofs.Ranges.{all_taken}
 use Rattle.registers.proofs.accept.controls_fit.Goals as goal
 
-pub returns-then-not-control_fits : goal.returns-then-not-control_fits
-returns-then-not-control_fits c =
+pub returns : goal.returns
+unfolding capacity
+returns c =
     let a = c.args in
-    sym
-    (every_fails (λ k. control_fits a.setup (get_or a.words k 0)) a.limit c.loop-counter.counter c.loop-counter-test.true
-    (sym c.control_fits.ensures ∙ c.if-not-control_fits.true))
-
-pub loop-counter-preserved : goal.loop-counter-preserved
-loop-counter-preserved c =
-    let l = c.loop-counter in
-    let a = c.args in (
-      omega arith,
-      omega arith,
-      every_next (λ k. control_fits a.setup (get_or a.words k 0)) l.counter (sym c.control_fits.ensures ∙ c.if-not-control_fits.false) l.invariant.2,
-    )
+    let n = counter_count a.setup.device in
+    let small = plan_length.device_at_most a.setup.device in
+    all_from_yields_List (control_fits a.setup) _ _ _ c.all.ensures.ran (YieldsList-from_slice (take n a.words.now) cc) (λ x b q k. search (rules, tests))
+    ∙ all_taken a.words.now 0 n (control_fits a.setup) (omega arith)

@@ -6,11 +6,10 @@ use lib.Pow.{shl_exact}
 use Rattle.registers.proofs.UBoxValues.{core_fits_lem, core_wide}
 use Rattle.registers.proofs.ubox.core_bit.Goals as goal
 
-pub returns-then-number-lt-CORE_COUNT : goal.returns-then-number-lt-CORE_COUNT
-returns-then-number-lt-CORE_COUNT c =
-    shl_exact 1 _ 64 (lit< tt) (omega (arith, c.if-number-lt-CORE_COUNT.true))
-    ∙ one-mul _
-    ∙ core_fits_lem c.args.core _ c.in-At.is c.if-number-lt-CORE_COUNT.true
+pub returns-in-Some : goal.returns-in-Some
+returns-in-Some c =
+    let small = c.if-number-lt-CORE_COUNT.true in
+    shl_exact 1 _ 64 (lit< tt) (omega arith) ∙ one-mul _ ∙ core_fits_lem c.args.core _ c.in-Some.is small
 
-pub returns-else-number-lt-CORE_COUNT : goal.returns-else-number-lt-CORE_COUNT
-returns-else-number-lt-CORE_COUNT c = core_wide c.args.core _ c.in-At.is c.if-number-lt-CORE_COUNT.false
+pub returns-in-Some-2 : goal.returns-in-Some-2
+returns-in-Some-2 c = core_wide c.args.core _ c.in-Some.is c.if-number-lt-CORE_COUNT.false
