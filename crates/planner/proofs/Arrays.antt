@@ -1,12 +1,12 @@
 -- Laws on lists in their arrays, over any element type, number of places and filling: a value is stored in the first place past the list,
 -- and the places past it are filled one after another. Assumes nothing.
 use mathlib.Core.Path.{◌≡◌, refl, ap}
-use Prim.Native.Nat.{ℕ, zero, suc, ◌+◌, ◌-◌, ◌<◌, ◌≤◌}
-use mathlib.Core.List.{List, [], ◌∷◌, ◌++◌, append_assoc, append-nil}
-use native.Mathlib.Numerals.{add-one}
+use Prim.Native.Nat.{ℕ, zero, suc, ◌-◌, ◌<◌, ◌≤◌}
+use mathlib.Core.List.{List, [], ◌∷◌, ◌++◌, append-nil}
 use native.Mathlib.Omega.{arith}
-use lib.ListN.{length, take, set, replicate, length-append}
-use lib.Seq.{set-append_seam, append_snoc, take-suc-set}
+use lib.ListN.{length, take, drop, set, replicate, length-append, length-take, length-drop, drop_of_length-le}
+use lib.Seq.{set-append_seam, append_snoc}
+use borrow.Rule.Slice.PartMut.{put_mid}
 use Rattle.planner.specs.Selections.{in_array}
 
 module _ {A : Type 0} (n : ℕ) (d : A) (l : List A) (k : ℕ) where
@@ -16,19 +16,13 @@ module _ {A : Type 0} (n : ℕ) (d : A) (l : List A) (k : ℕ) where
       rw (p, m, set-append_seam, append_snoc)
 
 module _ {A : Type 0} (d : A) where
-  replicate_next : (n : ℕ) → replicate n d ++ (d ∷ []) ≡ replicate (suc n) d
-  replicate_next zero = refl
-  replicate_next (suc n) = ap (λ (l : List A). d ∷ l) (replicate_next n)
-
-  -- one place more is filled, behind k elements that stay
-  pub filled_next : (front l : List A) (k i : ℕ) → k ≤ i → i < length l → take i l ≡ front ++ replicate (i - k) d → take (i + 1) (set l i d) ≡ front ++ replicate (i + 1 - k) d
-  filled_next front l k i past room so_far =
-      let m : i + 1 - k ≡ suc (i - k) = omega arith in
-      rw (m, add-one i, take-suc-set l i d room, so_far, append_assoc) (ap (λ (x : List A). front ++ x) (replicate_next (i - k)))
-
-  -- no place is filled yet
-  pub filled_none : (front : List A) (k : ℕ) → front ≡ front ++ replicate (k - k) d
-  filled_none front k = let none : k - k ≡ 0 = omega arith in rw (none, append-nil front)
+  -- the places behind the first k are filled
+  pub filled_behind : (n k : ℕ) (l filling : List A) → k ≤ n → length l ≡ n → filling ≡ replicate (length (take (n - k) (drop k l))) d
+      → put_mid k (n - k) l filling ≡ take k l ++ replicate (n - k) d
+  filled_behind n k l filling inside size e =
+      let m : length (take (n - k) (drop k l)) ≡ n - k = simp (length-take, length-drop) (omega arith) in
+      let behind : drop (n - k) (drop k l) ≡ [] = drop_of_length-le (drop k l) {i = n - k} (simp length-drop (omega arith)) in
+      rw (e, m, behind, append-nil)
 
   -- a filled place filled again
   pub filled_again : (n k : ℕ) → set (replicate n d) k d ≡ replicate n d

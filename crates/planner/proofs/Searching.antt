@@ -1,10 +1,10 @@
 -- What the search answers over the rows of a turn: with one request more behind those taken, and of one request alone; and the number of
 -- usable counters, past which nothing is searched. Assumes nothing.
+use Rattle.std.specs.Prelude.{Some}
 use mathlib.Core.Path.{◌≡◌, refl, ap, sym, ◌∙◌}
 use Prim.Native.Nat.{ℕ, ◌+◌, ◌*◌, ◌^◌, ◌≤◌, ◌<◌}
 use mathlib.Core.Bool.{true, not, not-not}
 use mathlib.Core.List.{List, [], ◌∷◌, ◌++◌}
-use mathlib.Core.Option.{some}
 use native.Mathlib.Numerals.{add-one}
 use native.Mathlib.Omega.{arith}
 use lib.Dec.{eqb}
@@ -115,7 +115,7 @@ extended s rs r k exists (event {c = c} {m = m} {a = a} may n) =
     let long : length rs ≡ length f.0 = sym (places_length (packed (first_plan s rs)) 0 rs) ∙ ap length back in
     go f.0 f.1 long (rw back at n)
   where
-    go : (ps : List Place) → first_plan s rs ≡ some ps → length rs ≡ length ps → LeastUnused s a ps k
+    go : (ps : List Place) → first_plan s rs ≡ Some ps → length rs ≡ length ps → LeastUnused s a ps k
         → packed (first_plan s rs) + (63 + k * 8) * 2 ^ (6 * length rs) ≡ packed (first_plan s (rs ++ (Event c m a ∷ [])))
     go ps e long least = rw (extends.event s rs c m a ps k may least e, e, long) (sym (extends.number ps k))
 

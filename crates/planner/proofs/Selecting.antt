@@ -1,8 +1,8 @@
 -- What the loop of a turn has made of the entries that it has gone through, and how one entry more is taken or passed over: by `taking`,
 -- since the number that the search answers is 0 exactly where there is no legal plan. Assumes nothing.
+use Rattle.std.specs.Prelude.{Some}
 use mathlib.Core.Path.{◌≡◌, ap, sym, ◌∙◌}
 use Prim.Native.Nat.{ℕ, ◌+◌, ◌^◌, ◌<◌}
-use mathlib.Core.Option.{some}
 use mathlib.Core.List.{List, [], ◌∷◌, ◌++◌}
 use native.Mathlib.Decide.{dec_lt}
 use native.Mathlib.Omega.{arith}
@@ -167,7 +167,7 @@ module _ {s : Setup} {queue q : List Entry} {rows ts ps : List ℕ} {c : Chosen}
 
 -- ---- after the last entry
 
-places_found : (s : Setup) (es : List Entry) (ps : List Place) → first_plan s (requests_of es) ≡ some ps → places_of s es ≡ ps
+places_found : (s : Setup) (es : List Entry) (ps : List Place) → first_plan s (requests_of es) ≡ Some ps → places_of s es ≡ ps
 unfolding places_of
 places_found s es ps e = rw (e, places_of)
 

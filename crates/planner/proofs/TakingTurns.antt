@@ -2,10 +2,10 @@
 --     Counted    the numbers of the lists counted so far
 --     Written    the lists and ends written so far
 --     turns-..   the outcome of the call, by its answer
+use Rattle.std.specs.Prelude.{None, Some, Ok, Err}
 use mathlib.Core.Path.{◌≡◌, refl, ap, sym, ◌∙◌}
 use mathlib.Core.List.{List, [], ◌∷◌, ◌++◌, append_assoc, append-nil}
 use mathlib.Core.Bool.{true}
-use mathlib.Core.Option.{none, some}
 use Prim.Native.Nat.{ℕ, zero, suc, ◌+◌, ◌*◌, ◌-◌, ◌≤◌, ◌<◌}
 use native.Mathlib.Numerals.{add-one}
 use native.Mathlib.Omega.{arith}
@@ -13,8 +13,7 @@ use lib.ListN.{length, take, drop, set, length-append, length-drop, length-set, 
 use lib.Seq.{take_all, length-take-le, take-append-add, drop-append-add, take-suc-set, drop-set-lt}
 use Rattle.requests.specs.declared.Entry.{Entry}
 use Rattle.requests.specs.declared.Refusal.{Refusal}
-use Rattle.requests.specs.declared.Answer.{Answer}
-use Rattle.requests.specs.declared.Answer.TheVariants.{Accepted, Refused}
+use Rattle.requests.specs.Answers.{Answer}
 use Rattle.requests.specs.Refusals.{answer_for}
 use Rattle.layouts.specs.Settings.{settings_of}
 use Rattle.layouts.specs.Writes.{Write, writes, filled}
@@ -223,14 +222,14 @@ module _ (s : Session) (n : ℕ) (out ends : List ℕ) (a : Answer) (is : a ≡ 
       × (list ≡ turns_slice s n out (length ends))
       × (places ≡ turns_ends s n (length out) ends)
 
-  pub turns_refused : (x : Refusal) → a ≡ Refused x → Outcome s out ends
+  pub turns_refused : (x : Refusal) → a ≡ Err x → Outcome s out ends
   unfolding turns_answer turns_slice turns_ends
   turns_refused x e =
-      let row : refused_by s (Turns n (length out) (length ends)) ≡ some x = answer_some _ x (sym is ∙ e) in
+      let row : refused_by s (Turns n (length out) (length ends)) ≡ Some x = answer_some _ x (sym is ∙ e) in
       (answered_refused a (refused_by s (Turns n (length out) (length ends))) is s (turned_session n s) x e, rw row, rw row)
 
-  pub turns_done : a ≡ Accepted → Outcome (turned_session n s) (filled (joined (lists_for n s)) out) (ends_from 0 (lists_for n s) ++ drop n ends)
+  pub turns_done : a ≡ (Ok tt) → Outcome (turned_session n s) (filled (joined (lists_for n s)) out) (ends_from 0 (lists_for n s) ++ drop n ends)
   unfolding turns_answer turns_slice turns_ends
   turns_done e =
-      let row : refused_by s (Turns n (length out) (length ends)) ≡ none = answer_none _ (sym is ∙ e) in
+      let row : refused_by s (Turns n (length out) (length ends)) ≡ None = answer_none _ (sym is ∙ e) in
       (answered_accepted a (refused_by s (Turns n (length out) (length ends))) is s (turned_session n s) e, rw row, rw row)

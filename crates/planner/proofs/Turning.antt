@@ -1,24 +1,21 @@
 -- What a turn answers, from what it chooses and from what the writer answers. Assumes nothing.
 --     chosen-..   the writes, the queue and the plan of what is chosen
 --     turn-..     the answer and the slice of a turn, by the tests that the code makes
---     settled-..  what a turn does, told by its answer
+use Rattle.std.specs.Prelude.{None, Some, Ok, Err}
 use mathlib.Core.Path.{◌≡◌, refl, ap, ◌∙◌}
 use Prim.Native.Nat.{ℕ, ◌+◌}
 use mathlib.Core.Bool.{Bool, true, false}
-use mathlib.Core.Option.{none, some}
 use mathlib.Core.List.{List, [], ◌++◌}
 use native.Mathlib.Omega.{arith}
 use lib.ListN.{length, length-append}
 use Rattle.requests.specs.declared.Entry.{Entry}
 use Rattle.requests.specs.declared.Refusal.{Refusal}
 use Rattle.requests.specs.declared.Refusal.TheVariants.{CallOrder, SliceTooShort}
-use Rattle.requests.specs.declared.Answer.TheVariants.{Accepted, Refused}
 use Rattle.requests.specs.Choice.{pick}
 use Rattle.requests.specs.Devices.{capacity}
 use Rattle.requests.specs.Refusals.{answer_for}
 use Rattle.search.specs.Rows.{rows_from}
 use Rattle.plans.specs.Packed.{places_from}
-use Rattle.layouts.specs.declared.WriteAnswer.TheVariants.{Written, TooShort}
 use Rattle.layouts.specs.declared.Settings.{Settings}
 use Rattle.layouts.specs.Settings.{settings_of}
 use Rattle.layouts.specs.Writes.{Write, writes, writes_for, filled}
@@ -30,7 +27,7 @@ use Rattle.sessions.specs.Turns.{taken, turned, places_of, assign, writes_of}
 use Rattle.sessions.specs.Calls.{Turn}
 use Rattle.sessions.specs.Sessions.{unassigned, padded, queue_limit, queued, session_of, refused_by, turn_answer, turn_of, turn_slice}
 use Rattle.planner.specs.declared.Chosen.{Chosen}
-use Rattle.planner.specs.Selections.{in_array, entries_at, WithinLimits, Selected, Settled, refused_with, planned, plan_chosen, session_chosen}
+use Rattle.planner.specs.Selections.{in_array, entries_at, WithinLimits, Selected, planned, plan_chosen, session_chosen}
 use Rattle.planner.proofs.Assigning.{entries_length, planned_length}
 use Rattle.planner.proofs.Selecting.{selected_places}
 use Rattle.sessions.proofs.TableAnswers.{plain_closed, plain_opened, turn_closed, turn_short, turn_accepted_lem}
@@ -60,78 +57,57 @@ module _ (s : Session) {rows ts ps : List ℕ} {c : Chosen} (all : Selected s.se
 -- ---- the writer's answer
 
 module _ (ws : List Write) (out after : List ℕ) where
-  pub wrote_none : Wrote ws out after TooShort → (too_short ws out ≡ true) × (after ≡ out)
+  pub wrote_none : (x : Refusal) → Wrote ws out after (Err x) → (x ≡ SliceTooShort) × (too_short ws out ≡ true) × (after ≡ out)
   unfolding write_answer write_slice
-  wrote_none w = go (too_short ws out) w.answer w.slice
+  wrote_none x w = go (too_short ws out) w.answer w.slice
     where
-      go : (b : Bool) → TooShort ≡ pick b TooShort (Written (length ws)) → after ≡ pick b out (filled ws out) → (b ≡ true) × (after ≡ out)
-      go true a s = (refl, s)
+      go : (b : Bool) → Err x ≡ pick b (Err SliceTooShort) (Ok (length ws)) → after ≡ pick b out (filled ws out) → (x ≡ SliceTooShort) × (b ≡ true) × (after ≡ out)
+      go true a s = (cc, refl, s)
       go false a s = let z : ◌≡◌ {A = ℕ} 0 1 = cc in absurd (omega arith)
 
-  pub wrote_all : (n : ℕ) → Wrote ws out after (Written n) → (too_short ws out ≡ false) × (n ≡ length ws) × (after ≡ filled ws out)
+  pub wrote_all : (n : ℕ) → Wrote ws out after (Ok n) → (too_short ws out ≡ false) × (n ≡ length ws) × (after ≡ filled ws out)
   unfolding write_answer write_slice
   wrote_all n w = go (too_short ws out) w.answer w.slice
     where
-      go : (b : Bool) → Written n ≡ pick b TooShort (Written (length ws)) → after ≡ pick b out (filled ws out) → (b ≡ false) × (n ≡ length ws) × (after ≡ filled ws out)
+      go : (b : Bool) → Ok n ≡ pick b (Err SliceTooShort) (Ok (length ws)) → after ≡ pick b out (filled ws out) → (b ≡ false) × (n ≡ length ws) × (after ≡ filled ws out)
       go true a s = let z : ◌≡◌ {A = ℕ} 0 1 = cc in absurd (omega arith)
       go false a s = (refl, cc, s)
 
 -- ---- the turn
 
 module _ (s : Session) (out : List ℕ) where
-  refused_turn : (x : Refusal) → refused_by s (Turn (length out)) ≡ some x → (turn_answer (Refused x) s [] 0 ≡ turn_of s (length out)) × (out ≡ turn_slice s out)
+  refused_turn : (x : Refusal) → refused_by s (Turn (length out)) ≡ Some x → (turn_answer (Err x) s [] 0 ≡ turn_of s (length out)) × (out ≡ turn_slice s out)
   unfolding turn_of turn_slice answer_for
   refused_turn x e = (rw (e, turn_of), rw (e, turn_slice))
 
-  pub turn_order : s.opened ≡ false → (turn_answer (Refused CallOrder) s [] 0 ≡ turn_of s (length out)) × (out ≡ turn_slice s out)
+  pub turn_order : s.opened ≡ false → (turn_answer (Err CallOrder) s [] 0 ≡ turn_of s (length out)) × (out ≡ turn_slice s out)
   unfolding refused_by
   turn_order h = refused_turn CallOrder (rw (plain_closed s h) (turn_closed queue_limit (length out)))
 
   module _ (open-already : s.opened ≡ true) (after : List ℕ) where
-    pub turn_refused_lem : Wrote (writes_of s.setup (taken_by_lem s)) out after TooShort → (turn_answer (Refused SliceTooShort) s [] 0 ≡ turn_of s (length out)) × (after ≡ turn_slice s out)
+    pub turn_refused_lem : (x : Refusal) → Wrote (writes_of s.setup (taken_by_lem s)) out after (Err x) → (turn_answer (Err x) s [] 0 ≡ turn_of s (length out)) × (after ≡ turn_slice s out)
     unfolding refused_by too_short
-    turn_refused_lem w =
-        let short = wrote_none (writes_of s.setup (taken_by_lem s)) out after w in
-        let r = refused_turn SliceTooShort (rw (plain_opened s open-already) (turn_short queue_limit s.setup (queued s) (length out) short.0)) in
-        (r.0, short.1 ∙ r.1)
+    turn_refused_lem x w =
+        let short = wrote_none (writes_of s.setup (taken_by_lem s)) out after x w in
+        let r = refused_turn SliceTooShort (rw (plain_opened s open-already) (turn_short queue_limit s.setup (queued s) (length out) short.1)) in
+        rw short.0 (r.0, short.2 ∙ r.1)
 
-    pub turn_written : (n : ℕ) → Wrote (writes_of s.setup (taken_by_lem s)) out after (Written n)
-        → (turn_answer Accepted (session_of s.setup (turned s.setup (queued s))) (assign (taken_by_lem s) (places_of s.setup (taken_by_lem s))) n ≡ turn_of s (length out)) × (after ≡ turn_slice s out)
+    pub turn_written : (n : ℕ) → Wrote (writes_of s.setup (taken_by_lem s)) out after (Ok n)
+        → (turn_answer (Ok tt) (session_of s.setup (turned s.setup (queued s))) (assign (taken_by_lem s) (places_of s.setup (taken_by_lem s))) n ≡ turn_of s (length out)) × (after ≡ turn_slice s out)
     unfolding refused_by too_short turn_of turn_slice answer_for
     turn_written n w =
         let done = wrote_all (writes_of s.setup (taken_by_lem s)) out after n w in
-        let e : refused_by s (Turn (length out)) ≡ none = rw (plain_opened s open-already) (turn_accepted_lem queue_limit s.setup (queued s) (length out) done.0) in
+        let e : refused_by s (Turn (length out)) ≡ None = rw (plain_opened s open-already) (turn_accepted_lem queue_limit s.setup (queued s) (length out) done.0) in
         (rw (e, turn_of, done.1), rw (e, turn_slice) done.2)
 
--- ---- what it does, and the answer made of that
-
-module _ (s : Session) (room : ℕ) (ts ps : List ℕ) where
-  pub settled_refused : (x : Refusal) → turn_answer (Refused x) s [] 0 ≡ turn_of s room → Settled s room ts ps (refused_with x)
-  unfolding refused_with
-  settled_refused x t =
-      record {
-        within = λ e. let z : ◌≡◌ {A = ℕ} 0 1 = cc in absurd (omega arith);
-        opened = λ e. let z : ◌≡◌ {A = ℕ} 0 1 = cc in absurd (omega arith);
-        accepted = λ e. let z : ◌≡◌ {A = ℕ} 0 1 = cc in absurd (omega arith);
-        refused = λ y e. let same : x ≡ y = cc in rw (← same) (refl, t);
-      }
-
-  pub settled_accepted : (c : Chosen) (n : ℕ) → WithinLimits c ts ps → s.opened ≡ true → turn_answer Accepted (session_chosen s ts ps c) (plan_chosen s ts c) n ≡ turn_of s room
-      → Settled s room ts ps (record { answer = Accepted; chosen = c; writes = n })
-  settled_accepted c n w o t =
-      record {
-        within = λ e. w;
-        opened = λ e. o;
-        accepted = λ e. t;
-        refused = λ y e. let z : ◌≡◌ {A = ℕ} 0 1 = cc in absurd (omega arith);
-      }
+-- ---- the answer made of what it does
 
 -- the answer of an accepted turn, from the queue and the plan that are made
 pub turn_made : (s : Session) (ts ps : List ℕ) (c : Chosen) (n : ℕ) → WithinLimits c ts ps → s.opened ≡ true
     → (queue : List Entry) → queue ≡ padded (entries_at s.queue c.rest ps ++ entries_at s.queue c.count ts)
     → (plan : List Assigned) → plan ≡ in_array capacity unassigned (plan_chosen s ts c)
-    → ◌≡◌ {A = TurnAnswered} (record { answer = Accepted; session = record { opened = s.opened; setup = s.setup; queue = queue; len = c.rest + c.count }; plan = plan; taken = c.count; writes = n })
-    (turn_answer Accepted (session_chosen s ts ps c) (plan_chosen s ts c) n)
+    → ◌≡◌ {A = TurnAnswered} (record { answer = Ok tt; session = record { opened = s.opened; setup = s.setup; queue = queue; len = c.rest + c.count }; plan = plan; taken = c.count; writes = n })
+    (turn_answer (Ok tt) (session_chosen s ts ps c) (plan_chosen s ts c) n)
 unfolding turn_answer session_chosen session_of
 turn_made s ts ps c n w o queue q plan p =
     let few = w.few in

@@ -1,7 +1,6 @@
 -- The answers of add and drop, given what a pass over the queue has found: those of the refusal table, whatever else the queue holds.
-use Rattle.std.specs.Prelude.{◌≡◌, Bool, true, false, List, ℕ, length}
-use Rattle.std.proofs.Math.Option.{some}
-use Rattle.requests.specs.declared.Answer.{Answer}
+use Rattle.std.specs.Prelude.{◌≡◌, Bool, true, false, List, ℕ, length, Some, Result, Ok, Err}
+use Rattle.requests.specs.Answers.{Answer}
 use Rattle.requests.specs.declared.Entry.{Entry}
 use Rattle.requests.specs.declared.Refusal.{Refusal}
 use Rattle.requests.specs.declared.Request.{Request}
@@ -22,6 +21,11 @@ AnswersFor opened setup len waiting id call answer =
     (queue : List Entry) → length queue ≡ 16 → outside_ids id ≡ false → waiting ≡ waits id (queued (session_with opened setup len queue))
     → answer ≡ answer_for (refused_by (session_with opened setup len queue) call)
 
+-- the answer of a call that gives a value or is refused
+abbrev pub answer_in : {A : Type 0} → Result A Refusal → Answer
+answer_in (Ok a) = Ok tt
+answer_in (Err x) = Err x
+
 -- the answer to a drop, which goes neither by the setup nor by the number of those waiting
 abbrev pub AnswersDrop : Bool → Bool → ℕ → Answer → Type 0
 AnswersDrop opened waiting id answer = (setup : Setup) (len : ℕ) → AnswersFor opened setup len waiting id (Drop id) answer
@@ -30,4 +34,4 @@ AnswersDrop opened waiting id answer = (setup : Setup) (len : ℕ) → AnswersFo
 abbrev pub RefusesBadId : Bool → Refusal → Type 0
 RefusesBadId opened refusal =
     (session : Session) → session.opened ≡ opened → (id : ℕ) → outside_ids id ≡ true
-    → ((request : Request) → refused_by session (Add id request) ≡ some refusal) × (refused_by session (Drop id) ≡ some refusal)
+    → ((request : Request) → refused_by session (Add id request) ≡ Some refusal) × (refused_by session (Drop id) ≡ Some refusal)

@@ -1,10 +1,9 @@
 -- What a turn makes of the queue: where the entries stand that it takes and that it passes over, and the plan of those taken.
-use Rattle.std.specs.Prelude.{◌≡◌, true, List, [], ◌∷◌, ◌++◌, map, ℕ, ◌+◌, ◌-◌, ◌≤◌, ◌<◌, length, take, get_or, replicate}
+use Rattle.std.specs.Prelude.{◌≡◌, true, List, [], ◌∷◌, ◌++◌, map, ℕ, ◌+◌, ◌-◌, ◌≤◌, ◌<◌, length, take, get_or, replicate, Option, None, Some, Result, Ok, Err}
 use Rattle.requests.specs.declared.Setup.{Setup}
 use Rattle.requests.specs.declared.Request.{Request}
 use Rattle.requests.specs.declared.Entry.{Entry}
 use Rattle.requests.specs.declared.Refusal.{Refusal}
-use Rattle.requests.specs.declared.Answer.TheVariants.{Accepted, Refused}
 use Rattle.plans.specs.Search.{first_plan}
 use Rattle.plans.specs.Parts.{usable_count}
 use Rattle.search.specs.Rows.{rows_from}
@@ -14,6 +13,7 @@ use Rattle.sessions.specs.declared.Session.{Session}
 use Rattle.sessions.specs.Turns.{requests_of, taken, passed, assign}
 use Rattle.sessions.specs.Sessions.{vacant, session_of, turn_answer, turn_of}
 use Rattle.planner.specs.declared.Chosen.{Chosen}
+use Rattle.planner.specs.declared.Extended.{Extended}
 use Rattle.planner.specs.declared.Outcome.{Outcome}
 
 -- a list in an array of n places: d stands in those past its end
@@ -32,6 +32,11 @@ pub record WithinLimits (c : Chosen) (ts ps : List ℕ) : Type 0 where
   pub all : c.rest + c.count ≤ 16
   pub taken_inside : (j : ℕ) → j < c.count → get_or ts j 0 < 16
   pub passed_inside : (j : ℕ) → j < c.rest → get_or ps j 0 < 16
+
+-- the number of the plan that is found, 0 where there is none
+abbrev pub code_in : Option Extended → ℕ
+code_in None = 0
+code_in (Some found) = found.code
 
 -- the search with one request more, behind those of the first rows: its answer, and the rows that it leaves, which have the request where
 -- there is a plan
@@ -64,13 +69,13 @@ planned code es = assign es (places_from code 0 (requests_of es))
 abbrev pub plan_chosen : Session → List ℕ → Chosen → List Assigned
 plan_chosen s ts c = planned c.code (entries_at s.queue c.count ts)
 
--- a turn that is refused, and chooses nothing
-unfoldable pub refused_with : Refusal → Outcome
-refused_with x = record { answer = Refused x; chosen = record { code = 0; count = 0; rest = 0 }; writes = 0 }
+-- an accepted turn with a slice of this length has the session and the plan of its choice
+pub record Takes (s : Session) (room : ℕ) (ts ps : List ℕ) (o : Outcome) : Type 0 where
+  pub within : WithinLimits o.chosen ts ps
+  pub opened : s.opened ≡ true
+  pub accepted : turn_answer (Ok tt) (session_chosen s ts ps o.chosen) (plan_chosen s ts o.chosen) o.writes ≡ turn_of s room
 
 -- what a turn with a slice of this length does: it is accepted with the session and the plan of its choice, or refused
-pub record Settled (s : Session) (room : ℕ) (ts ps : List ℕ) (o : Outcome) : Type 0 where
-  pub within : o.answer ≡ Accepted → WithinLimits o.chosen ts ps
-  pub opened : o.answer ≡ Accepted → s.opened ≡ true
-  pub accepted : o.answer ≡ Accepted → turn_answer Accepted (session_chosen s ts ps o.chosen) (plan_chosen s ts o.chosen) o.writes ≡ turn_of s room
-  pub refused : (x : Refusal) → o.answer ≡ Refused x → (o ≡ refused_with x) × (turn_answer (Refused x) s [] 0 ≡ turn_of s room)
+abbrev pub Settled : Session → ℕ → List ℕ → List ℕ → Result Outcome Refusal → Type 0
+Settled s room ts ps (Ok o) = Takes s room ts ps o
+Settled s room ts ps (Err x) = turn_answer (Err x) s [] 0 ≡ turn_of s room

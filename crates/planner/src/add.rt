@@ -1,12 +1,12 @@
 // add: a request enters the queue at the back.
-ghost use Rattle.std.specs.Prelude.{◌≡◌, ◌∷◌, []};
+ghost use Rattle.std.specs.Prelude.{◌≡◌, ◌∷◌, [], ℕ};
 ghost use Rattle.plans.specs.Search.{has_plan_lem};
 ghost use Rattle.sessions.specs.Calls.{Add};
 ghost use Rattle.sessions.specs.Sessions.{add_of};
 ghost use Rattle.planner.specs.Answering.{AnswersFor};
 
 use crate::ids::{bad_id_refusal, outside_ids};
-use crate::queue::{bounded, vacant};
+use crate::queue::{bounded, place_of, vacate};
 use checks::check::request_refusal;
 use checks::rules::has_rules;
 use requests::{Answer, Entry, Refusal, Request, Setup};
@@ -32,40 +32,30 @@ pub fn plans_alone(setup: Setup, request: Request) -> bool
     plan_unruled(setup, &rows, 1) != 0
 }
 
-// The answer to an add of an id, by the refusal table, told whether it is waiting.
+// The answer to an add of an id, whichever it is, by the refusal table, told whether it is waiting.
 #[tactic(auto, unfolding(requests::specs::Refusals::answer_for, sessions::specs::Sessions::queue_limit, sessions::specs::Sessions::queued))]
-pub fn add_answer(
-    opened: bool,
-    setup: Setup,
-    len: usize,
-    waiting: bool,
-    id: u64,
-    request: Request,
-) -> Answer
-    ensures { AnswersFor opened setup len waiting id (Add id request) result }
+pub fn add_answer(opened: bool, setup: Setup, len: usize, waiting: bool, request: Request) -> Answer
+    ensures { (id : ℕ) → AnswersFor opened setup len waiting id (Add id request) result }
 {
     if !opened {
-        return Answer::Refused(Refusal::CallOrder);
+        return Err(Refusal::CallOrder);
     }
     if waiting {
-        return Answer::Refused(Refusal::IdWaiting);
+        return Err(Refusal::IdWaiting);
     }
-    let checked = request_refusal(setup, request);
-    if let Answer::Refused(refusal) = checked {
-        return Answer::Refused(refusal);
-    }
+    request_refusal(setup, request)?;
     if !plans_alone(setup, request) {
-        return Answer::Refused(Refusal::NoPlanAlone);
+        return Err(Refusal::NoPlanAlone);
     }
     if QUEUE_LIMIT <= len {
-        return Answer::Refused(Refusal::QueueFull);
+        return Err(Refusal::QueueFull);
     }
-    Answer::Accepted
+    Ok(())
 }
 
 // Places a request with its id at the back of the queue.
-// The queue is looked through and changed here, in one copy: a call that indexes it makes a copy of its own.
-// The setup is read before the loops: behind them it costs a call by itself some 100 instructions more.
+// The queue is looked through and changed here, in one copy.
+// The setup is read first: behind the look it costs a call by itself some 100 instructions more.
 #[tactic(auto, unfolding(sessions::specs::Sessions::add_of, sessions::specs::Sessions::queued))]
 pub fn add(session: Session, id: u64, request: Request) -> Answered
     ensures { result ≡ add_of session id request }
@@ -73,31 +63,19 @@ pub fn add(session: Session, id: u64, request: Request) -> Answered
     let opened = session.opened;
     if outside_ids(id) {
         let refusal = bad_id_refusal(opened);
-        let answer = Answer::Refused(refusal);
+        let answer = Err(refusal);
         return Answered { answer, session };
     }
     let setup = session.setup;
     let n = bounded(session.len);
     let mut queue = session.queue;
-    let mut at = 0;
-    while at < n {
-        let entry = queue[at];
-        if id == entry.id {
-            break;
-        }
-        at += 1;
-    }
-    let answer = add_answer(opened, setup, session.len, at < n, id, request);
+    let waiting = place_of(&queue[..n], id).is_some();
+    let answer = add_answer(opened, setup, session.len, waiting, request);
     let mut len = session.len;
-    if let Answer::Accepted = answer {
+    if let Ok(()) = answer {
         queue[n] = Entry { id, request };
-        let empty = vacant();
-        let mut k = n + 1;
-        while k < QUEUE_LIMIT {
-            queue[k] = empty;
-            k += 1;
-        }
         len = n + 1;
+        vacate(&mut queue[len..]);
     }
     let session = Session {
         opened,

@@ -1,36 +1,34 @@
 -- The session of a head and the arrays: its queue, and what an accepted or a refused call makes of it. Assumes nothing.
 --     in-size, in-queued   the length of its array, and its queue
 --     in-after             an opened session whose queue the arrays hold
---     found-first          whether an id waits, by its first place
-use mathlib.Core.Path.{◌≡◌, ap, sym, ◌∙◌}
-use mathlib.Core.Bool.{Bool, true, false}
-use mathlib.Core.List.{List, append-nil}
-use mathlib.Core.Option.{Option}
-use Prim.Native.Nat.{ℕ, zero, suc, ◌+◌, ◌≤◌, ◌<◌, min}
-use native.Mathlib.Decide.{dec_le, dec_lt}
-use native.Mathlib.Numerals.{add-one}
+--     placed-..            the first place of an id
+use mathlib.Core.Path.{◌≡◌, refl, ap, sym, ◌∙◌}
+use mathlib.Core.Bool.{Bool, true, false, cond, not}
+use mathlib.Core.List.{List, [], ◌∷◌, map, append-nil}
+use Prim.Native.Nat.{ℕ, ◌+◌, ◌≤◌, ◌<◌, min}
+use native.Mathlib.Decide.{dec_le}
 use native.Mathlib.Omega.{arith}
-use borrow.Author.Tests.{lt-ltb, le-ltb}
-use lib.Dec.{ltb}
-use lib.ListN.{length, take, get_or, length-take, length-append, length-replicate}
-use lib.Seq.{take_all, length-take-le}
-use Rattle.requests.specs.declared.Answer.{Answer}
-use Rattle.requests.specs.declared.Answer.TheVariants.{Accepted, Refused}
+use lib.Dec.{eqb}
+use lib.ListN.{length, take, length-map, length-take, length-append, length-replicate}
+use lib.Seq.{take_all, take-take, length-take-le}
+use Rattle.std.specs.List.{position, position_or_len, take-map}
+use Rattle.std.specs.Prelude.{Option, Some, Ok, Err}
+use Rattle.requests.specs.Answers.{Answer}
 use Rattle.requests.specs.declared.Entry.{Entry}
 use Rattle.requests.specs.declared.Refusal.{Refusal}
 use Rattle.requests.specs.declared.Setup.{Setup}
 use Rattle.requests.specs.Choice.{pick}
 use Rattle.requests.specs.Refusals.{answer_for}
 use Rattle.requests.proofs.Windows.{take_min}
-use Rattle.sessions.specs.Calls.{waits}
-use Rattle.sessions.specs.Sessions.{queue_limit, vacant, queued, padded, session_of, answered}
+use Rattle.sessions.specs.Plain.{removed}
+use Rattle.sessions.specs.Sessions.{queue_limit, queued, padded, session_of, answered}
 use Rattle.sessions.specs.declared.Session.{Session}
 use Rattle.sessions.proofs.TableAnswers.{answered_refused, answered_accepted}
-use Rattle.planner.proofs.Queues.{Unmet, unmet_none, unmet_next, met, never_met, padded_front}
-use Rattle.queue_rows.specs.Rows.{Sized, queue_in, FirstPlace}
+use Rattle.planner.proofs.Queues.{bears, placed_kept, padded_front}
+use Rattle.queue_rows.specs.Rows.{Sized, queue_in}
 use Rattle.queue_rows.specs.Heads.{places, session_in, answered_in, AnswersIn}
 use Rattle.queue_rows.specs.declared.Head.{Head}
-use Rattle.queue_rows.proofs.Places.{queue_length, id_is}
+use Rattle.queue_rows.proofs.Places.{queue_length, ids_are}
 
 -- ---- the queue of the session
 
@@ -91,48 +89,42 @@ in_places h ids rows n e = rw (take_min (queue_in ids rows) (places h) n (rw (qu
 
 -- ---- an id in the queue
 
--- one place more without the id
-pub first_next : (ids : List ℕ) (id at : ℕ) → ((j : ℕ) → j < at → id ≡ get_or ids j 0 → ⊥) → (id ≡ get_or ids at 0 → ⊥) → (j : ℕ) → j < at + 1 → id ≡ get_or ids j 0 → ⊥
-first_next ids id at before here j h e = go (dec_lt j at)
-  where
-    go : Dec (j < at) → ⊥
-    go (yes l) = before j l e
-    go (no l) = let same : j ≡ at = let g = l in omega arith in here (rw same at e)
+-- its place among the ids is its place among the entries
+module _ {A : Type 0} (f : A → ℕ) (p : ℕ → Bool) where
+  place_mapped : (l : List A) → position_or_len p (map f l) ≡ position_or_len (λ (x : A). p (f x)) l
+  place_mapped [] = refl
+  place_mapped (x ∷ l) = ap (λ (n : ℕ). cond (not (p (f x))) (1 + n) 0) (place_mapped l)
 
-module _ (ids rows : List ℕ) (len n id at : ℕ) (bound : n ≡ min len 16) (first : FirstPlace ids n id at) where
-  abbrev q : List Entry
-  q = queue_in ids rows
+  pub position_mapped : (l : List A) → position p (map f l) ≡ position (λ (x : A). p (f x)) l
+  position_mapped l = rw (place_mapped l, length-map)
 
-  upto : (k : ℕ) → k ≤ at → Unmet q len id k
-  upto zero h = unmet_none q len id
-  upto (suc k) h =
-      rw (← add-one k)
-      (unmet_next (upto k (omega arith)) vacant (omega (arith, first.within)) (omega (arith, first.within, queue_length ids rows))
-      (λ e. first.before k (omega arith) (e ∙ id_is ids rows k (omega (arith, first.within)))))
+module _ (ids rows : List ℕ) (size : Sized ids rows) (n id : ℕ) where
+  pub placed_alike : position (λ (x : ℕ). eqb id x) (take n ids) ≡ position (bears id) (take n (queue_in ids rows))
+  placed_alike =
+      ap (λ (l : List ℕ). position (λ (x : ℕ). eqb id x) (take n l)) (sym (ids_are ids rows size))
+      ∙ ap (position (λ (x : ℕ). eqb id x)) (take-map (λ (e : Entry). e.id) n (queue_in ids rows))
+      ∙ position_mapped (λ (e : Entry). e.id) (λ (x : ℕ). eqb id x) (take n (queue_in ids rows))
 
-  pub first_unmet : Unmet q len id at
-  first_unmet = upto at (omega arith)
-
-  pub found_first : ltb at n ≡ waits id (take len q)
-  found_first = go (dec_lt at n)
-    where
-      go : Dec (at < n) → ltb at n ≡ waits id (take len q)
-      go (yes h) =
-          lt-ltb at n h
-          ∙ sym (met first_unmet vacant (omega arith) (omega (arith, queue_length ids rows)) (first.here h ∙ sym (id_is ids rows at (omega arith))))
-      go (no h) = le-ltb at n (let g = h in omega arith) ∙ sym (never_met first_unmet vacant (let g = h in omega (arith, queue_length ids rows)))
+  -- no entry before its place is taken out
+  pub placed_kept_in : (at : ℕ) → position (λ (x : ℕ). eqb id x) (take n ids) ≡ Some at
+      → (at < n) × (removed id (take at (queue_in ids rows)) ≡ take at (queue_in ids rows))
+  placed_kept_in at e =
+      let t = placed_kept id (take n (queue_in ids rows)) at (sym placed_alike ∙ e) in
+      let less : at < n = omega (arith, t.0, length-take n (queue_in ids rows)) in
+      let same = take-take at n (queue_in ids rows) (omega arith) in
+      (less, rw same at t.1)
 
 -- ---- a call
 
 module _ (a : Answer) (x : Option Refusal) (is : a ≡ answer_for x) {ids rows : List ℕ} (size : Sized ids rows) where
   -- refused, it leaves all as it is
-  pub call_refused : (h : Head) (new : Session) (y : Refusal) → a ≡ Refused y
+  pub call_refused : (h : Head) (new : Session) (y : Refusal) → a ≡ Err y
       → AnswersIn (answered x (session_in h ids rows) new) ids rows (record { answer = a; head = h })
   unfolding answered_in
   call_refused h new y e = record { size = size; answered = answered_refused a x is (session_in h ids rows) new y e }
 
   -- accepted, it leaves an opened session with the queue in the first places
-  pub call_accepted : (old : Session) (o : Bool) (t : Setup) (n : ℕ) (es : List Entry) → o ≡ true → n ≡ length es → take n (queue_in ids rows) ≡ es → a ≡ Accepted
+  pub call_accepted : (old : Session) (o : Bool) (t : Setup) (n : ℕ) (es : List Entry) → o ≡ true → n ≡ length es → take n (queue_in ids rows) ≡ es → a ≡ Ok tt
       → AnswersIn (answered x old (session_of t es)) ids rows (record { answer = a; head = record { opened = o; setup = t; len = n; trimmed = true } })
   unfolding answered_in
   call_accepted old o t n es opened count front e =

@@ -2,11 +2,12 @@
 --     place-is      the entry at a place of the queue
 --     numbers-put   a place with other numbers is one stored in the queue
 use mathlib.Core.Path.{◌≡◌, ap, sym, ◌∙◌}
-use mathlib.Core.List.{List}
+use mathlib.Core.List.{List, map}
 use Prim.Native.Nat.{ℕ, ◌<◌}
 use native.Mathlib.Decide.{ℕ_discrete}
 use native.Mathlib.Omega.{arith}
-use lib.ListN.{length, get_or, set, length-set}
+use lib.ListN.{length, get_or, set, length-map, length-set}
+use Rattle.std.proofs.lemmas.List.{get_or-map}
 use lib.Seq.{get_or-set_same, get_or-set_other, ext_get_or}
 use Rattle.requests.specs.declared.Entry.{Entry}
 use Rattle.search.specs.Rows.{request_of, request_at, set_row}
@@ -31,6 +32,14 @@ module _ (ids rows : List ℕ) where
   pub request_is : (i : ℕ) → i < 16 → (get_or (queue_in ids rows) i vacant).request ≡ request_at rows i
   unfolding entry_at
   request_is i h = ap (λ (e : Entry). e.request) (place_is 16 i h)
+
+  -- the ids of the entries
+  pub ids_are : Sized ids rows → map (λ (e : Entry). e.id) (queue_in ids rows) ≡ ids
+  ids_are s =
+      let size = length-map (queue_in ids rows) (λ (e : Entry). e.id) in
+      ext_get_or 0 (map (λ (e : Entry). e.id) (queue_in ids rows)) ids (omega (arith, size, queue_length, s.ids_size))
+      (λ j l. let inside : j < 16 = omega (arith, size, queue_length) in
+      get_or-map (λ (e : Entry). e.id) (queue_in ids rows) j vacant 0 (omega (arith, queue_length)) ∙ id_is j inside)
 
 -- ---- an entry put
 

@@ -1,4 +1,5 @@
 -- What a turn answers, and leaves in the arrays: refused before open, otherwise by what is parted. Assumes nothing.
+use Rattle.std.specs.Prelude.{Ok}
 use mathlib.Core.Path.{◌≡◌, refl, ap, sym, ◌∙◌}
 use mathlib.Core.Bool.{true, false}
 use mathlib.Core.List.{List, ◌++◌}
@@ -6,11 +7,9 @@ use Prim.Native.Nat.{ℕ, ◌+◌, ◌≤◌, min}
 use native.Mathlib.Omega.{arith}
 use lib.ListN.{length, take, drop, length-append, length-take}
 use lib.Seq.{take-add, drop_at, take-append_seam, length-take-le}
-use Rattle.requests.specs.declared.Answer.{Answer}
-use Rattle.requests.specs.declared.Answer.TheVariants.{Accepted}
+use Rattle.requests.specs.Answers.{Answer}
 use Rattle.requests.specs.declared.Entry.{Entry}
 use Rattle.requests.specs.Devices.{capacity}
-use Rattle.layouts.specs.declared.WriteAnswer.TheVariants.{Written}
 use Rattle.layouts.specs.declared.Settings.{Settings}
 use Rattle.layouts.specs.Settings.{settings_of}
 use Rattle.layouts.specs.Slices.{Wrote}
@@ -95,7 +94,7 @@ module _ (h : Head) (ids rows out : List ℕ) where
         let e : c.rest + c.count ≡ length ps + length es = closed.count ∙ rw (done.passed_front, taken_entries done) (length-append ps es) in
         omega (arith, e, counted)
 
-    pub turn_opened : h.opened ≡ true → (k : ℕ) {list : List ℕ} → Wrote (writes_of h.setup es) out list (Written k)
+    pub turn_opened : h.opened ≡ true → (k : ℕ) {list : List ℕ} → Wrote (writes_of h.setup es) out list (Ok k)
         → TurnsIn s (length out) after more (taken_turn h.setup n c k) × (list ≡ turn_slice s out)
     unfolding session_in turned turn_answer capacity
     turn_opened opened k {list} wrote =
@@ -110,7 +109,7 @@ module _ (h : Head) (ids rows out : List ℕ) where
                 ∙ ap (λ (x : TurnAnswered). x.session) t.0;
             plan =
                 rw (stands_behind (queue_in after more) ps es c.rest c.count (omega (arith, queue_length after more, all, bound)) front_size after_is)
-                (taken_plan done ∙ sym (plan_in_lem Accepted _ (assign es (places_of h.setup es)) k) ∙ ap plan_of t.0);
+                (taken_plan done ∙ sym (plan_in_lem (Ok tt) _ (assign es (places_of h.setup es)) k) ∙ ap plan_of t.0);
             writes = ap (λ (x : TurnAnswered). x.writes) t.0;
             few = omega (arith, few, counted);
             inside = omega (arith, all, bound);

@@ -1,7 +1,6 @@
 -- The session of a head and the arrays that hold its queue, and what the calls make of them.
-use Rattle.std.specs.Prelude.{◌≡◌, true, List, ℕ, ◌+◌, ◌≤◌, take, drop}
+use Rattle.std.specs.Prelude.{◌≡◌, true, List, ℕ, ◌+◌, ◌≤◌, take, drop, Ok, Err}
 use Rattle.requests.specs.Choice.{pick}
-use Rattle.requests.specs.declared.Answer.TheVariants.{Accepted, Refused}
 use Rattle.requests.specs.declared.Refusal.TheVariants.{CallOrder}
 use Rattle.requests.specs.declared.Setup.{Setup}
 use Rattle.planner.specs.declared.Chosen.{Chosen}
@@ -33,13 +32,13 @@ pub record AnswersIn (a : Answered) (ids rows : List ℕ) (r : HeadAnswered) : T
 
 -- the answer to a turn before open
 abbrev pub closed_turn : Head → TurnTaken
-closed_turn h = record { answer = Refused CallOrder; head = h; code = 0; front = 0; taken = 0; writes = 0 }
+closed_turn h = record { answer = Err CallOrder; head = h; code = 0; front = 0; taken = 0; writes = 0 }
 
 -- the answer to a turn that takes these of a queue of n, with so many writes: all stay in the queue
 abbrev pub taken_turn : Setup → ℕ → Chosen → ℕ → TurnTaken
 taken_turn s n c writes =
     record {
-      answer = Accepted;
+      answer = Ok tt;
       head = record { opened = true; setup = s; len = n; trimmed = true };
       code = c.code;
       front = c.rest;

@@ -1,5 +1,5 @@
 -- A queue in two arrays: the ids of its entries, and their requests as rows of four numbers.
-use Rattle.std.specs.Prelude.{◌≡◌, List, ℕ, ◌≤◌, ◌<◌, length, take, get_or}
+use Rattle.std.specs.Prelude.{◌≡◌, List, ℕ, length, take, get_or}
 use Rattle.requests.specs.declared.Entry.{Entry}
 use Rattle.search.specs.Rows.{request_at}
 use Rattle.layouts.specs.Layout.{tabulate}
@@ -25,12 +25,6 @@ pub record Sized (ids rows : List ℕ) : Type 0 where
 pub record Holding (ids rows : List ℕ) (q : List Entry) : Type 0 where
   pub size : Sized ids rows
   pub queue : queue_in ids rows ≡ q
-
--- the first of the first n places that has the id, or n
-pub record FirstPlace (ids : List ℕ) (n id at : ℕ) : Type 0 where
-  pub within : at ≤ n
-  pub before : (j : ℕ) → j < at → id ≡ get_or ids j 0 → ⊥
-  pub here : at < n → id ≡ get_or ids at 0
 
 -- the first k places are these entries, and no more
 pub record ClosesUp (q : List Entry) (ids rows : List ℕ) (k : ℕ) : Type 0 where

@@ -26,17 +26,17 @@ pub fn add(
     if outside_ids(id) {
         let refusal = bad_id_refusal(opened);
         return HeadAnswered {
-            answer: Answer::Refused(refusal),
+            answer: Err(refusal),
             head,
         };
     }
     let setup = head.setup;
     let n = bounded(head.len);
-    let at = place_of(ids, n, id);
-    let answer = add_answer(opened, setup, head.len, at < n, id, request);
+    let waiting = place_of(&ids[..n], id).is_some();
+    let answer = add_answer(opened, setup, head.len, waiting, request);
     match answer {
-        Answer::Refused(_) => HeadAnswered { answer, head },
-        Answer::Accepted => {
+        Err(_) => HeadAnswered { answer, head },
+        Ok(()) => {
             put_entry(ids, rows, n, id, request);
             let next = Head {
                 opened,

@@ -1,19 +1,18 @@
 // drop: a request leaves the queue.
-ghost use Rattle.std.specs.Prelude.{◌≤◌, take};
+ghost use Rattle.std.specs.Prelude.{◌≡◌, ◌≤◌, take};
 ghost use Rattle.sessions.specs.Plain.{removed};
 ghost use Rattle.sessions.specs.Sessions.{drop_of};
-ghost use Rattle.queue_rows.specs.Rows.{Sized, queue_in, FirstPlace, ClosesUp};
+ghost use Rattle.queue_rows.specs.Rows.{Sized, queue_in, ClosesUp};
 ghost use Rattle.queue_rows.specs.Heads.{session_in, AnswersIn};
 
 use crate::rows::{copy_entry, place_of};
 use crate::{Head, HeadAnswered, QUEUE_NUMBERS};
-use planner::drop::drop_answer;
+use planner::drop::drop_place;
 use planner::ids::{bad_id_refusal, outside_ids};
 use planner::queue::bounded;
-use requests::Answer;
 use sessions::QUEUE_LIMIT;
 
-// The entries without the id close up in place, from where it is found first. Answers how many they are.
+// The entries without the id, which none of the first `at` bears, close up in place. Answers how many they are.
 fn close_up(
     ids: &mut [u64; QUEUE_LIMIT],
     rows: &mut [u64; QUEUE_NUMBERS],
@@ -23,18 +22,17 @@ fn close_up(
 ) -> usize
     requires n_bound { n ≤ 16 }
     requires sized { Sized ids.old rows.old }
-    requires first_place { FirstPlace ids.old n id at }
+    requires at_in_bounds { at ≤ n }
+    requires kept { removed id (take at (queue_in ids.old rows.old)) ≡ take at (queue_in ids.old rows.old) }
     ensures { ClosesUp (removed id (take n (queue_in ids.old rows.old))) ids.new rows.new result }
 {
     let mut len = at;
-    let mut i = at;
-    while i < n {
+    for i in at..n {
         let here = ids[i];
         if id != here {
             copy_entry(ids, rows, i, len);
             len += 1;
         }
-        i += 1;
     }
     len
 }
@@ -53,17 +51,18 @@ pub fn drop_request(
     if outside_ids(id) {
         let refusal = bad_id_refusal(opened);
         return HeadAnswered {
-            answer: Answer::Refused(refusal),
+            answer: Err(refusal),
             head,
         };
     }
     let setup = head.setup;
     let n = bounded(head.len);
-    let at = place_of(ids, n, id);
-    let answer = drop_answer(opened, at < n, id);
-    match answer {
-        Answer::Refused(_) => HeadAnswered { answer, head },
-        Answer::Accepted => {
+    match drop_place(opened, place_of(&ids[..n], id)) {
+        Err(refusal) => HeadAnswered {
+            answer: Err(refusal),
+            head,
+        },
+        Ok(at) => {
             let len = close_up(ids, rows, at, n, id);
             let next = Head {
                 opened,
@@ -71,7 +70,10 @@ pub fn drop_request(
                 len,
                 trimmed: true,
             };
-            HeadAnswered { answer, head: next }
+            HeadAnswered {
+                answer: Ok(()),
+                head: next,
+            }
         }
     }
 }

@@ -1,5 +1,5 @@
-// A session whose queue lies in two lent arrays of numbers, changed in place by the calls. A session by value is copied whole wherever it
-// is handed on, and a reference to a struct is not covered by the borrow checker; arrays of numbers are.
+// A session whose queue lies in two lent arrays of numbers, changed in place by the calls: a session by value is copied whole wherever it is
+// handed on.
 #![tactic(auto)]
 
 use requests::{Answer, Setup};
@@ -33,6 +33,7 @@ pub struct HeadAnswered {
     pub head: Head,
 }
 
+// Form: numbers beside the answer, which are 0 where it refuses: the definition `TurnsIn` reads them off a refused turn too.
 // A turn's answer, and the head afterwards: the number of the plan of the entries taken, which stand from `front` on, how many they are,
 // and the number of writes.
 #[derive(Clone, Copy)]

@@ -5,7 +5,7 @@ ghost use Rattle.queue_rows.specs.Heads.{session_in, answered_in};
 
 use crate::{Head, HeadAnswered};
 use checks::devices::setup_of;
-use requests::{Answer, Opened, Opening, Refusal};
+use requests::{Answer, Opening, Refusal};
 
 // Opens a session, once. The arrays stay as they are: of an opened session none of their places counts.
 #[tactic(auto, unfolding(crate::specs::Heads::answered_in, crate::specs::Heads::session_in))]
@@ -15,16 +15,16 @@ pub fn open(head: Head, opening: Opening) -> HeadAnswered
     let opened = head.opened;
     if opened {
         return HeadAnswered {
-            answer: Answer::Refused(Refusal::CallOrder),
+            answer: Err(Refusal::CallOrder),
             head,
         };
     }
     match setup_of(opening) {
-        Opened::Refused(refusal) => HeadAnswered {
-            answer: Answer::Refused(refusal),
+        Err(refusal) => HeadAnswered {
+            answer: Err(refusal),
             head,
         },
-        Opened::With(setup) => {
+        Ok(setup) => {
             let next = Head {
                 opened: true,
                 setup,
@@ -32,7 +32,7 @@ pub fn open(head: Head, opening: Opening) -> HeadAnswered
                 trimmed: true,
             };
             HeadAnswered {
-                answer: Answer::Accepted,
+                answer: Ok(()),
                 head: next,
             }
         }

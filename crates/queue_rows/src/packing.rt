@@ -16,12 +16,9 @@ pub fn pack(session: Session, ids: &mut [u64; QUEUE_LIMIT], rows: &mut [u64; QUE
     ensures rows_after { session_in result ids.new rows.new ≡ session }
     ensures sized { Sized ids.new rows.new }
 {
-    let mut i = 0;
-    while i < QUEUE_LIMIT {
+    for i in 0..QUEUE_LIMIT {
         let entry = session.queue[i];
-        let request = entry.request;
-        put_entry(ids, rows, i, entry.id, request);
-        i += 1;
+        put_entry(ids, rows, i, entry.id, entry.request);
     }
     let opened = session.opened;
     let setup = session.setup;
@@ -51,14 +48,11 @@ pub fn unpack(head: Head, ids: &[u64; QUEUE_LIMIT], rows: &[u64; QUEUE_NUMBERS])
 {
     let n = places_of(head);
     let mut queue = [vacant(); QUEUE_LIMIT];
-    let mut i = 0;
-    while i < n {
-        let request = request_in(rows, i);
+    for (i, id) in ids[..n].iter().enumerate() {
         queue[i] = Entry {
-            id: ids[i],
-            request,
+            id: *id,
+            request: request_in(rows, i),
         };
-        i += 1;
     }
     let opened = head.opened;
     let setup = head.setup;

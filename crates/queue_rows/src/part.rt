@@ -39,14 +39,17 @@ pub fn part(
     for at in 0..n {
         let next = request_in(rows, at);
         let found = plan_with(setup, usable, counters, left, code, taken_rows, count, next);
-        if found.code == 0 {
-            copy_entry(ids, rows, at, rest);
-            rest += 1;
-        } else {
-            code = found.code;
-            left = found.left;
-            taken_ids[count] = ids[at];
-            count += 1;
+        match found {
+            None => {
+                copy_entry(ids, rows, at, rest);
+                rest += 1;
+            }
+            Some(extended) => {
+                code = extended.code;
+                left = extended.left;
+                taken_ids[count] = ids[at];
+                count += 1;
+            }
         }
     }
     Chosen { code, count, rest }
@@ -66,14 +69,12 @@ pub fn put_behind(
     requires sized { Sized ids.old rows.old }
     ensures { ClosesUp (take front (queue_in ids.old rows.old) ++ entries_in count taken_ids.now taken_rows.now) ids.new rows.new (front + count) }
 {
-    let mut j = 0;
-    while j < count {
+    for j in 0..count {
         let id = taken_ids[j];
         let kind = taken_rows[j * 4];
         let a = taken_rows[j * 4 + 1];
         let b = taken_rows[j * 4 + 2];
         let c = taken_rows[j * 4 + 3];
         put_numbers(ids, rows, front + j, id, kind, a, b, c);
-        j += 1;
     }
 }

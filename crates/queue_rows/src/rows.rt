@@ -1,8 +1,8 @@
 // A queue in two arrays: the ids of its entries, and their requests as rows of four numbers.
-ghost use Rattle.std.specs.Prelude.{◌≡◌, ◌<◌, ◌≤◌, set, get_or};
+ghost use Rattle.std.specs.Prelude.{◌≡◌, ◌==◌, ◌<◌, position, set, get_or};
 ghost use Rattle.search.specs.Rows.{request_of, request_at};
 ghost use Rattle.sessions.specs.Sessions.{vacant};
-ghost use Rattle.queue_rows.specs.Rows.{queue_in, Sized, Holding, FirstPlace};
+ghost use Rattle.queue_rows.specs.Rows.{queue_in, Sized, Holding};
 
 use crate::QUEUE_NUMBERS;
 use requests::Request;
@@ -81,17 +81,15 @@ pub fn copy_entry(
     put_numbers(ids, rows, to, id, kind, a, b, c);
 }
 
-// The first of the first n places that has the id, or n.
-pub fn place_of(ids: &[u64; QUEUE_LIMIT], n: usize, id: u64) -> usize
-    requires { n ≤ 16 }
-    ensures { FirstPlace ids.now n id result }
+// Where the first of these ids stands that is the id.
+// Form: a loop; `position` was tried, and costs a drop one or two instructions more for each id that it looks at.
+pub fn place_of(ids: &[u64], id: u64) -> Option<usize>
+    ensures { result ≡ position (λ x. id == x) ids.now }
 {
-    let mut at = 0;
-    while at < n {
-        if id == ids[at] {
-            return at;
+    for (i, known) in ids.iter().enumerate() {
+        if id == *known {
+            return Some(i);
         }
-        at += 1;
     }
-    n
+    None
 }

@@ -20,7 +20,7 @@ fn closed_turn(head: Head) -> TurnTaken
     ensures { result ≡ closed_turn head }
 {
     TurnTaken {
-        answer: Answer::Refused(Refusal::CallOrder),
+        answer: Err(Refusal::CallOrder),
         head,
         code: 0,
         front: 0,
@@ -40,7 +40,7 @@ fn taken_turn(setup: Setup, n: usize, chosen: Chosen, writes: usize) -> TurnTake
         trimmed: true,
     };
     TurnTaken {
-        answer: Answer::Accepted,
+        answer: Ok(()),
         head: next,
         code: chosen.code,
         front: chosen.rest,

@@ -5,12 +5,12 @@ use Rattle.planner.proofs.open.open.Goals as goal
 pub returns-then-opened : goal.returns-then-opened
 returns-then-opened c = let a = c.args in open_order a.session a.opening c.if-opened.true
 
-pub returns-in-Refused : goal.returns-in-Refused
-returns-in-Refused c =
+pub returns-in-Err : goal.returns-in-Err
+returns-in-Err c =
     let a = c.args in
-    open_refused a.session a.opening _ c.if-opened.false (sym c.setup_of.ensures ∙ c.in-Refused.is)
+    open_refused a.session a.opening _ c.if-opened.false (sym c.setup_of.ensures ∙ c.in-Err.is)
 
-pub returns-in-With : goal.returns-in-With
-returns-in-With c =
+pub returns-in-Ok : goal.returns-in-Ok
+returns-in-Ok c =
     let a = c.args in
-    rw c.opened_with.ensures (open_with_lem a.session a.opening _ c.if-opened.false (sym c.setup_of.ensures ∙ c.in-With.is))
+    rw c.opened_with.ensures (open_with_lem a.session a.opening _ c.if-opened.false (sym c.setup_of.ensures ∙ c.in-Ok.is))

@@ -7,13 +7,13 @@ pub with_counter-requires : goal.with_counter-requires
 with_counter-requires c =
     let a = c.args in
     let few = c.requires.count_bound.0 in
-    (omega (arith, few), beside_few (c.counter_beside-counter.ensures c.if-counter-lt64.true), code_few a.setup a.rows.now a.count a.code c.requires.code_value.0 (omega (arith, few)))
+    (omega (arith, few), beside_few (rw c.in-Some.is at c.counter_beside-counter.ensures), code_few a.setup a.rows.now a.count a.code c.requires.code_value.0 (omega (arith, few)))
 
-pub returns-then-counter-lt64 : goal.returns-then-counter-lt64
-returns-then-counter-lt64 c =
+pub returns-in-Some : goal.returns-in-Some
+returns-in-Some c =
     let a = c.args in
     searched_extended a.setup a.rows.now a.count a.request _ c.put_request.ensures.rows_after c.put_request.ensures.at_after c.requires.count_bound.1
-    a.code c.requires.code_value.0 c.requires.code_value.1 _ (c.counter_beside-counter.ensures c.if-counter-lt64.true) _ c.with_counter.ensures
+    a.code c.requires.code_value.0 c.requires.code_value.1 _ (rw c.in-Some.is at c.counter_beside-counter.ensures) _ c.with_counter.ensures
 
 pub returns-then-has_rules : goal.returns-then-has_rules
 returns-then-has_rules c =

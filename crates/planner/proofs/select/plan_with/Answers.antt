@@ -1,4 +1,4 @@
-use mathlib.Core.Path.{◌≡◌, refl, ap, ◌∙◌}
+use mathlib.Core.Path.{◌≡◌, ap, ◌∙◌}
 use mathlib.Core.List.{[], ◌∷◌, ◌++◌}
 use native.Mathlib.Omega.{arith}
 use Prim.Native.Nat.{ℕ, ◌<◌}
@@ -10,13 +10,10 @@ use Rattle.plans.proofs.PlanLengthHolds.{plan_length}
 use Rattle.planner.proofs.Searching.{searched_none, searched_unreached}
 use Rattle.planner.proofs.select.plan_with.Goals as goal
 
-nothing : {A : Type 0} → (◌≡◌ {A = ℕ} 0 0 → ⊥) → A
-nothing exists = absurd (exists refl)
-
 pub returns-then-usable-count : goal.returns-then-usable-count
 returns-then-usable-count c =
     let a = c.args in
-    record { searched = searched_none a.setup a.rows.now a.count a.request (omega (arith, c.requires.usable_value.0)) c.requires.usable_value.2; left_value_2 = nothing }
+    record { searched = searched_none a.setup a.rows.now a.count a.request (omega (arith, c.requires.usable_value.0)) c.requires.usable_value.2; left_value_2 = tt }
 
 pub left_by-left_then-requires : goal.left_by-left_then-requires
 unfolding capacity
@@ -34,12 +31,20 @@ returns-then-none_left c =
     let l = c.none_left.ensures c.if-none_left.true in
     let left : a.left ≡ left_of s (rows_from a.rows.now 0 a.count) = c.requires.left_value l.1 in
     let gone : left_of s (rows_from a.rows.now 0 a.count ++ (a.request ∷ [])) ≡ 0 = rw (reach.grows, ← left, ← left-then) l.0 in
-    record { searched = searched_unreached s a.rows.now a.count a.request l.1 gone c.requires.usable_value.2; left_value_2 = nothing }
+    record { searched = searched_unreached s a.rows.now a.count a.request l.1 gone c.requires.usable_value.2; left_value_2 = tt }
 
-pub plan_behind-requires : goal.plan_behind-requires
+pub plan_behind-found-requires : goal.plan_behind-found-requires
 unfolding capacity
-plan_behind-requires c =
+plan_behind-found-requires c =
     let few : c.args.count < 8 = let u = plan_length.usable_at_most c.args.setup in
     let d = plan_length.device_at_most c.args.setup.device in
     omega (arith, c.requires.usable_value.0) in
     record { count_bound = (few, c.requires.usable_value.2); code_value = c.requires.code_value }
+
+pub returns-then-found-eq0 : goal.returns-then-found-eq0
+returns-then-found-eq0 c = record { searched = rw c.if-found-eq0.true at c.plan_behind-found.ensures; left_value_2 = tt }
+
+pub returns : goal.returns
+returns c =
+    let left-then : let a = c.args in c.left_by-left_then.result ≡ left_by (counter_count a.setup.device) a.request a.left = c.left_by-left_then.ensures ∙ ap (λ (n : ℕ). left_by n c.args.request c.args.left) c.requires.usable_value.3 in
+    record { searched = c.plan_behind-found.ensures; left_value_2 = (c.if-found-eq0.false, left-then) }

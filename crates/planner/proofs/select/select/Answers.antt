@@ -1,4 +1,4 @@
-use mathlib.Core.Path.{◌≡◌}
+use mathlib.Core.Path.{◌≡◌, refl}
 use Prim.Native.Nat.{◌<◌}
 use native.Mathlib.Omega.{arith}
 use lib.ListN.{length, take, get_or}
@@ -7,7 +7,7 @@ use Rattle.requests.proofs.Windows.{length_mapped, take_next}
 use Rattle.planner.proofs.Selecting.{selected_none, selected_takes, selected_passes, taken_room, left_none, left_takes, left_passes}
 use Rattle.std.proofs.Common.{rules}
 use Rattle.planner.proofs.select.select.Goals as goal
-use Rattle.planner.proofs.select.select.Goals.{then-found-eq0, else-found-eq0}
+use Rattle.planner.proofs.select.select.Goals.{in-None, in-Some}
 
 pub loop-at-init : goal.loop-at-init
 loop-at-init c =
@@ -19,7 +19,7 @@ pub bounds-taken-count : goal.bounds-taken-count
 unfolding vacant
 bounds-taken-count c =
     let room : c.loop-at.count < 8 = let q = c.args.session.queue in
-    (taken_room (take c.loop-at.at q) c.loop-at.invariant.4.rows_taken (get_or q c.loop-at.at vacant) c.plan_with-found.ensures.searched c.if-found-eq0.false).1 in
+    (taken_room (take c.loop-at.at q) c.loop-at.invariant.4.rows_taken (get_or q c.loop-at.at vacant) c.in-Some.ensures.searched c.in-Some.ensures.left_value_2.0).1 in
     let r = room in omega arith
 
 pub loop-at-preserved : goal.loop-at-preserved
@@ -29,23 +29,26 @@ loop-at-preserved c =
     let q = c.args.session.queue in
     let i = c.loop-at.at in
     let next = take_next q i vacant (omega arith) in
-    elim c.if-found-eq0.branch [
-      | then-found-eq0 w ↦
+    elim c.match-found.branch [
+      | in-None w ↦
+          let searched = w.in-None.ensures.searched in
           rw (w.taken-is, w.passed-is, w.left-is, w.code-is, w.count-is, w.rest-is) (
             v.0,
-            c.plan_with-found.ensures.searched.size,
+            searched.size,
             omega arith,
             omega arith,
-            rw next (selected_passes v.4 i c.plan_with-found.ensures.searched w.if-found-eq0.true (omega arith) (omega arith)),
-            rw next (left_passes (take i q) v.4.rows_taken (get_or q i vacant) c.plan_with-found.ensures.searched v.5 w.if-found-eq0.true),
+            rw next (selected_passes v.4 i searched refl (omega arith) (omega arith)),
+            rw next (left_passes (take i q) v.4.rows_taken (get_or q i vacant) searched v.5 refl),
           )
-      | else-found-eq0 w ↦
+      | in-Some w ↦
+          let searched = w.in-Some.ensures.searched in
+          let found = w.in-Some.ensures.left_value_2 in
           rw (w.taken-is, w.passed-is, w.left-is, w.code-is, w.count-is, w.rest-is) (
             v.0,
-            c.plan_with-found.ensures.searched.size,
+            searched.size,
             omega arith,
             omega arith,
-            rw next (selected_takes v.4 i c.plan_with-found.ensures.searched w.if-found-eq0.false (omega arith) (omega arith)),
-            rw next (left_takes (take i q) v.4.rows_taken (get_or q i vacant) c.plan_with-found.ensures.searched v.5 (c.plan_with-found.ensures.left_value_2 w.if-found-eq0.false) w.if-found-eq0.false),
+            rw next (selected_takes v.4 i searched found.0 (omega arith) (omega arith)),
+            rw next (left_takes (take i q) v.4.rows_taken (get_or q i vacant) searched v.5 found.1 found.0),
           )
     ]

@@ -1,9 +1,7 @@
-use Prim.Native.Nat.{◌-◌}
+use mathlib.Core.List.{◌++◌}
+use lib.ListN.{drop}
 use Rattle.planner.proofs.TakingTurns.{Written}
 use Rattle.planner.proofs.turns.take_turns.Given as goal
 
-abbrev pub invariant-loop-i : goal.invariant-loop-i
-invariant-loop-i l = Written l.initial.next l.n l.initial.out l.initial.ends l.next l.at l.i l.out l.ends
-
-abbrev pub decreases-loop-i : goal.decreases-loop-i
-decreases-loop-i l = l.n - l.i
+abbrev pub invariant-loop-end : goal.invariant-loop-end
+invariant-loop-end l = Written l.initial.next l.n l.initial.out l.fn.ends l.next l.at l.end-index l.out (l.end-items ++ drop l.n l.fn.ends)

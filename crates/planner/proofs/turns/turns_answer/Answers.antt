@@ -1,6 +1,6 @@
+use Rattle.std.specs.Prelude.{None, Some}
 use mathlib.Core.Path.{◌≡◌, ap, ◌∙◌}
 use mathlib.Core.Bool.{true, false}
-use mathlib.Core.Option.{none, some}
 use Prim.Native.Nat.{◌*◌}
 use borrow.Author.Tests.{lt-ltb, le-ltb}
 use native.Mathlib.Omega.{arith}
@@ -21,14 +21,14 @@ pub returns-then-not-opened : goal.returns-then-not-opened
 unfolding answer_for
 returns-then-not-opened c =
     let a = c.args in
-    answer_closed a.session (Turns a.n a.room a.places) (some CallOrder) (c.if-not-opened.true) (turns_closed queue_limit a.n a.room a.places)
+    answer_closed a.session (Turns a.n a.room a.places) (Some CallOrder) (c.if-not-opened.true) (turns_closed queue_limit a.n a.room a.places)
 
 pub returns-then-n-gt-TURNS_LIMIT : goal.returns-then-n-gt-TURNS_LIMIT
 unfolding answer_for turns_limit
 returns-then-n-gt-TURNS_LIMIT c =
     let a = c.args in
     let s = a.session in
-    answer_opened s (Turns a.n a.room a.places) (some OutOfRange) (c.if-not-opened.false)
+    answer_opened s (Turns a.n a.room a.places) (Some OutOfRange) (c.if-not-opened.false)
     (turns_many queue_limit s.setup (queued s) a.n a.room a.places (lt-ltb 64 a.n (omega arith)))
 
 pub returns-then-places-n : goal.returns-then-places-n
@@ -37,7 +37,7 @@ returns-then-places-n c =
     let a = c.args in
     let s = a.session in
     let needed = 2 * length (joined (lists_of s.setup a.n (queued s))) in
-    answer_opened s (Turns a.n a.room a.places) (some SliceTooShort) (c.if-not-opened.false)
+    answer_opened s (Turns a.n a.room a.places) (Some SliceTooShort) (c.if-not-opened.false)
     (turns_short queue_limit s.setup (queued s) a.n a.room a.places (le-ltb 64 a.n (omega arith))
     (ap (either (ltb a.room needed)) (lt-ltb a.places a.n (omega arith)) ∙ either_true (ltb a.room needed)))
 
@@ -49,7 +49,7 @@ returns-then-room-numbers_of c =
     let t = late in
     let a = c.args in
     let s = a.session in
-    answer_opened s (Turns a.n a.room a.places) (some SliceTooShort) t.0
+    answer_opened s (Turns a.n a.room a.places) (Some SliceTooShort) t.0
     (turns_short queue_limit s.setup (queued s) a.n a.room a.places t.1
     (rw (lt-ltb a.room (2 * length (joined (lists_of s.setup a.n (queued s)))) (omega (arith, c.numbers_of.ensures)))))
 
@@ -61,6 +61,6 @@ returns c =
     let t = late in
     let a = c.args in
     let s = a.session in
-    answer_opened s (Turns a.n a.room a.places) none t.0
+    answer_opened s (Turns a.n a.room a.places) None t.0
     (turns_accepted queue_limit s.setup (queued s) a.n a.room a.places t.1
     (rw (le-ltb a.room (2 * length (joined (lists_of s.setup a.n (queued s)))) (omega (arith, c.numbers_of.ensures)), t.2)))

@@ -3,7 +3,6 @@ use native.Mathlib.Omega.{arith}
 use Rattle.sessions.specs.Sessions.{vacant}
 use Rattle.planner.proofs.Queues.{closed_first, closed_with, closed_without}
 use Rattle.queue_rows.proofs.Places.{queue_length, id_is}
-use Rattle.queue_rows.proofs.HeadSessions.{first_unmet}
 use Rattle.queue_rows.proofs.drop.close_up.Goals as goal
 use Rattle.queue_rows.proofs.drop.close_up.Goals.{then-id-here, else-id-here}
 
@@ -11,9 +10,8 @@ pub loop-i-init : goal.loop-i-init
 loop-i-init c =
     let a = c.args in
     let few = c.requires.n_bound in
-    let first = c.requires.first_place in
-    let within = first.within in
-    (few, c.requires.sized, within, closed_first (first_unmet a.ids.now a.rows.now a.n a.n a.id a.at (omega arith) first) (omega (arith, queue_length a.ids.now a.rows.now)))
+    let within = c.requires.at_in_bounds in
+    (few, c.requires.sized, within, closed_first c.requires.kept (omega (arith, queue_length a.ids.now a.rows.now)))
 
 pub loop-i-preserved : goal.loop-i-preserved
 loop-i-preserved c =

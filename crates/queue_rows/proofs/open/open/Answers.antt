@@ -1,5 +1,5 @@
+use Rattle.std.specs.Prelude.{Ok}
 use mathlib.Core.Path.{refl, sym, ap, ◌∙◌}
-use Rattle.requests.specs.declared.Answer.TheVariants.{Accepted}
 use Rattle.sessions.specs.declared.Session.{Session}
 use Rattle.sessions.proofs.TableAnswers.{open_order, open_refused, open_with_lem}
 use Rattle.queue_rows.specs.Heads.{session_in, answered_in}
@@ -10,17 +10,17 @@ pub returns-then-opened : goal.returns-then-opened
 unfolding answered_in session_in
 returns-then-opened c = λ ids rows. let a = c.args in open_order (session_in a.head ids rows) a.opening c.if-opened.true
 
-pub returns-in-Refused : goal.returns-in-Refused
+pub returns-in-Err : goal.returns-in-Err
 unfolding answered_in session_in
-returns-in-Refused c =
+returns-in-Err c =
     λ ids rows.
     let a = c.args in
-    open_refused (session_in a.head ids rows) a.opening _ c.if-opened.false (sym c.setup_of.ensures ∙ c.in-Refused.is)
+    open_refused (session_in a.head ids rows) a.opening _ c.if-opened.false (sym c.setup_of.ensures ∙ c.in-Err.is)
 
-pub returns-in-With : goal.returns-in-With
+pub returns-in-Ok : goal.returns-in-Ok
 unfolding answered_in session_in
-returns-in-With c =
+returns-in-Ok c =
     λ ids rows.
     let a = c.args in
-    ap (λ (s : Session). record { answer = Accepted; session = s }) (in_after _ _ 0 ids rows _ refl refl refl)
-    ∙ open_with_lem (session_in a.head ids rows) a.opening _ c.if-opened.false (sym c.setup_of.ensures ∙ c.in-With.is)
+    ap (λ (s : Session). record { answer = Ok tt; session = s }) (in_after _ _ 0 ids rows _ refl refl refl)
+    ∙ open_with_lem (session_in a.head ids rows) a.opening _ c.if-opened.false (sym c.setup_of.ensures ∙ c.in-Ok.is)

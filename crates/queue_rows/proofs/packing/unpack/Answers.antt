@@ -1,6 +1,7 @@
 use mathlib.Core.Path.{◌≡◌, sym, ◌∙◌}
 use native.Mathlib.Omega.{arith}
 use lib.ListN.{take, length-take}
+use lib.Seq.{get_or-take}
 use Rattle.requests.proofs.Windows.{take_next}
 use Rattle.sessions.specs.Sessions.{vacant}
 use Rattle.planner.proofs.Queues.{padded_none, padded_push}
@@ -25,7 +26,7 @@ loop-i-preserved c =
     let is = place_is a.ids.now a.rows.now 16 l.i (omega arith) in (
       v.0,
       omega arith,
-      rw (v.2, c.request_in-request.ensures, take_next q l.i vacant (omega arith), is) (padded_push (take l.i q) l.i _ (sym (length-take l.i q ∙ omega arith)) (omega arith)),
+      rw (v.2, c.request_in.ensures, get_or-take c.places_of-n.result a.ids.now l.i 0 (omega arith), take_next q l.i vacant (omega arith), is) (padded_push (take l.i q) l.i _ (sym (length-take l.i q ∙ omega arith)) (omega arith)),
     )
 
 pub returns : goal.returns
