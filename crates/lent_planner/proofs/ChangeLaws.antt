@@ -1,7 +1,6 @@
 -- What a change makes of the records. Assumes nothing.
 --     changed-in, changed-out     the record of each place afterwards
 --     shifted-ahead               where nothing goes, a record is read `skip` places ahead
---     all-vacated, one-added, one-dropped, none-changed    the changes of open, add and drop
 use mathlib.Core.Path.{◌≡◌, refl, ap, sym, ◌∙◌}
 use mathlib.Core.Logic.{◌⊎◌, inl, inr, ◌≢◌}
 use mathlib.Core.List.{List, [], ◌∷◌}
@@ -16,7 +15,7 @@ use borrow.Author.Tests.{lt-ltb, le-ltb, lt-leb}
 use Rattle.requests.specs.declared.Entry.{Entry}
 use Rattle.requests.specs.Choice.{pick}
 use Rattle.sessions.specs.Sessions.{vacant}
-use Rattle.lent_planner.specs.Changes.{past, past_all_lem, ahead, source, placed, rearranged_from, rearranged, nowhere, shifted, unchanged}
+use Rattle.lent_planner.specs.Changes.{past, past_all_lem, ahead, source, placed, rearranged_from, rearranged, nowhere, shifted}
 use Rattle.lent_planner.specs.declared.Change.{Change}
 
 -- ---- one place
@@ -158,9 +157,3 @@ module _ (from end skip : ℕ) (e : Entry) where
         ∙ placed_fresh c (get_or ys (source c j) vacant) j (rw (shifted_ahead j small) m)
         ∙ ap (λ (k : ℕ). get_or c.fresh (k - end) vacant) (shifted_ahead j small)
         ∙ shifted_fresh (j + skip - end) few
-
--- ---- none
-
-pub none_changed : (ys : List Entry) → rearranged unchanged ys ≡ ys
-unfolding rearranged unchanged shifted rearranged_from
-none_changed ys = refl

@@ -3,7 +3,6 @@
 --     chosen-full                                 nothing more is taken once as many are taken as counters are usable
 --     passed-over                                 a record that leaves no set of counters is passed over
 use mathlib.Core.Path.{◌≡◌, refl, ap, sym, subst, ◌∙◌}
-use mathlib.Core.Logic.{inl}
 use mathlib.Core.List.{List, [], ◌∷◌, ◌++◌, append-nil, append_assoc}
 use Prim.Native.Nat.{ℕ, ◌+◌, ◌-◌, ◌^◌, ◌≤◌, ◌<◌}
 use native.Mathlib.Omega.{arith}
@@ -32,7 +31,7 @@ use Rattle.planner.proofs.Searching.{found_plan}
 use Rattle.planner.proofs.Arrays.{array_push}
 use Rattle.planner.proofs.Assigning.{requests_next}
 use Rattle.lent_planner.specs.Changes.{nowhere}
-use Rattle.lent_planner.specs.Choices.{marks_after, marks, HasChosen, Ready, LeavesNone, Chose, stopped}
+use Rattle.lent_planner.specs.Choices.{marks_after, marks, HasChosen, Ready, LeavesNone, Chose}
 use Rattle.lent_planner.specs.declared.Choice.{Choice}
 use Rattle.lent_planner.proofs.Marks.{marks_takes, marks_passes, marks_count}
 
@@ -65,14 +64,28 @@ chosen_few {s} c =
     let d = plan_length.device_at_most s.device in
     omega (arith, c.taken_usable)
 
--- the choice with one record more, which stands at place i
-unfoldable pub taking_one_lem : Choice → ℕ → ℕ → Entry → List ℕ → ℕ → ℕ → Choice
-taking_one_lem t end i e rows found left =
+-- the same choice with other rows past those taken
+unfoldable pub with_rows : Choice → List ℕ → Choice
+with_rows t rows =
     record {
       setup = t.setup;
       usable = t.usable;
       counters = t.counters;
-      end = end;
+      plan = t.plan;
+      left = t.left;
+      rows = rows;
+      taken = t.taken;
+      at = t.at;
+      count = t.count;
+    }
+
+-- the choice with one record more, which stands at place i
+unfoldable pub taking_one_lem : Choice → ℕ → Entry → List ℕ → ℕ → ℕ → Choice
+taking_one_lem t i e rows found left =
+    record {
+      setup = t.setup;
+      usable = t.usable;
+      counters = t.counters;
       plan = found;
       left = left;
       rows = rows;
@@ -82,13 +95,29 @@ taking_one_lem t end i e rows found left =
     }
 
 module _ {s : Setup} {q : List Entry} {t : Choice} (c : HasChosen s q t) (e : Entry) {next : List ℕ} {found : ℕ} (search : Searched s t.rows t.count e.request next found) where
-  chosen_passes : found ≡ 0 → HasChosen s (q ++ (e ∷ [])) t
-  chosen_passes missing = chosen_same c e (fits_not q c.rows_taken e search missing)
+  chosen_passes : found ≡ 0 → HasChosen s (q ++ (e ∷ [])) (with_rows t next)
+  unfolding with_rows
+  chosen_passes missing =
+      let same = chosen_same c e (fits_not q c.rows_taken e search missing) in
+      record {
+        setup = same.setup;
+        usable = same.usable;
+        counters = same.counters;
+        rows_length = search.size;
+        rows_taken = search.kept ∙ same.rows_taken;
+        plan_found = same.plan_found;
+        plan_some = same.plan_some;
+        left_sets = same.left_sets;
+        taken_array = same.taken_array;
+        taken_count = same.taken_count;
+        taken_usable = same.taken_usable;
+        at_array = same.at_array;
+      }
 
-  chosen_takes : (found ≡ 0 → ⊥) → (end less : ℕ) → less ≡ left_by (counter_count s.device) e.request t.left
-      → HasChosen s (q ++ (e ∷ [])) (taking_one_lem t end (length q) e next found less)
+  chosen_takes : (found ≡ 0 → ⊥) → (less : ℕ) → less ≡ left_by (counter_count s.device) e.request t.left
+      → HasChosen s (q ++ (e ∷ [])) (taking_one_lem t (length q) e next found less)
   unfolding capacity taking_one_lem
-  chosen_takes exists end less w =
+  chosen_takes exists less w =
       let f = fits_behind q c.rows_taken e search exists in
       let yes = (taking s).taken_fits q e f in
       let room = taken_room q c.rows_taken e search exists in
@@ -117,7 +146,7 @@ pub chosen_full : {s : Setup} {q : List Entry} {t : Choice} → HasChosen s q t 
 chosen_full {s} {q} {t} c full [] = subst (λ (l : List Entry). HasChosen s l t) (sym (append-nil q)) c
 chosen_full {s} {q} {t} c full (e ∷ rest) = subst (λ (l : List Entry). HasChosen s l t) (append_assoc q (e ∷ []) rest) (chosen_full (chosen_same c e (never c full e)) full rest)
 
--- ---- a choice that has not begun, and one that stops
+-- ---- a choice that may go on, and one that has not begun
 
 pub chosen_ready : {s : Setup} {q : List Entry} {t : Choice} → HasChosen s q t → Ready t
 chosen_ready {s} {q} {t} c =
@@ -131,30 +160,11 @@ chosen_ready {s} {q} {t} c =
       left_sets = rw (same, c.rows_taken) c.left_sets;
     }
 
-pub chosen_stopped : {s : Setup} {q : List Entry} {t : Choice} → HasChosen s q t → HasChosen s q (stopped t)
-unfolding stopped
-chosen_stopped c =
-    record {
-      setup = c.setup;
-      usable = c.usable;
-      counters = c.counters;
-      rows_length = c.rows_length;
-      rows_taken = c.rows_taken;
-      plan_found = c.plan_found;
-      plan_some = c.plan_some;
-      left_sets = c.left_sets;
-      taken_array = c.taken_array;
-      taken_count = c.taken_count;
-      taken_usable = c.taken_usable;
-      at_array = c.at_array;
-    }
-
-pub chosen_none : (s : Setup) (usable counters end left : ℕ) (rows : List ℕ) → usable ≡ usable_count s → counters ≡ counter_count s.device → (s.usable.0 < 64 → left ≡ 2 ^ s.usable.0) → length rows ≡ 32
+pub chosen_none : (s : Setup) (usable counters left : ℕ) (rows : List ℕ) → usable ≡ usable_count s → counters ≡ counter_count s.device → (s.usable.0 < 64 → left ≡ 2 ^ s.usable.0) → length rows ≡ 32
     → HasChosen s [] (record {
       setup = s;
       usable = usable;
       counters = counters;
-      end = end;
       plan = 1;
       left = left;
       rows = rows;
@@ -163,7 +173,7 @@ pub chosen_none : (s : Setup) (usable counters end left : ℕ) (rows : List ℕ)
       count = 0;
     })
 unfolding marks marks_after rows_from requests_of packed code_of
-chosen_none s usable counters end left rows u n l h =
+chosen_none s usable counters left rows u n l h =
     record {
       setup = refl;
       usable = u;
@@ -197,14 +207,14 @@ module _ (t : Choice) (e : Entry) (next : List ℕ) (found : ℕ) (search : Sear
       let d = plan_length.device_at_most s.device in
       (omega arith, omega arith)
 
-  pub step_passes : found ≡ 0 → (s : Setup) (q : List Entry) → HasChosen s q t → HasChosen s (q ++ (e ∷ [])) t
+  pub step_passes : found ≡ 0 → (s : Setup) (q : List Entry) → HasChosen s q t → HasChosen s (q ++ (e ∷ [])) (with_rows t next)
   step_passes missing s q c = chosen_passes c e (at_setup c.setup) missing
 
-  pub step_takes : (found ≡ 0 → ⊥) → (end i less : ℕ) → less ≡ left_by (counter_count t.setup.device) e.request t.left
-      → (s : Setup) (q : List Entry) → HasChosen s q t → length q ≡ i → HasChosen s (q ++ (e ∷ [])) (taking_one_lem t end i e next found less)
-  step_takes exists end i less w s q c len =
-      subst (λ (k : ℕ). HasChosen s (q ++ (e ∷ [])) (taking_one_lem t end k e next found less)) len
-      (chosen_takes c e (at_setup c.setup) exists end less (w ∙ ap (λ (x : Setup). left_by (counter_count x.device) e.request t.left) c.setup))
+  pub step_takes : (found ≡ 0 → ⊥) → (i less : ℕ) → less ≡ left_by (counter_count t.setup.device) e.request t.left
+      → (s : Setup) (q : List Entry) → HasChosen s q t → length q ≡ i → HasChosen s (q ++ (e ∷ [])) (taking_one_lem t i e next found less)
+  step_takes exists i less w s q c len =
+      subst (λ (k : ℕ). HasChosen s (q ++ (e ∷ [])) (taking_one_lem t k e next found less)) len
+      (chosen_takes c e (at_setup c.setup) exists less (w ∙ ap (λ (x : Setup). left_by (counter_count x.device) e.request t.left) c.setup))
 
 -- a record that leaves no set of counters has no plan behind those taken
 none_behind : {s : Setup} {q : List Entry} {t : Choice} → HasChosen s q t → (e : Entry) → LeavesNone t e → ¬ HasPlan s (requests_of (taken s q ++ (e ∷ [])))
@@ -217,7 +227,7 @@ none_behind {s} {q} {t} c e n = reach.unplanned s _ small gone
     gone = rw (requests_next, reach.grows s (requests_of (taken s q)) e.request, ← c.left_sets small, ← c.counters) n.none
 
 pub passed_over : (t : Choice) (i : ℕ) (e : Entry) → LeavesNone t e → Chose t i e t
-passed_over t i e n = record { stops = λ z. absurd (n.waits z); goes = λ m s q c len. chosen_same c e (none_behind c e n); end = λ m. inl refl }
+passed_over t i e n s q c len = chosen_same c e (none_behind c e n)
 
 -- ---- the plan of those taken
 

@@ -1,11 +1,11 @@
 -- Decisions, by the row that refuses the call. Assumes nothing.
---     decides-refused     a call that is refused
---     before-row, count-row, broken-row, table-row     which row refuses an add, a drop or a turn
---     decides-open, decides-add, decides-drop          those that are accepted
+--     before-row, broken-row, table-row     which row refuses an add, a drop or a turn
+--     by-table, for-add, for-drop           an add or a drop that the refusal table refuses, and those that are accepted
+--     open-again, open-count, open-by       an open
 use mathlib.Core.Path.{◌≡◌, refl, ap, ap₂, sym, subst, ◌∙◌}
 use mathlib.Core.List.{List, [], ◌∷◌, ◌++◌}
 use mathlib.Core.Bool.{Bool, true, false, not, false≢true}
-use mathlib.Core.Option.{none, some}
+use Rattle.std.specs.Prelude.{Option, None, Some, is_some, Result, Ok, Err}
 use Prim.Native.Nat.{ℕ, ◌+◌, ◌≤◌, ◌<◌}
 use native.Mathlib.Omega.{arith}
 use lib.ListN.{length, replicate, length-append}
@@ -15,52 +15,40 @@ use Rattle.requests.specs.declared.Request.{Request}
 use Rattle.requests.specs.declared.Entry.{Entry}
 use Rattle.requests.specs.declared.Refusal.{Refusal}
 use Rattle.requests.specs.declared.Refusal.TheVariants.{CallOrder, BadOpening}
-use Rattle.requests.specs.declared.Answer.TheVariants.{Accepted}
 use Rattle.requests.specs.Refusals.{answer_for}
 use Rattle.requests.specs.Choice.{both}
-use Rattle.requests.specs.declared.Opened.{Opened}
 use Rattle.requests.specs.Devices.{opened_by, setup_of}
 use Rattle.requests.proofs.Tests.{true_both}
-use Rattle.sessions.specs.Calls.{Call, Open, Add, Drop, Plain, not_open_lem, opened, waiting}
-use Rattle.sessions.specs.Table.{refusal}
+use Rattle.sessions.specs.Calls.{Call, Open, Add, Drop, Plain, not_open_lem, opened, waiting, waits}
+use Rattle.sessions.specs.Table.{refusal, outside_ids}
 use Rattle.sessions.specs.Plain.{removed, on_queue, change}
 use Rattle.sessions.specs.Sessions.{vacant}
 use Rattle.sessions.specs.DistinctIds.{Distinct}
 use Rattle.sessions.proofs.Removed.{removed_one}
 use Rattle.lent_sessions.specs.Records.{most_records, is_count, records_of, standing, kept_rules, sound_rows}
 use Rattle.lent_sessions.specs.RowRules.{IsCount, SoundRows}
-use Rattle.lent_sessions.specs.Lent.{plain_with, out_of_order_lem, bad_rows, lent_refusal, rows_after, lent_changed, lent_answered}
+use Rattle.lent_sessions.specs.Lent.{out_of_order_lem, bad_rows, lent_refusal, lent_after, rows_after, lent_changed, lent_answered}
 use Rattle.lent_sessions.specs.BrokenRows.{UsesQueue, adds, drops, turns}
 use Rattle.lent_planner.specs.Surveys.{fresh, surveyed}
-use Rattle.lent_planner.specs.Changes.{rearranged, shifted, unchanged}
-use Rattle.lent_planner.specs.Decisions.{Decides, DecidesFor, DecidesOpen, refused_with}
+use Rattle.lent_planner.specs.Changes.{Fitting, rearranged, shifted}
+use Rattle.lent_planner.specs.declared.Change.{Change}
+use Rattle.requests.specs.Answers.{Answer}
+use Rattle.lent_planner.specs.Decisions.{Answers, ChecksRows, ChecksAdd, DecidesOpen}
 use Rattle.lent_sessions.specs.declared.LentSession.{LentSession}
 use Rattle.lent_planner.specs.declared.Survey.{Survey}
 use Rattle.lent_sessions.proofs.RowRules.{row_rules}
 use Rattle.lent_sessions.proofs.LentCalls.{with_closed, with_opened, order_first, rows_next, table_last, rows_refused, rows_accepted, session_accepted, opens_with, answer_by}
-use Rattle.lent_sessions.proofs.BrokenRows.{broken_rows}
+use Rattle.lent_sessions.proofs.BrokenRows.{broken_rows, no_records}
 use Rattle.requests.proofs.AnswerTests.{answer_none}
+use Rattle.requests.proofs.Openings.{opened_some}
 use Rattle.sessions.proofs.TableAnswers as table
 use Rattle.lent_planner.proofs.SurveyLaw.{Found, survey_broken, survey_found}
-use Rattle.lent_planner.proofs.ChangeLaws.{none_changed}
-use Rattle.lent_planner.proofs.QueueChanges.{all_vacated, one_added, one_dropped}
-
--- ---- a call that is refused
-
-pub decides_refused : (s : LentSession) (rows : List Entry) (c : Call) (x : Refusal) → lent_refusal s rows c ≡ some x → Decides s rows c (refused_with s x)
-unfolding refused_with lent_answered answer_for unchanged shifted
-decides_refused s rows c x h =
-    let t = rows_refused s rows c x h in
-    record {
-      answered = rw (h, t.0);
-      rows_after_lem = none_changed rows ∙ sym t.1;
-      fits = record { from = omega arith; end = omega arith; skip = omega arith };
-    }
+use Rattle.lent_planner.proofs.QueueChanges.{one_added, one_dropped}
 
 -- ---- which row refuses an add, a drop or a turn
 
 module _ (s : LentSession) (rows : List Entry) where
-  pub before_row : (c : Call) → UsesQueue c → s.opened ≡ false → lent_refusal s rows c ≡ some CallOrder
+  pub before_row : (c : Call) → UsesQueue c → s.opened ≡ false → lent_refusal s rows c ≡ Some CallOrder
   unfolding out_of_order_lem
   before_row c adds h = order_first s rows c (ap not h)
   before_row c drops h = order_first s rows c (ap not h)
@@ -78,7 +66,7 @@ module _ (s : LentSession) (rows : List Entry) where
   bad_is c drops = refl
   bad_is c turns = refl
 
-  pub broken_row : (c : Call) → UsesQueue c → s.opened ≡ true → sound_rows s.setup rows ≡ false → lent_refusal s rows c ≡ some BadOpening
+  pub broken_row : (c : Call) → UsesQueue c → s.opened ≡ true → sound_rows s.setup rows ≡ false → lent_refusal s rows c ≡ Some BadOpening
   broken_row c u h b = rows_next s rows c (in_order c u h) (bad_is c u ∙ ap not b)
 
   pub table_row : (c : Call) → UsesQueue c → s.opened ≡ true → sound_rows s.setup rows ≡ true → lent_refusal s rows c ≡ refusal (length rows) (opened s.setup (standing rows)) c
@@ -124,58 +112,52 @@ pub few_records : (s : Setup) (rows : List Entry) → SoundRows s rows → lengt
 unfolding most_records
 few_records s rows k = k.number.1
 
+-- ---- a call that is refused
+
+pub answers_refused : (s : LentSession) (rows : List Entry) (c : Call) (x : Refusal) → lent_refusal s rows c ≡ Some x → Answers s rows c (Err x) rows
+unfolding answer_for
+answers_refused s rows c x h = (ap answer_for (sym h), sym (rows_refused s rows c x h).1)
+
 -- ---- those that are accepted
 
-pub decides_open : (s : LentSession) (rows : List Entry) (o : Opening) (t : Setup) → s.opened ≡ false → is_count (length rows) ≡ true → setup_of o ≡ some t
-    → Decides s rows (Open o) (record { answered = record { answer = Accepted; session = record { opened = true; setup = t } }; change = shifted 0 (length rows) (length rows) vacant })
-unfolding lent_answered answer_for change waiting shifted most_records
-decides_open s rows o t h n e =
-    let count : IsCount (length rows) = row_rules.count (length rows) n in
-    let accepted : lent_refusal s rows (Open o) ≡ none = answer_none (lent_refusal s rows (Open o)) (sym (answer_by (s, rows) (Open o)) ∙ (broken_rows.opens s rows h count o t e).0) in
-    let plain : plain_with s rows ≡ not_open_lem = with_closed s rows h in
-    let made : change not_open_lem (Open o) ≡ opened t [] = rw (e, change) in
-    record {
-      answered = rw (accepted, opens_with s rows o t accepted e);
-      rows_after_lem =
-          all_vacated rows count.1
-          ∙ sym (rows_accepted s rows (Open o) accepted ∙ ap (λ (p : Plain). records_of (length rows) (waiting (change p (Open o)))) plain ∙ ap
-          (λ (p : Plain). records_of (length rows) (waiting p)) made);
-      fits = record { from = omega arith; end = omega arith; skip = omega arith };
-    }
+-- the change is that of the call with these records
+pub record MakesChange (s : LentSession) (rows : List Entry) (c : Call) (d : Change) : Type 0 where
+  pub answers : Answers s rows c (Ok tt) (rearranged d rows)
+  pub fits : Fitting d (length rows)
+
+answers_accepted : (s : LentSession) (rows : List Entry) (c : Call) (after : List Entry) → lent_refusal s rows c ≡ None → after ≡ rows_after s rows c → Answers s rows c (Ok tt) after
+unfolding answer_for
+answers_accepted s rows c after h is = (ap answer_for (sym h), is)
 
 -- the records of the next queue
-pub next_rows : (s : LentSession) (rows : List Entry) (c : Call) (q : List Entry) → s.opened ≡ true → lent_refusal s rows c ≡ none → change
+pub next_rows : (s : LentSession) (rows : List Entry) (c : Call) (q : List Entry) → s.opened ≡ true → lent_refusal s rows c ≡ None → change
     (opened s.setup (standing rows)) c ≡ opened s.setup q
     → rows_after s rows c ≡ records_of (length rows) q
 unfolding waiting
 next_rows s rows c q h accepted made =
     rows_accepted s rows c accepted ∙ ap (λ (p : Plain). records_of (length rows) (waiting (change p c))) (with_opened s rows h) ∙ ap (λ (p : Plain). records_of (length rows) (waiting p)) made
 
-pub decides_add : (s : LentSession) (rows : List Entry) (id : ℕ) (r : Request) (t : Survey) → s.opened ≡ true → Kept s rows id t → refusal (length rows)
-    (opened s.setup (standing rows)) (Add id r) ≡ none → t.len < length rows
-    → Decides s rows (Add id r) (record { answered = record { answer = Accepted; session = s }; change = shifted t.len (t.len + 1) 1 (record { id = id; request = r }) })
-unfolding lent_answered lent_changed answer_for change on_queue shifted
-decides_add s rows id r t h k none_row room =
-    let accepted : lent_refusal s rows (Add id r) ≡ none = table_row s rows (Add id r) adds h k.sound ∙ none_row in
+pub makes_add : (s : LentSession) (rows : List Entry) (id : ℕ) (r : Request) (t : Survey) → s.opened ≡ true → Kept s rows id t → refusal (length rows)
+    (opened s.setup (standing rows)) (Add id r) ≡ None → t.len < length rows → MakesChange s rows (Add id r) (shifted t.len (t.len + 1) 1 (record { id = id; request = r }))
+unfolding change on_queue shifted
+makes_add s rows id r t h k none_row room =
+    let accepted : lent_refusal s rows (Add id r) ≡ None = table_row s rows (Add id r) adds h k.sound ∙ none_row in
     let q : List Entry = standing rows in
     let e : Entry = record { id = id; request = r } in
     let len : t.len ≡ length q = k.finds.len in
     record {
-      answered = rw (accepted, session_accepted s rows (Add id r) accepted);
-      rows_after_lem =
-          ap (λ (n : ℕ). rearranged (shifted n (n + 1) 1 e) rows) len
+      answers = answers_accepted s rows (Add id r) _ accepted (ap (λ (n : ℕ). rearranged (shifted n (n + 1) 1 e) rows) len
           ∙ one_added rows q k.rows_sound.free e (placed_rows s.setup rows k.rows_sound) (few_records s.setup rows k.rows_sound) (omega (arith, len, room))
-          ∙ sym (next_rows s rows (Add id r) (q ++ e ∷ []) h accepted refl);
+          ∙ sym (next_rows s rows (Add id r) (q ++ e ∷ []) h accepted refl));
       fits = record { from = omega (arith, room); end = omega (arith, room); skip = omega (arith, room) };
     }
 
-pub decides_drop : (s : LentSession) (rows : List Entry) (id : ℕ) (t : Survey) → s.opened ≡ true → Kept s rows id t → refusal (length rows)
-    (opened s.setup (standing rows)) (Drop id) ≡ none → t.found ≡ true
-    → Decides s rows (Drop id) (record { answered = record { answer = Accepted; session = s }; change = shifted t.at t.len 1 vacant })
-unfolding lent_answered lent_changed answer_for change on_queue shifted
-decides_drop s rows id t h k none_row found =
-    let accepted : lent_refusal s rows (Drop id) ≡ none = table_row s rows (Drop id) drops h k.sound ∙ none_row in
-    let place = k.finds.place found in
+pub makes_drop : (s : LentSession) (rows : List Entry) (id : ℕ) (t : Survey) → s.opened ≡ true → Kept s rows id t → refusal (length rows)
+    (opened s.setup (standing rows)) (Drop id) ≡ None → (at : ℕ) → t.at ≡ Some at → MakesChange s rows (Drop id) (shifted at t.len 1 vacant)
+unfolding change on_queue shifted
+makes_drop s rows id t h k none_row at found =
+    let accepted : lent_refusal s rows (Drop id) ≡ None = table_row s rows (Drop id) drops h k.sound ∙ none_row in
+    let place = k.finds.place at found in
     let a : List Entry = place.0 in
     let e : Entry = place.1 in
     let b : List Entry = place.2 in
@@ -184,14 +166,12 @@ decides_drop s rows id t h k none_row found =
     ap₂ removed (sym place.4) is ∙ removed_one a b e (subst Distinct (row_rules.stands s.setup rows k.rows_sound ∙ is) k.rows_sound.distinct) in
     let size : length (standing rows) ≤ length rows = omega (arith, ap length (placed_rows s.setup rows k.rows_sound), length-append (standing rows) (replicate k.rows_sound.free vacant)) in
     record {
-      answered = rw (accepted, session_accepted s rows (Drop id) accepted);
-      rows_after_lem =
-          ap₂ (λ (i n : ℕ). rearranged (shifted i n 1 vacant) rows) place.5 (k.finds.len ∙ ap length is)
+      answers = answers_accepted s rows (Drop id) _ accepted (ap₂ (λ (i n : ℕ). rearranged (shifted i n 1 vacant) rows) place.5 (k.finds.len ∙ ap length is)
           ∙ one_dropped rows a b e k.rows_sound.free
           (placed_rows s.setup rows k.rows_sound ∙ ap (λ (q : List Entry). q ++ replicate k.rows_sound.free vacant) is)
           (few_records s.setup rows k.rows_sound)
           ∙ ap (records_of (length rows)) (sym left)
-          ∙ sym (next_rows s rows (Drop id) (removed id (standing rows)) h accepted refl);
+          ∙ sym (next_rows s rows (Drop id) (removed id (standing rows)) h accepted refl));
       fits =
           record {
             from = omega (arith, place.5, size, ap length is, length-append a (e ∷ b));
@@ -200,60 +180,102 @@ decides_drop s rows id t h k none_row found =
           };
     }
 
--- ---- with any records in which the pass has found t
+-- ---- with the records in which the pass has found t, where they pass the check
 
-module _ (s : LentSession) (n : ℕ) (t : Survey) (id : ℕ) where
-  module _ (c : Call) (u : UsesQueue c) where
-    pub for_before : s.opened ≡ false → DecidesFor s n t id c (refused_with s CallOrder)
-    for_before h rows len is = decides_refused s rows c CallOrder (before_row s rows c u h)
+module _ (s : LentSession) (rows : List Entry) (t : Survey) (id : ℕ) (is : t ≡ surveyed (fresh s.setup id) rows) (ok : ChecksRows s (length rows) t (Ok tt)) where
+  abbrev q : List Entry
+  q = standing rows
 
-    module _ (h : s.opened ≡ true) where
-      pub for_count : is_count n ≡ false → DecidesFor s n t id c (refused_with s BadOpening)
-      for_count m rows len is = decides_refused s rows c BadOpening (broken_row s rows c u h (few_broken s rows (ap is_count len ∙ m)))
+  kept : Kept s rows id t
+  kept = pass_kept s rows id t is ok.1 ok.2
 
-      module _ (m : is_count n ≡ true) where
-        pub for_broken : t.broken ≡ true → DecidesFor s n t id c (refused_with s BadOpening)
-        for_broken b rows len is = decides_refused s rows c BadOpening (broken_row s rows c u h (pass_broken s rows id t is (ap is_count len ∙ m) b))
+  pub found_is : waits id q ≡ is_some t.at
+  found_is = sym kept.finds.found
 
-        pub for_table : t.broken ≡ false → (x : Refusal) → ((rows : List Entry) → length rows ≡ n → Kept s rows id t → refusal n (opened s.setup (standing rows)) c ≡ some x)
-            → DecidesFor s n t id c (refused_with s x)
-        for_table b x row rows len is =
-            let k = pass_kept s rows id t is (ap is_count len ∙ m) b in
-            decides_refused s rows c x (table_row s rows c u h k.sound ∙ ap (λ (i : ℕ). refusal i (opened s.setup (standing rows)) c) len ∙ row rows len k)
+  len_is : length q ≡ t.len
+  len_is = sym kept.finds.len
 
-  module _ (h : s.opened ≡ true) (m : is_count n ≡ true) (b : t.broken ≡ false) where
-    pub for_add : (r : Request) → ((rows : List Entry) → length rows ≡ n → Kept s rows id t → refusal n (opened s.setup (standing rows)) (Add id r) ≡ none) → t.len < n
-        → DecidesFor s n t id (Add id r) (record { answered = record { answer = Accepted; session = s }; change = shifted t.len (t.len + 1) 1 (record { id = id; request = r }) })
-    for_add r row room rows len is =
-        let k = pass_kept s rows id t is (ap is_count len ∙ m) b in
-        decides_add s rows id r t h k (ap (λ (i : ℕ). refusal i (opened s.setup (standing rows)) (Add id r)) len ∙ row rows len k) (omega (arith, len, room))
+  pub by_table : (c : Call) → UsesQueue c → (x : Refusal) → refusal (length rows) (opened s.setup q) c ≡ Some x → Answers s rows c (Err x) rows
+  by_table c u x row = answers_refused s rows c x (table_row s rows c u ok.0 kept.sound ∙ row)
 
-    pub for_drop : ((rows : List Entry) → length rows ≡ n → Kept s rows id t → refusal n (opened s.setup (standing rows)) (Drop id) ≡ none) → t.found ≡ true
-        → DecidesFor s n t id (Drop id) (record { answered = record { answer = Accepted; session = s }; change = shifted t.at t.len 1 vacant })
-    for_drop row found rows len is =
-        let k = pass_kept s rows id t is (ap is_count len ∙ m) b in
-        decides_drop s rows id t h k (ap (λ (i : ℕ). refusal i (opened s.setup (standing rows)) (Drop id)) len ∙ row rows len k) found
+  pub add_refused : (r : Request) (x : Refusal) → ChecksAdd s.setup (length rows) t id r (Err x) → Answers s rows (Add id r) (Err x) rows
+  add_refused r x row = by_table (Add id r) adds x (row q found_is len_is)
+
+  pub for_add : (r : Request) → ChecksAdd s.setup (length rows) t id r (Ok tt) → MakesChange s rows (Add id r) (shifted t.len (t.len + 1) 1 (record { id = id; request = r }))
+  for_add r row = makes_add s rows id r t ok.0 kept (row.0 q found_is len_is) row.1
+
+  pub for_drop : outside_ids id ≡ false → (at : ℕ) → t.at ≡ Some at → MakesChange s rows (Drop id) (shifted at t.len 1 vacant)
+  for_drop d at found = makes_drop s rows id t ok.0 kept (table.drop_accepted (length rows) s.setup q id d (found_is ∙ ap (λ (o : Option ℕ). is_some o) found)) at found
+
+-- ---- an open
 
 module _ (s : LentSession) (n : ℕ) (o : Opening) where
-  pub open_again : s.opened ≡ true → DecidesOpen s n o (refused_with s CallOrder)
+  pub open_again : s.opened ≡ true → DecidesOpen s n o (Err CallOrder)
   unfolding out_of_order_lem
-  open_again h rows len = decides_refused s rows (Open o) CallOrder (order_first s rows (Open o) h)
+  open_again h rows len = order_first s rows (Open o) h
 
-  pub open_count : s.opened ≡ false → is_count n ≡ false → DecidesOpen s n o (refused_with s BadOpening)
-  unfolding out_of_order_lem bad_rows
-  open_count h m rows len = decides_refused s rows (Open o) BadOpening (rows_next s rows (Open o) h (ap not (ap is_count len ∙ m)))
+  module _ (h : s.opened ≡ false) where
+    pub open_count : is_count n ≡ false → DecidesOpen s n o (Err BadOpening)
+    unfolding out_of_order_lem bad_rows
+    open_count m rows len = rows_next s rows (Open o) h (ap not (ap is_count len ∙ m))
 
-  pub open_bad : (x : Refusal) → s.opened ≡ false → is_count n ≡ true → opened_by o ≡ Opened.Refused x → DecidesOpen s n o (refused_with s x)
-  unfolding out_of_order_lem bad_rows
-  open_bad x h m e rows len =
-      decides_refused s rows (Open o) x
-      (table_last s rows (Open o) h (ap not (ap is_count len ∙ m))
-      ∙ ap (λ (p : Plain). refusal (length rows) p (Open o)) (with_closed s rows h)
-      ∙ table.open_bad (length rows) o x e)
+    module _ (m : is_count n ≡ true) where
+      open_bad : (x : Refusal) → opened_by o ≡ Err x → DecidesOpen s n o (Err x)
+      unfolding out_of_order_lem bad_rows
+      open_bad x e rows len =
+          table_last s rows (Open o) h (ap not (ap is_count len ∙ m))
+          ∙ ap (λ (p : Plain). refusal (length rows) p (Open o)) (with_closed s rows h)
+          ∙ table.open_bad (length rows) o x e
 
-  pub open_with_lem : (t : Setup) → s.opened ≡ false → is_count n ≡ true → setup_of o ≡ some t
-      → DecidesOpen s n o (record { answered = record { answer = Accepted; session = record { opened = true; setup = t } }; change = shifted 0 n n vacant })
-  open_with_lem t h m e rows len =
-      subst
-      (λ (k : ℕ). Decides s rows (Open o) (record { answered = record { answer = Accepted; session = record { opened = true; setup = t } }; change = shifted 0 k k vacant }))
-      len (decides_open s rows o t h (ap is_count len ∙ m) e)
+      open_with_lem : (t : Setup) → setup_of o ≡ Some t → DecidesOpen s n o (Ok t)
+      unfolding change waiting
+      open_with_lem t e rows len =
+          let here : is_count (length rows) ≡ true = ap is_count len ∙ m in
+          let count : IsCount (length rows) = row_rules.count (length rows) here in
+          let accepted : lent_refusal s rows (Open o) ≡ None =
+          answer_none (lent_refusal s rows (Open o)) (sym (answer_by (s, rows) (Open o)) ∙ (broken_rows.opens s rows h count o t e).0) in
+          let made : change not_open_lem (Open o) ≡ opened t [] = rw (e, change) in (
+            accepted,
+            opens_with s rows o t accepted e,
+            rows_accepted s rows (Open o) accepted
+                ∙ ap (λ (p : Plain). records_of (length rows) (waiting (change p (Open o)))) (with_closed s rows h)
+                ∙ ap (λ (p : Plain). records_of (length rows) (waiting p)) made
+                ∙ no_records (length rows)
+                ∙ ap (λ (k : ℕ). replicate k vacant) len,
+          )
+
+      pub open_by : (r : Result Setup Refusal) → r ≡ opened_by o → DecidesOpen s n o r
+      open_by (Ok t) e = open_with_lem t (opened_some o t (sym e))
+      open_by (Err x) e = open_bad x (sym e)
+
+-- ---- the answer with the session
+
+module _ (s : LentSession) (rows : List Entry) (c : Call) where
+  pub with_session : (a : Answer) (after : List Entry) → lent_after s rows c ≡ s → Answers s rows c a after → (record { answer = a; session = s } ≡ lent_answered s rows c) × (after ≡ rows_after s rows c)
+  unfolding lent_answered
+  with_session a after same is = (rw (is.0, same), is.1)
+
+  pub open_refused : (x : Refusal) → lent_refusal s rows c ≡ Some x → (record { answer = Err x; session = s } ≡ lent_answered s rows c) × (rows ≡ rows_after s rows c)
+  open_refused x h = with_session (Err x) rows (rows_refused s rows c x h).0 (answers_refused s rows c x h)
+
+  pub open_accepted : (t : LentSession) (after : List Entry) → lent_refusal s rows c ≡ None → lent_after s rows c ≡ t → after ≡ rows_after s rows c
+      → (record { answer = Ok tt; session = t } ≡ lent_answered s rows c) × (after ≡ rows_after s rows c)
+  unfolding lent_answered answer_for
+  open_accepted t after h same is = (rw (h, same), is)
+
+-- add and drop leave the session as it is
+module _ (s : LentSession) (rows : List Entry) where
+  stays : (c : Call) → lent_changed s c ≡ s → lent_after s rows c ≡ s
+  stays c same = go (lent_refusal s rows c) refl
+    where
+      go : (r : Option Refusal) → lent_refusal s rows c ≡ r → lent_after s rows c ≡ s
+      go None h = session_accepted s rows c h ∙ same
+      go (Some x) h = (rows_refused s rows c x h).0
+
+  pub add_stays : (id : ℕ) (r : Request) → lent_after s rows (Add id r) ≡ s
+  unfolding lent_changed
+  add_stays id r = stays (Add id r) refl
+
+  pub drop_stays : (id : ℕ) → lent_after s rows (Drop id) ≡ s
+  unfolding lent_changed
+  drop_stays id = stays (Drop id) refl

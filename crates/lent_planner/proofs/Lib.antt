@@ -1,7 +1,6 @@
 pub mod IdBits
 pub mod SurveySteps
 pub mod Drops
-pub mod ChangeSteps
 pub mod ListedEvents
 pub mod PassedRules
 pub mod SurveyLaw

@@ -1,6 +1,6 @@
--- The changes of open, add and drop make the records of the next queue. Assumes nothing.
+-- The changes of add and drop make the records of the next queue. Assumes nothing.
 --     at-records     a queue in records, place by place
---     all-vacated, one-added, one-dropped
+--     one-added, one-dropped
 use mathlib.Core.Path.{◌≡◌, refl, ap, sym, ◌∙◌}
 use mathlib.Core.Logic.{◌⊎◌, inl, inr}
 use mathlib.Core.List.{List, [], ◌∷◌, ◌++◌}
@@ -12,9 +12,9 @@ use lib.Seq.{ext_get_or, get_or-append-add, get_or_at}
 use Rattle.requests.specs.declared.Entry.{Entry}
 use Rattle.sessions.specs.Sessions.{vacant}
 use Rattle.lent_sessions.specs.Records.{records_of}
-use Rattle.lent_planner.specs.Changes.{ahead, source, nowhere, shifted, rearranged}
+use Rattle.lent_planner.specs.Changes.{nowhere, shifted, rearranged}
 use Rattle.lent_sessions.proofs.LentCalls.{length_records}
-use Rattle.lent_planner.proofs.ChangeLaws.{length_changed, changed_in, changed_out, placed_fresh, shifted_ahead, shifted_read, shifted_new}
+use Rattle.lent_planner.proofs.ChangeLaws.{length_changed, changed_out, shifted_read, shifted_new}
 
 -- ---- place by place
 
@@ -36,20 +36,6 @@ at_records n q j = at_padded q (n - length q) j
 pub records_are : (ys : List Entry) (n : ℕ) (q : List Entry) → length ys ≡ n → length q ≤ n → ((j : ℕ) → j < n → get_or ys j vacant ≡ get_or q j vacant) → ys ≡ records_of n q
 records_are ys n q len few same =
     ext_get_or vacant ys (records_of n q) (len ∙ sym (length_records n q few)) (λ j l. same j (omega (arith, len)) ∙ sym (at_records n q j))
-
--- ---- open
-
-vacates : (ys : List Entry) → length ys ≤ 256 → (j : ℕ) → j < length ys → get_or (rearranged (shifted 0 (length ys) (length ys) vacant) ys) j vacant ≡ vacant
-unfolding shifted nowhere
-vacates ys few j l =
-    let n : ℕ = length ys in
-    let ahead_is = shifted_ahead 0 n n vacant j (omega (arith, few)) in
-    changed_in (shifted 0 n n vacant) ys j (omega arith) (omega arith) l
-    ∙ placed_fresh (shifted 0 n n vacant) (get_or ys (source (shifted 0 n n vacant) j) vacant) j (omega (arith, ahead_is))
-    ∙ all_default 8 vacant (ahead (shifted 0 n n vacant) j - n)
-
-pub all_vacated : (ys : List Entry) → length ys ≤ 256 → rearranged (shifted 0 (length ys) (length ys) vacant) ys ≡ records_of (length ys) []
-all_vacated ys few = records_are _ (length ys) [] (length_changed (shifted 0 (length ys) (length ys) vacant) ys) (omega arith) (λ j l. vacates ys few j l)
 
 -- ---- add
 

@@ -1,8 +1,9 @@
 -- What the pass over the records finds. Assumes nothing.
 --     survey-broken    the pass is broken exactly where the rules are
 --     survey-found     where they are kept, it counts those that wait, and finds the id among them
-use mathlib.Core.Path.{◌≡◌, refl, ap, ap₂, sym, ◌∙◌}
+use mathlib.Core.Path.{◌≡◌, refl, ap, sym, ◌∙◌}
 use mathlib.Core.List.{List, [], ◌∷◌, ◌++◌}
+use Rattle.std.specs.Prelude.{Option, Some, None, is_some}
 use mathlib.Core.Bool.{Bool, true, false, not, false≢true, true≢false}
 use Prim.Native.Nat.{ℕ, suc, ◌+◌}
 use native.Mathlib.Omega.{arith}
@@ -11,8 +12,7 @@ use lib.ListN.{length}
 use borrow.Author.Tests.{eqb-true, eqb-false}
 use Rattle.requests.specs.declared.Setup.{Setup}
 use Rattle.requests.specs.declared.Entry.{Entry}
-use Rattle.requests.specs.Choice.{both, either}
-use Rattle.requests.proofs.Tests.{either_left, either_false}
+use Rattle.requests.specs.Choice.{both}
 use Rattle.sessions.specs.Calls.{waits}
 use Rattle.sessions.specs.RefusalTable.{IsId}
 use Rattle.lent_sessions.specs.Records.{standing, all_zero, is_vacant, all_vacant, may_wait, kept_rules}
@@ -54,7 +54,7 @@ vacant_split e es h = all_vacant_next e es ∙ ap (λ (b : Bool). both b (all_va
 -- once vacant records have begun, all that follow are vacant where the rules are kept
 record AfterEnd (t r : Survey) (b : Bool) : Type 0 where
   broken : r.broken ≡ not b
-  same : b ≡ true → (r.len ≡ t.len) × (r.at ≡ t.at) × (r.found ≡ t.found)
+  same : b ≡ true → (r.len ≡ t.len) × (r.at ≡ t.at)
 
 no_count : (left : List ℕ) (t : Survey) (e : Entry) → t.ended ≡ true → may_count left t e ≡ false
 unfolding may_count both
@@ -96,7 +96,7 @@ first_vacant left t x xs law b k = zero (all_zero x.request) refl
     zero false hz = again false hz (ended_spoils t xs left)
 
 ended_law : (left : List ℕ) (t : Survey) (rows : List Entry) → t.broken ≡ false → t.ended ≡ true → AfterEnd t (survey_from left t rows) (all_vacant rows)
-ended_law left t [] b e = rw (all_vacant_none, from_none left t) (record { broken = b; same = λ h. (refl, refl, refl) })
+ended_law left t [] b e = rw (all_vacant_none, from_none left t) (record { broken = b; same = λ h. (refl, refl) })
 ended_law left t (x ∷ xs) b e = go (eqb x.id 0) refl (λ u. ended_law left u xs)
   where
     go : (v : Bool) → eqb x.id 0 ≡ v → ((u : Survey) → u.broken ≡ false → u.ended ≡ true → AfterEnd u (survey_from left u xs) (all_vacant xs))
@@ -118,9 +118,8 @@ plus_none n = omega arith
 -- what is found of records that keep the rules
 record Finds (t r : Survey) (q : List Entry) : Type 0 where
   len : r.len ≡ t.len + length q
-  found : r.found ≡ either (waits t.id q) t.found
   missing : waits t.id q ≡ false → r.at ≡ t.at
-  place : waits t.id q ≡ true → (a : List Entry) × (e : Entry) × (b : List Entry) × (q ≡ a ++ e ∷ b) × (e.id ≡ t.id) × (r.at ≡ t.len + length a)
+  place : waits t.id q ≡ true → (a : List Entry) × (e : Entry) × (b : List Entry) × (q ≡ a ++ e ∷ b) × (e.id ≡ t.id) × (r.at ≡ Some (t.len + length a))
 
 record Surveying (t r : Survey) (q : List Entry) (b : Bool) : Type 0 where
   broken : r.broken ≡ not b
@@ -131,12 +130,12 @@ record Counting (t u : Survey) (id : ℕ) : Type 0 where
   id_same : u.id ≡ t.id
   setup_same : u.setup ≡ t.setup
   next_len : u.len ≡ t.len + 1
-  here : eqb t.id id ≡ true → (u.at ≡ t.len) × (u.found ≡ true)
-  there : eqb t.id id ≡ false → (u.at ≡ t.at) × (u.found ≡ t.found)
+  here : eqb t.id id ≡ true → u.at ≡ Some t.len
+  there : eqb t.id id ≡ false → u.at ≡ t.at
 
 counting : (t : Survey) (id : ℕ) → Counting t (counted t id) id
-unfolding counted either
-counting t id = record { id_same = refl; setup_same = refl; next_len = refl; here = λ h. (rw h, rw h); there = λ h. (rw h, rw h) }
+unfolding counted
+counting t id = record { id_same = refl; setup_same = refl; next_len = refl; here = λ h. rw h; there = λ h. rw h }
 
 -- what is found with one more record in front
 finds_next : (t u r : Survey) (e : Entry) (q : List Entry) → Counting t u e.id → waits e.id q ≡ false → Finds u r q → Finds t r (e ∷ q)
@@ -152,18 +151,16 @@ finds_next t u r e q c alone f = go (eqb t.id e.id) refl
         let yes : waits t.id (e ∷ q) ≡ true = waits_front t.id e q same in
         record {
           len = longer;
-          found = f.found ∙ either_second (waits u.id q) u.found none ∙ (c.here h).1 ∙ sym (either_left (waits t.id (e ∷ q)) t.found yes);
           missing = λ no. absurd (true≢false (sym yes ∙ no));
-          place = λ w. ([], e, q, refl, sym same, f.missing none ∙ (c.here h).0 ∙ plus_none t.len);
+          place = λ w. ([], e, q, refl, sym same, f.missing none ∙ c.here h ∙ ap Some (plus_none t.len));
         }
     go false h =
         let pass : waits t.id (e ∷ q) ≡ waits t.id q = waits_next t.id e q ∙ either_second (eqb t.id e.id) (waits t.id q) h in
         let ids : waits u.id q ≡ waits t.id q = ap (λ (i : ℕ). waits i q) c.id_same in
         record {
           len = longer;
-          found = f.found ∙ ap₂ either (ids ∙ sym pass) (c.there h).1;
-          missing = λ no. f.missing (ids ∙ sym pass ∙ no) ∙ (c.there h).0;
-          place = λ w. let p = f.place (ids ∙ sym pass ∙ w) in (e ∷ p.0, p.1, p.2, ap (λ (l : List Entry). e ∷ l) p.3, p.4 ∙ c.id_same, p.5 ∙ ahead (length p.0));
+          missing = λ no. f.missing (ids ∙ sym pass ∙ no) ∙ c.there h;
+          place = λ w. let p = f.place (ids ∙ sym pass ∙ w) in (e ∷ p.0, p.1, p.2, ap (λ (l : List Entry). e ∷ l) p.3, p.4 ∙ c.id_same, p.5 ∙ ap Some (ahead (length p.0)));
         }
       where
         ahead : (k : ℕ) → u.len + k ≡ t.len + suc k
@@ -190,7 +187,6 @@ none_found : (t : Survey) → Finds t t []
 none_found t =
     record {
       len = plus_none t.len;
-      found = sym (either_second (waits t.id []) t.found (waits_nothing t.id));
       missing = λ h. refl;
       place = λ w. absurd (false≢true (sym (waits_nothing t.id) ∙ w));
     }
@@ -227,7 +223,6 @@ vacant_found t r b a =
       broken = a.broken;
       finds = λ h. let s = a.same h in record {
         len = s.0 ∙ plus_none t.len;
-        found = s.2 ∙ sym (either_second (waits t.id []) t.found (waits_nothing t.id));
         missing = λ m. s.1;
         place = λ w. absurd (false≢true (sym (waits_nothing t.id) ∙ w));
       };
@@ -280,8 +275,8 @@ zero_plus n = omega arith
 
 pub record Found (s : Setup) (id : ℕ) (rows : List Entry) (r : Survey) : Type 0 where
   pub len : r.len ≡ length (standing rows)
-  pub found : r.found ≡ waits id (standing rows)
-  pub place : r.found ≡ true → (a : List Entry) × (e : Entry) × (b : List Entry) × (standing rows ≡ a ++ e ∷ b) × (e.id ≡ id) × (r.at ≡ length a)
+  pub found : is_some r.at ≡ waits id (standing rows)
+  pub place : (i : ℕ) → r.at ≡ Some i → (a : List Entry) × (e : Entry) × (b : List Entry) × (standing rows ≡ a ++ e ∷ b) × (e.id ≡ id) × (i ≡ length a)
 
 module _ (s : Setup) (id : ℕ) (rows : List Entry) where
   whole : Surveying (fresh s id) (surveyed (fresh s id) rows) (standing rows) (kept_after s [] rows)
@@ -294,6 +289,26 @@ module _ (s : Setup) (id : ℕ) (rows : List Entry) where
   pub survey_found : kept_rules s rows ≡ true → Found s id rows (surveyed (fresh s id) rows)
   unfolding fresh
   survey_found h =
-      let f = whole.finds (after_is s rows ∙ h) in
-      let same : (surveyed (fresh s id) rows).found ≡ waits id (standing rows) = f.found ∙ either_false (waits id (standing rows)) in
-      record { len = f.len ∙ zero_plus (length (standing rows)); found = same; place = λ w. let p = f.place (sym same ∙ w) in (p.0, p.1, p.2, p.3, p.4, p.5 ∙ zero_plus (length p.0)) }
+      record { len = finds.len ∙ zero_plus (length (standing rows)); found = met (waits id (standing rows)) refl; place = λ i at. placed (waits id (standing rows)) refl i at }
+    where
+      r : Survey
+      r = surveyed (fresh s id) rows
+
+      finds : Finds (fresh s id) r (standing rows)
+      finds = whole.finds (after_is s rows ∙ h)
+
+      missed : waits id (standing rows) ≡ false → r.at ≡ None
+      missed w = finds.missing w
+
+      met : (b : Bool) → waits id (standing rows) ≡ b → is_some r.at ≡ waits id (standing rows)
+      met true w = ap (λ (o : Option ℕ). is_some o) (finds.place w).5 ∙ sym w
+      met false w = ap (λ (o : Option ℕ). is_some o) (missed w) ∙ sym w
+
+      placed : (b : Bool) → waits id (standing rows) ≡ b → (i : ℕ) → r.at ≡ Some i
+          → (a : List Entry) × (e : Entry) × (b : List Entry) × (standing rows ≡ a ++ e ∷ b) × (e.id ≡ id) × (i ≡ length a)
+      placed true w i at =
+          let p = finds.place w in
+          let same : Some i ≡ Some (0 + length p.0) = sym at ∙ p.5 in
+          let place : i ≡ 0 + length p.0 = cc in
+          (p.0, p.1, p.2, p.3, p.4, place ∙ zero_plus (length p.0))
+      placed false w i at = let z : None ≡ Some i = sym (missed w) ∙ at in absurd cc

@@ -1,5 +1,5 @@
 -- The records changed in place, in one pass: where each is read, and what it becomes.
-use Rattle.std.specs.Prelude.{List, [], ◌∷◌, ℕ, zero, suc, ◌+◌, ◌-◌, ◌≤◌, ltb, leb, get_or, set, replicate}
+use Rattle.std.specs.Prelude.{List, [], ◌∷◌, ℕ, zero, suc, ◌+◌, ◌-◌, ◌≤◌, min, ltb, leb, get_or, set, replicate}
 use Rattle.requests.specs.declared.Entry.{Entry}
 use Rattle.requests.specs.Choice.{pick}
 use Rattle.sessions.specs.Sessions.{vacant}
@@ -20,7 +20,7 @@ ahead c i = past_all_lem c.at (i + c.skip)
 
 -- of the places from k on, at most `room`, those that stand before the record that goes; all of them, where it is behind
 unfoldable pub clear : ℕ → ℕ → ℕ → ℕ
-clear at k room = pick (leb at k) room (pick (leb (at - k) room) (at - k) room)
+clear at k room = pick (leb at k) room (min room (at - k))
 
 unfoldable pub clear_all : List ℕ → ℕ → ℕ → ℕ
 clear_all [] k room = room
@@ -34,17 +34,9 @@ nowhere = 65536
 unfoldable pub stretch : Change → ℕ → ℕ
 stretch c i = clear_all c.at (i + c.skip) nowhere
 
--- where the record of place i is read: at k, where i is before the end of a stretch that is read so
-unfoldable pub read_at : Change → ℕ → ℕ → ℕ → ℕ
-read_at c i k stop = pick (ltb i stop) k (ahead c i)
-
--- the end of the stretch that place i is in, where the last one ends at `stop`
-unfoldable pub stretch_end : Change → ℕ → ℕ → ℕ
-stretch_end c i stop = pick (ltb i stop) stop (i + stretch c i)
-
--- the record of place i, where what is read is past the end
-unfoldable pub fresh_at : Change → ℕ → Entry
-fresh_at c i = get_or c.fresh (ahead c i - c.end) vacant
+-- the record that is read at k, a fresh one past the end
+unfoldable pub read_at : Change → ℕ → List Entry → Entry
+read_at c k ys = pick (ltb k c.end) (get_or ys k vacant) (get_or c.fresh (k - c.end) vacant)
 
 -- where it is read
 unfoldable pub source : Change → ℕ → ℕ
@@ -71,7 +63,3 @@ rearranged c ys = rearranged_from (c.end - c.from) c.from c ys
 -- each record from `from` to `end` becomes the one `skip` places ahead, and e past the end
 unfoldable pub shifted : ℕ → ℕ → ℕ → Entry → Change
 shifted from end skip e = record { from = from; end = end; skip = skip; at = replicate 8 nowhere; fresh = replicate 8 e }
-
--- no record changes
-unfoldable pub unchanged : Change
-unchanged = shifted 0 0 0 vacant

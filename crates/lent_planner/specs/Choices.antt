@@ -1,5 +1,5 @@
 -- What a turn has taken of the records that it has gone through, with the places where they stand.
-use Rattle.std.specs.Prelude.{◌≡◌, ◌⊎◌, List, [], ◌∷◌, ◌++◌, true, false, ℕ, ◌+◌, ◌≤◌, ◌<◌, length}
+use Rattle.std.specs.Prelude.{◌≡◌, List, [], ◌∷◌, ◌++◌, true, false, ℕ, ◌+◌, ◌≤◌, ◌<◌, length}
 use Rattle.requests.specs.declared.Setup.{Setup}
 use Rattle.requests.specs.declared.Entry.{Entry}
 use Rattle.requests.specs.Devices.{capacity, counter_count}
@@ -55,24 +55,6 @@ pub record LeavesNone (t : Choice) (e : Entry) : Type 0 where
   pub usable : t.setup.usable.0 < 64
   pub none : left_by t.counters e.request t.left ≡ 0
 
--- nothing more is looked at
-unfoldable pub stopped : Choice → Choice
-stopped t =
-    record {
-      setup = t.setup;
-      usable = t.usable;
-      counters = t.counters;
-      end = 0;
-      plan = t.plan;
-      left = t.left;
-      rows = t.rows;
-      taken = t.taken;
-      at = t.at;
-      count = t.count;
-    }
-
 -- the choice r after record i, which is e, where it was t
-pub record Chose (t : Choice) (i : ℕ) (e : Entry) (r : Choice) : Type 0 where
-  pub stops : e.id ≡ 0 → r ≡ stopped t
-  pub goes : (e.id ≡ 0 → ⊥) → (s : Setup) (q : List Entry) → HasChosen s q t → length q ≡ i → HasChosen s (q ++ e ∷ []) r
-  pub end : (e.id ≡ 0 → ⊥) → (r.end ≡ t.end) ⊎ ((r.end ≡ 0) × (usable_count t.setup ≤ r.count))
+abbrev pub Chose : Choice → ℕ → Entry → Choice → Type 0
+Chose t i e r = (s : Setup) (q : List Entry) → HasChosen s q t → length q ≡ i → HasChosen s (q ++ e ∷ []) r

@@ -1,9 +1,9 @@
 -- The rules of the lent records, tested in one pass: the ids below 65536 that are left are bits of 1024 words.
-use Rattle.std.specs.Prelude.{List, [], ◌∷◌, Bool, true, false, not, ℕ, ◌+◌, ◌-◌, ◌/◌, ◌%◌, ◌^◌, eqb, get_or, set, replicate}
+use Rattle.std.specs.Prelude.{List, [], ◌∷◌, Bool, true, false, not, ℕ, ◌+◌, ◌-◌, ◌/◌, ◌%◌, ◌^◌, Some, None, eqb, get_or, set, replicate}
 use Rattle.requests.specs.declared.Setup.{Setup}
 use Rattle.requests.specs.declared.Entry.{Entry}
 use Rattle.requests.specs.Bits.{bit}
-use Rattle.requests.specs.Choice.{both, either, pick}
+use Rattle.requests.specs.Choice.{both, pick}
 use Rattle.lent_sessions.specs.Records.{all_zero, may_wait}
 use Rattle.lent_planner.specs.declared.Survey.{Survey}
 
@@ -21,7 +21,7 @@ taken_id left id = set left (id / 64) (get_or left (id / 64) 0 - 2 ^ (id % 64))
 
 -- a pass that has not begun
 unfoldable pub fresh : Setup → ℕ → Survey
-fresh s id = record { setup = s; id = id; len = 0; at = 0; found = false; ended = false; broken = false }
+fresh s id = record { setup = s; id = id; len = 0; at = None; ended = false; broken = false }
 
 -- whether a record is the next that waits
 unfoldable pub may_count : List ℕ → Survey → Entry → Bool
@@ -34,19 +34,18 @@ counted t id =
       setup = t.setup;
       id = t.id;
       len = t.len + 1;
-      at = pick (eqb t.id id) t.len t.at;
-      found = either (eqb t.id id) t.found;
+      at = pick (eqb t.id id) (Some t.len) t.at;
       ended = t.ended;
       broken = t.broken;
     }
 
 -- a pass after a record whose id is 0
 unfoldable pub ended : Survey → Bool → Survey
-ended t zero = record { setup = t.setup; id = t.id; len = t.len; at = t.at; found = t.found; ended = true; broken = not zero }
+ended t zero = record { setup = t.setup; id = t.id; len = t.len; at = t.at; ended = true; broken = not zero }
 
 -- a pass after a record that breaks the rules
 unfoldable pub spoiled : Survey → Survey
-spoiled t = record { setup = t.setup; id = t.id; len = t.len; at = t.at; found = t.found; ended = t.ended; broken = true }
+spoiled t = record { setup = t.setup; id = t.id; len = t.len; at = t.at; ended = t.ended; broken = true }
 
 -- a pass after one more record, with the ids that are then left: whether the rules are broken, the record's id is 0, and it may count
 unfoldable pub step_by : Bool → Bool → Bool → List ℕ → Survey → Entry → Survey × List ℕ

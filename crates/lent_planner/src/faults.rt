@@ -2,7 +2,7 @@
 ghost use Rattle.std.specs.Prelude.{◌≡◌};
 ghost use Rattle.lent_sessions.specs.LentFaultTable.{lent_opening_fields};
 
-use crate::open::is_count;
+use crate::rules::is_count;
 use checks::fields::{no_fields, opening_fields};
 use requests::{Fields, Opening};
 
@@ -12,7 +12,8 @@ pub fn lent_opening_fields(n: usize, o: Opening) -> Fields
     ensures { result ≡ lent_opening_fields n o }
 {
     if is_count(n) {
-        return opening_fields(o);
+        opening_fields(o)
+    } else {
+        no_fields()
     }
-    no_fields()
 }

@@ -2,45 +2,45 @@
 ghost use Rattle.std.specs.Prelude.{◌≡◌, true, false, ◌∷◌, [], ◌+◌, ◌<◌, ◌^◌, length};
 ghost use Rattle.requests.specs.Checks.{formed};
 ghost use Rattle.plans.specs.Search.{has_plan_lem};
-ghost use Rattle.lent_sessions.specs.Records.{all_zero, may_wait};
-ghost use Rattle.lent_planner.specs.Surveys.{all_left_lem, is_left, taken_id, fresh, may_count, counted, ended, spoiled, survey_step, surveyed};
+ghost use Rattle.lent_sessions.specs.Records.{is_count, all_zero, may_wait};
+ghost use Rattle.lent_planner.specs.Surveys.{all_left_lem, is_left, taken_id, fresh, may_count, counted, survey_step, surveyed};
+ghost use Rattle.lent_planner.specs.Decisions.{ChecksRows};
 
 use crate::Survey;
 use checks::catalogue::look_up;
 use checks::check::request_refusal;
 use checks::devices::all_counters;
 use checks::set::has;
+use lent_sessions::{LentSession, MOST_RECORDS};
 use planner::add::plans_alone;
 use planner::ids::outside_ids;
-use requests::{Answer, CounterSet, Entry, Request, Setup};
+use requests::{Answer, CounterSet, Entry, Refusal, Request, Setup};
 use search::extend::counter_alone;
 
 // The words of a set of all ids below 65536.
 const WORDS: usize = 1024;
 
+// Whether so many records may be lent.
+#[tactic(auto, unfolding(lent_sessions::specs::Records::is_count, requests::specs::Choice::both, lent_sessions::specs::Records::most_records))]
+pub fn is_count(n: usize) -> bool
+    ensures { result ≡ is_count n }
+{
+    1 <= n && n <= MOST_RECORDS
+}
+
 // Whether the request is an event with all numbers 0.
 #[tactic(auto, unfolding(lent_sessions::specs::Records::all_zero, requests::specs::Choice::both))]
-pub fn all_zero(request: Request) -> bool
+fn all_zero(request: Request) -> bool
     ensures { result ≡ all_zero request }
 {
-    match request {
+    matches!(
+        request,
         Request::Event {
-            code,
-            mask,
-            allowed,
-        } => {
-            if code != 0 {
-                return false;
-            }
-            if mask != 0 {
-                return false;
-            }
-            allowed.0 == 0
+            code: 0,
+            mask: 0,
+            allowed: CounterSet(0)
         }
-        Request::Packet { .. } => false,
-        Request::Offcore { .. } => false,
-        Request::Latency { .. } => false,
-    }
+    )
 }
 
 // Whether the request is a listed event that asks for no counter but the device's, any of them, one of which is usable. Most requests are, and
@@ -49,203 +49,147 @@ pub fn all_zero(request: Request) -> bool
 fn fits_at_once(setup: Setup, request: Request) -> bool
     ensures { result ≡ true → (formed setup request ≡ true) × (has_plan_lem setup (request ∷ []) ≡ true) }
 {
-    match request {
-        Request::Event {
-            code,
-            mask,
-            allowed,
-        } => {
-            let device = setup.device;
-            let all = all_counters(device);
-            if all.0 < allowed.0 {
-                return false;
-            }
-            if !counter_alone(setup, request) {
-                return false;
-            }
-            let listing = look_up(device, code, mask);
-            listing.pair
-        }
-        Request::Packet { .. } => false,
-        Request::Offcore { .. } => false,
-        Request::Latency { .. } => false,
-    }
+    let Request::Event {
+        code,
+        mask,
+        allowed,
+    } = request
+    else {
+        return false;
+    };
+    allowed.0 <= all_counters(setup.device).0
+        && counter_alone(setup, request)
+        && look_up(setup.device, code, mask).pair
 }
 
 // Whether the record may wait: an id, and a well-formed request with a plan by itself.
 #[tactic(auto, unfolding(lent_sessions::specs::Records::may_wait, requests::specs::Choice::both, requests::specs::Checks::formed))]
-pub fn may_wait(setup: Setup, e: Entry) -> bool
-    ensures { result ≡ may_wait setup e }
+fn may_wait(setup: Setup, e: &Entry) -> bool
+    ensures { result ≡ may_wait setup e.now }
 {
     if outside_ids(e.id) {
         return false;
     }
-    let asked = e.request;
-    if fits_at_once(setup, asked) {
+    if fits_at_once(setup, e.request) {
         return true;
     }
-    let request = e.request;
-    match request_refusal(setup, request) {
-        Answer::Refused(_) => false,
-        Answer::Accepted => plans_alone(setup, request),
+    request_refusal(setup, e.request).is_ok() && plans_alone(setup, e.request)
+}
+
+// The ids below 65536 that no record has had, as bits.
+#[derive(Drop)]
+struct Ids {
+    words: [u64; WORDS],
+}
+
+impl Ids {
+    #[tactic(auto, unfolding(crate::specs::Surveys::all_left_lem))]
+    fn all() -> Ids
+        ensures { result.words ≡ all_left_lem }
+    {
+        Ids {
+            words: [u64::MAX; WORDS],
+        }
+    }
+
+    // Whether the id is left.
+    #[tactic(auto, unfolding(crate::specs::Surveys::is_left, requests::specs::Devices::has))]
+    fn contains(&self, id: u64) -> bool
+        ensures { result ≡ is_left self.now.words id }
+    {
+        let word = (id / 64) as usize;
+        word < WORDS && has(CounterSet(self.words[word]), id % 64)
+    }
+
+    // Takes an id that is left.
+    #[tactic(auto, unfolding(crate::specs::Surveys::is_left, crate::specs::Surveys::taken_id))]
+    fn take(&mut self, id: u64)
+        requires { is_left self.old.words id ≡ true }
+        ensures { self.new.words ≡ taken_id self.old.words id }
+    {
+        let word = (id / 64) as usize;
+        self.words[word] -= 1 << (id % 64);
     }
 }
 
-// Whether the id is left.
-#[tactic(auto, unfolding(crate::specs::Surveys::is_left, requests::specs::Devices::has))]
-pub fn is_left(left: &[u64], id: u64) -> bool
-    ensures { result ≡ is_left left.now id }
-{
-    let word = (id / 64) as usize;
-    if word < left.len() {
-        let ids = CounterSet(left[word]);
-        return has(ids, id % 64);
+impl Survey {
+    // A pass that has not begun.
+    #[tactic(auto, unfolding(crate::specs::Surveys::fresh))]
+    fn fresh(setup: Setup, id: u64) -> Survey
+        ensures { result ≡ fresh setup id }
+    {
+        Survey {
+            setup,
+            id,
+            len: 0,
+            at: None,
+            ended: false,
+            broken: false,
+        }
     }
-    false
-}
 
-// Takes an id that is left.
-#[tactic(auto, unfolding(crate::specs::Surveys::is_left, crate::specs::Surveys::taken_id))]
-pub fn take_id(left: &mut [u64], id: u64)
-    requires { is_left left.old id ≡ true }
-    ensures { left.new ≡ taken_id left.old id }
-{
-    let word = (id / 64) as usize;
-    left[word] = left[word] - (1 << (id % 64));
-}
-
-// All ids.
-#[tactic(auto, unfolding(crate::specs::Surveys::all_left_lem))]
-pub fn all_left() -> [u64; 1024]
-    ensures { result ≡ all_left_lem }
-{
-    [0xFFFF_FFFF_FFFF_FFFF; WORDS]
-}
-
-// A pass that has not begun.
-#[tactic(auto, unfolding(crate::specs::Surveys::fresh))]
-pub fn fresh(setup: Setup, id: u64) -> Survey
-    ensures { result ≡ fresh setup id }
-{
-    Survey {
-        setup: setup,
-        id: id,
-        len: 0,
-        at: 0,
-        found: false,
-        ended: false,
-        broken: false,
+    // Whether the record is the next that waits.
+    #[tactic(auto, unfolding(crate::specs::Surveys::may_count, requests::specs::Choice::both))]
+    fn may_count(&self, left: &Ids, e: &Entry) -> bool
+        ensures { result ≡ may_count left.now.words self.now e.now }
+    {
+        !self.ended && may_wait(self.setup, e) && left.contains(e.id)
     }
-}
 
-// Whether the record is the next that waits.
-#[tactic(auto, unfolding(crate::specs::Surveys::may_count, requests::specs::Choice::both))]
-pub fn may_count(left: &[u64], t: Survey, e: Entry) -> bool
-    ensures { result ≡ may_count left.now t e }
-{
-    if t.ended {
-        return false;
+    // One more record waits.
+    #[tactic(auto, unfolding(crate::specs::Surveys::counted))]
+    fn count(&mut self, id: u64)
+        requires { self.old.len + 1 < 2 ^ 64 }
+        ensures { self.new ≡ counted self.old id }
+    {
+        if self.id == id {
+            self.at = Some(self.len);
+        }
+        self.len += 1;
     }
-    let setup = t.setup;
-    if may_wait(setup, e) {
-        return is_left(left, e.id);
-    }
-    false
-}
 
-// The pass after one more record that waits.
-#[tactic(auto, unfolding(crate::specs::Surveys::counted, requests::specs::Choice::either))]
-pub fn counted(t: Survey, id: u64) -> Survey
-    requires { t.len + 1 < 2 ^ 64 }
-    ensures { result ≡ counted t id }
-{
-    let setup = t.setup;
-    if t.id == id {
-        return Survey {
-            setup: setup,
-            id: t.id,
-            len: t.len + 1,
-            at: t.len,
-            found: true,
-            ended: t.ended,
-            broken: t.broken,
-        };
+    // The pass goes over one more record.
+    #[tactic(auto, unfolding(crate::specs::Surveys::ended, crate::specs::Surveys::spoiled))]
+    fn step(&mut self, left: &mut Ids, e: &Entry)
+        requires { self.old.len + 1 < 2 ^ 64 }
+        ensures { (self.new, left.new.words) ≡ survey_step left.old.words self.old e.now }
+    {
+        if self.broken {
+            return;
+        }
+        if e.id == 0 {
+            self.ended = true;
+            self.broken = !all_zero(e.request);
+        } else if self.may_count(left, e) {
+            left.take(e.id);
+            self.count(e.id);
+        } else {
+            self.broken = true;
+        }
     }
-    Survey {
-        setup: setup,
-        id: t.id,
-        len: t.len + 1,
-        at: t.at,
-        found: t.found,
-        ended: t.ended,
-        broken: t.broken,
+
+    // What comes before the refusal table in a call on the queue, with n records in which this is found.
+    pub fn check(&self, session: LentSession, n: usize) -> Answer
+        ensures { ChecksRows session n self.now result }
+    {
+        if !session.opened {
+            return Err(Refusal::CallOrder);
+        }
+        if !is_count(n) || self.broken {
+            return Err(Refusal::BadOpening);
+        }
+        Ok(())
     }
 }
 
-// The pass after a record whose id is 0.
-#[tactic(auto, unfolding(crate::specs::Surveys::ended))]
-pub fn ended(t: Survey, zero: bool) -> Survey
-    ensures { result ≡ ended t zero }
+// The pass over all records, in which the id is looked for.
+pub fn survey(rows: &[Entry], setup: Setup, id: u64) -> Survey
+    ensures { result ≡ surveyed (fresh setup id) rows.now }
 {
-    let setup = t.setup;
-    Survey {
-        setup: setup,
-        id: t.id,
-        len: t.len,
-        at: t.at,
-        found: t.found,
-        ended: true,
-        broken: !zero,
-    }
-}
-
-// The pass after a record that breaks the rules.
-#[tactic(auto, unfolding(crate::specs::Surveys::spoiled))]
-pub fn spoiled(t: Survey) -> Survey
-    ensures { result ≡ spoiled t }
-{
-    let setup = t.setup;
-    Survey {
-        setup: setup,
-        id: t.id,
-        len: t.len,
-        at: t.at,
-        found: t.found,
-        ended: t.ended,
-        broken: true,
-    }
-}
-
-// The pass after one more record.
-pub fn survey_step(left: &mut [u64], t: Survey, e: Entry) -> Survey
-    requires { t.len + 1 < 2 ^ 64 }
-    ensures { (result, left.new) ≡ survey_step left.old t e }
-{
-    if t.broken {
-        return t;
-    }
-    if e.id == 0 {
-        let request = e.request;
-        return ended(t, all_zero(request));
-    }
-    if may_count(left, t, e) {
-        take_id(left, e.id);
-        return counted(t, e.id);
-    }
-    spoiled(t)
-}
-
-// The pass over all records.
-pub fn survey(rows: &[Entry], s: Survey) -> Survey
-    requires { s.len ≡ 0 }
-    ensures { result ≡ surveyed s rows.now }
-{
-    let mut left = all_left();
-    let mut t = s;
-    let mut i = 0;
-    while i < rows.len() {
-        t = survey_step(&mut left, t, rows[i]);
-        i = i + 1;
+    let mut left = Ids::all();
+    let mut t = Survey::fresh(setup, id);
+    for e in rows {
+        t.step(&mut left, e);
     }
     t
 }

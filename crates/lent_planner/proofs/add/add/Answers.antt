@@ -1,7 +1,8 @@
-use Rattle.std.proofs.Common.{refl}
-use Rattle.lent_planner.specs.Surveys.{fresh}
+use Rattle.sessions.specs.Calls.{Add}
+use Rattle.lent_planner.proofs.Deciding.{with_session, add_stays}
 use Rattle.lent_planner.proofs.add.add.Goals as goal
 
-pub survey-t-requires : goal.survey-t-requires
-unfolding fresh
-survey-t-requires c = rw c.fresh-s.ensures refl
+pub returns : goal.returns
+returns c =
+    let a = c.args in
+    with_session a.session a.rows.now (Add a.id a.request) c.add_to-answer.result c.add_to-answer.new.rows (add_stays a.session a.rows.now a.id a.request) c.add_to-answer.ensures

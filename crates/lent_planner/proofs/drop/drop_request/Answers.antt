@@ -1,7 +1,8 @@
-use Rattle.std.proofs.Common.{refl}
-use Rattle.lent_planner.specs.Surveys.{fresh}
+use Rattle.sessions.specs.Calls.{Drop}
+use Rattle.lent_planner.proofs.Deciding.{with_session, drop_stays}
 use Rattle.lent_planner.proofs.drop.drop_request.Goals as goal
 
-pub survey-t-requires : goal.survey-t-requires
-unfolding fresh
-survey-t-requires c = rw c.fresh-s.ensures refl
+pub returns : goal.returns
+returns c =
+    let a = c.args in
+    with_session a.session a.rows.now (Drop a.id) c.drop_from-answer.result c.drop_from-answer.new.rows (drop_stays a.session a.rows.now a.id) c.drop_from-answer.ensures
