@@ -1,4 +1,3 @@
-pub mod SignedNumbers
 pub mod CallAnswers
 pub mod RoomFilled
 pub mod WholeFiles

@@ -4,8 +4,9 @@ use mathlib.Core.Path.{◌≡◌, refl, sym, ap, ◌∙◌}
 use Prim.Native.Nat.{ℕ, ◌+◌, ◌-◌, ◌≤◌, ◌<◌}
 use native.Mathlib.Omega.{arith}
 use lib.Dec.{ltb, eqb}
-use lib.IntN.{ℤ, pos, negsuc}
+use lib.IntN.{ℤ}
 use borrow.Author.Tests.{eqb-true, eqb-false, ltb-true, ltb-false}
+use Rattle.std.specs.Prelude.{Result, Ok, Err}
 use Rattle.descriptors.specs.Io.{Moved}
 use Rattle.descriptors.specs.Failures.{failure_of}
 use Rattle.descriptors.specs.Writes.{write_start, next_after, next_at, write_step, goes_on_lem, is_complete, Reached, begun, called}
@@ -104,14 +105,14 @@ module _ (n done k : ℕ) (left : done < n) (moved : k ≤ n - done) where
       go false e true f = short n after (ltb-true (done + k) n f) (ap is_complete (goes e f))
       go false e false f = full n after (omega (arith, left, moved, ltb-false (done + k) n f)) (ends e f)
 
-at_step : (n done : ℕ) (answer error : ℤ) → done < n → Moved (n - done) answer → Known n (write_step n done answer error)
+at_step : (n done : ℕ) (answer : Result ℕ ℤ) → done < n → Moved (n - done) answer → Known n (write_step n done answer)
 unfolding write_step
-at_step n done (pos k) error left moved = at_moved n done k left moved
-at_step n done (negsuc k) error left moved = short n (record { done = done; next = next_after (failure_of error) }) left (not_complete (failure_of error))
+at_step n done (Ok k) left moved = at_moved n done k left moved
+at_step n done (Err errno) left moved = short n (record { done = done; next = next_after (failure_of errno) }) left (not_complete (failure_of errno))
 
 pub known : {n : ℕ} {w : Writing} → Reached n w → Known n w
 known {n} begun = at_start_lem n
-known {n} (called {w} reached g answer error moved) = at_step n w.done answer error ((known reached).going g) moved
+known {n} (called {w} reached g answer moved) = at_step n w.done answer ((known reached).going g) moved
 
 pub reports : Reports
 reports =

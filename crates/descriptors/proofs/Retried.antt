@@ -3,7 +3,6 @@ use mathlib.Core.Bool.{Bool, true, false, false≢true}
 use mathlib.Core.Path.{◌≡◌, refl, sym, ap, ◌∙◌}
 use mathlib.Core.Logic.{◌⊎◌, inl, inr, ⊎_elim}
 use Prim.Native.Nat.{ℕ}
-use native.Mathlib.Omega.{arith}
 use lib.Dec.{eqb}
 use lib.IntN.{ℤ, pos, negsuc}
 use borrow.Author.Tests.{eqb-true}
@@ -12,9 +11,9 @@ use Rattle.descriptors.specs.Reads.{read_after, read_step, read_again_lem}
 use Rattle.descriptors.specs.Writes.{next_after, write_step, goes_on_lem, is_complete}
 use Rattle.descriptors.specs.Retries.{Retries}
 use Rattle.descriptors.specs.declared.Failure.{Failure}
-use Rattle.descriptors.specs.declared.Failure.TheVariants.{Interrupted, WouldBlock, Closed, Other}
-use Rattle.descriptors.specs.declared.Reading.TheVariants.{End}
+use Rattle.descriptors.specs.declared.Failure.TheVariants.{Closed, Other}
 use Rattle.descriptors.proofs.Reported.{not_complete}
+use Rattle.descriptors.proofs.AnswersCounted.{not_end}
 
 -- why a call failed, case by case
 closed : (m : ℕ) → eqb m 4 ≡ false → eqb m 11 ≡ false → eqb m 32 ≡ true → failure_of (pos m) ≡ Closed
@@ -30,7 +29,7 @@ unfolding failure_of
 below m = refl
 
 -- whatever test tells the two from the others
-again : (test : Failure → Bool) → test Closed ≡ false → test Other ≡ false → (error : ℤ) → test (failure_of error) ≡ true → (error ≡ pos 4) ⊎ (error ≡ pos 11)
+again : (test : Failure → Bool) → test Closed ≡ false → test Other ≡ false → (errno : ℤ) → test (failure_of errno) ≡ true → (errno ≡ pos 4) ⊎ (errno ≡ pos 11)
 again test x y (pos m) h = go (eqb m 4) refl (eqb m 11) refl (eqb m 32) refl
   where
     go : (a : Bool) → eqb m 4 ≡ a → (b : Bool) → eqb m 11 ≡ b → (c : Bool) → eqb m 32 ≡ c → (pos m ≡ pos 4) ⊎ (pos m ≡ pos 11)
@@ -40,29 +39,23 @@ again test x y (pos m) h = go (eqb m 4) refl (eqb m 11) refl (eqb m 32) refl
     go false e false f false g = absurd (false≢true (sym y ∙ ap test (sym (other m e f g)) ∙ h))
 again test x y (negsuc m) h = absurd (false≢true (sym y ∙ ap test (sym (below m)) ∙ h))
 
-not_end : (f : Failure) → read_after f ≡ End → ⊥
-not_end Interrupted e = let z : ◌≡◌ {A = ℕ} 0 1 = cc in absurd (omega arith)
-not_end WouldBlock e = let z : ◌≡◌ {A = ℕ} 0 1 = cc in absurd (omega arith)
-not_end Closed e = let z : ◌≡◌ {A = ℕ} 0 1 = cc in absurd (omega arith)
-not_end Other e = let z : ◌≡◌ {A = ℕ} 0 1 = cc in absurd (omega arith)
-
 -- a signal's is one of them, and blocking is not a signal's
-signalled : (error : ℤ) → is_interrupted (failure_of error) ≡ true → error ≡ pos 4
+signalled : (errno : ℤ) → is_interrupted (failure_of errno) ≡ true → errno ≡ pos 4
 unfolding failure_of interrupted would_block
-signalled error h = ⊎_elim (λ e. e) (λ e. absurd (false≢true (ap (λ (z : ℤ). is_interrupted (failure_of z)) (sym e) ∙ h))) (again is_interrupted refl refl error h)
+signalled errno h = ⊎_elim (λ e. e) (λ e. absurd (false≢true (ap (λ (z : ℤ). is_interrupted (failure_of z)) (sym e) ∙ h))) (again is_interrupted refl refl errno h)
 
 pub retries : Retries
 unfolding write_step read_step failure_of interrupted would_block
 retries =
     record {
-      write_interrupted = λ n done k. refl;
-      write_blocked = λ n done k. refl;
-      write_again = λ n done k error h. again (λ (f : Failure). goes_on_lem (next_after f)) refl refl error h;
-      write_failed = λ n done k error e. false≢true (sym (not_complete (failure_of error)) ∙ ap is_complete e);
-      read_interrupted = λ k. refl;
-      read_blocked = λ k. refl;
-      read_again = λ k error h. again (λ (f : Failure). read_again_lem (read_after f)) refl refl error h;
-      read_failed = λ k error e. not_end (failure_of error) e;
+      write_interrupted = λ n done. refl;
+      write_blocked = λ n done. refl;
+      write_again = λ n done errno h. again (λ (f : Failure). goes_on_lem (next_after f)) refl refl errno h;
+      write_failed = λ n done errno e. false≢true (sym (not_complete (failure_of errno)) ∙ ap is_complete e);
+      read_interrupted = refl;
+      read_blocked = refl;
+      read_again = λ errno h. again (λ (f : Failure). read_again_lem (read_after f)) refl refl errno h;
+      read_failed = λ errno e. not_end (failure_of errno) e;
       open_interrupted = refl;
       open_again = signalled;
     }

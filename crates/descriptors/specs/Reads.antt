@@ -1,5 +1,5 @@
 -- What calls of `read` come to.
-use Rattle.std.specs.Prelude.{Bool, true, false, List, ℕ, ◌≤◌, ◌<◌, eqb, ℤ, pos, negsuc, length}
+use Rattle.std.specs.Prelude.{Bool, true, false, List, ℕ, ◌≤◌, ◌<◌, eqb, ℤ, Result, Ok, Err, length}
 use Rattle.descriptors.specs.Failures.{failure_of}
 use Rattle.descriptors.specs.declared.Failure.{Failure}
 use Rattle.descriptors.specs.declared.Failure.TheVariants.{Interrupted, WouldBlock, Closed, Other}
@@ -13,10 +13,10 @@ read_after WouldBlock = Wait
 read_after Closed = Failed
 read_after Other = Failed
 
--- a call's answer, with errno: a number of bytes, which is 0 at the end of the input, or a failure
-unfoldable pub read_step : ℤ → ℤ → Reading
-read_step (pos n) error = elim (eqb n 0) [ true ↦ End | false ↦ Bytes n ]
-read_step (negsuc n) error = read_after (failure_of error)
+-- a call's answer: a number of bytes, which is 0 at the end of the input, or errno
+unfoldable pub read_step : Result ℕ ℤ → Reading
+read_step (Ok n) = elim (eqb n 0) [ true ↦ End | false ↦ Bytes n ]
+read_step (Err errno) = read_after (failure_of errno)
 
 -- whether the call is made again
 abbrev pub read_again_lem : Reading → Bool

@@ -1,5 +1,5 @@
 -- What calls of `write` on a text come to: how much of it they have reported written, and what comes next.
-use Rattle.std.specs.Prelude.{Bool, true, false, ◌≡◌, ℕ, ◌+◌, ◌-◌, ltb, eqb, ℤ, pos, negsuc}
+use Rattle.std.specs.Prelude.{Bool, true, false, ◌≡◌, ℕ, ◌+◌, ◌-◌, ltb, eqb, ℤ, Result, Ok, Err}
 use Rattle.descriptors.specs.Io.{Moved}
 use Rattle.descriptors.specs.Failures.{failure_of}
 use Rattle.descriptors.specs.declared.Failure.{Failure}
@@ -22,10 +22,10 @@ next_after Failure.Other = Failed
 unfoldable pub next_at : ℕ → ℕ → ℕ → Next
 next_at n before after = elim (eqb after before) [ true ↦ Stuck | false ↦ elim (ltb after n) [ true ↦ Go | false ↦ Complete ] ]
 
--- a call's answer, with errno, on the bytes of n that are not yet done
-unfoldable pub write_step : ℕ → ℕ → ℤ → ℤ → Writing
-write_step n done (pos k) error = record { done = done + k; next = next_at n done (done + k) }
-write_step n done (negsuc k) error = record { done = done; next = next_after (failure_of error) }
+-- a call's answer on the bytes of n that are not yet done
+unfoldable pub write_step : ℕ → ℕ → Result ℕ ℤ → Writing
+write_step n done (Ok k) = record { done = done + k; next = next_at n done (done + k) }
+write_step n done (Err errno) = record { done = done; next = next_after (failure_of errno) }
 
 -- whether a call is made
 abbrev pub goes_on_lem : Next → Bool
@@ -48,4 +48,4 @@ is_complete Stuck = false
 -- what calls on n bytes can come to, each on the bytes not yet done and with an answer that `write` may give
 pub data Reached (n : ℕ) : Writing → Type 0 where
   begun : Reached n (write_start n)
-  called : {w : Writing} → Reached n w → goes_on_lem w.next ≡ true → (answer error : ℤ) → Moved (n - w.done) answer → Reached n (write_step n w.done answer error)
+  called : {w : Writing} → Reached n w → goes_on_lem w.next ≡ true → (answer : Result ℕ ℤ) → Moved (n - w.done) answer → Reached n (write_step n w.done answer)

@@ -4,38 +4,35 @@ ghost use Rattle.descriptors.specs.Failures.{failure_of, is_interrupted};
 
 use crate::Failure;
 
-// Linux's numbers for a call that a signal interrupted, for one that would block, and for a closed pipe.
-const EINTR: i32 = 4;
+// Linux's numbers for a call that a signal interrupted, for one that would block, for a closed pipe, and for an error of input or output.
+pub const EINTR: i32 = 4;
 
-const EAGAIN: i32 = 11;
+pub const EAGAIN: i32 = 11;
 
-const EPIPE: i32 = 32;
+pub const EPIPE: i32 = 32;
 
-// Why a call failed that left this errno. On Linux EWOULDBLOCK is EAGAIN.
-#[tactic(auto, using(crate::proofs::CallAnswers::other_failure), unfolding(crate::specs::Failures::failure_of, crate::specs::Failures::interrupted, crate::specs::Failures::would_block, crate::specs::Failures::closed_pipe))]
-pub fn failure_of(error: i32) -> Failure
-    ensures { result ≡ failure_of error }
-{
-    if error == EINTR {
-        return Failure::Interrupted;
+pub const EIO: i32 = 5;
+
+// By the errno that the call left. On Linux EWOULDBLOCK is EAGAIN.
+impl From<i32> for Failure {
+    ghost from_gives = { λ errno failure. failure ≡ failure_of errno };
+
+    #[tactic(auto, using(crate::proofs::CallAnswers::other_failure), unfolding(crate::specs::Failures::failure_of, crate::specs::Failures::interrupted, crate::specs::Failures::would_block, crate::specs::Failures::closed_pipe))]
+    fn from(errno: i32) -> Failure {
+        match errno {
+            EINTR => Failure::Interrupted,
+            EAGAIN => Failure::WouldBlock,
+            EPIPE => Failure::Closed,
+            _ => Failure::Other,
+        }
     }
-    if error == EAGAIN {
-        return Failure::WouldBlock;
-    }
-    if error == EPIPE {
-        return Failure::Closed;
-    }
-    Failure::Other
 }
 
-// Whether a signal interrupted a call that failed so.
-pub fn is_interrupted(failure: Failure) -> bool
-    ensures { result ≡ is_interrupted failure }
-{
-    match failure {
-        Failure::Interrupted => true,
-        Failure::WouldBlock => false,
-        Failure::Closed => false,
-        Failure::Other => false,
+impl Failure {
+    // Whether a signal interrupted the call.
+    pub fn is_interrupted(self) -> bool
+        ensures { result ≡ is_interrupted self }
+    {
+        matches!(self, Failure::Interrupted)
     }
 }

@@ -4,10 +4,9 @@ ghost use Rattle.descriptors.specs.Reads.{ReadWithin};
 ghost use Rattle.descriptors.specs.Files.{file_after, FileWithin};
 
 use crate::answers::number_of;
-use crate::failures::{failure_of, is_interrupted};
 use crate::read::{bytes_read, read_named};
 use crate::told::{Tell, fail, tell_decimal};
-use crate::{FileRead, Reading};
+use crate::{Failure, Reading, Unread};
 use std::io::Read;
 use std::rt::{Clock, Files};
 use std::{fs, io, str};
@@ -17,27 +16,25 @@ const EILSEQ: i32 = 84;
 
 // Opens a file to read. In std a path is text.
 fn open_once<H: Files>(rt: &H, path: &[u8]) -> io::Result<H::File> {
-    match str::from_utf8(path) {
-        Ok(text) => fs::open(rt, text),
-        Err(_) => Err(io::Error::from_raw_os_error(EILSEQ)),
-    }
+    let text = str::from_utf8(path).map_err(|_| io::Error::from_raw_os_error(EILSEQ))?;
+    fs::open(rt, text)
 }
 
-// Opens a file to read, and answers it, or `None`, after the reason is told.
+// Opens a file to read. The reason why one is not opened is told.
 // A proved loop has to end, so it counts to a number that no run comes to.
-fn open<H: Files + Tell>(rt: &H, path: &[u8]) -> Option<H::File> {
+fn open<H: Files + Tell>(rt: &H, path: &[u8]) -> Result<H::File, Unread> {
     for _ in 0..u64::MAX {
         match open_once(rt, path) {
-            Ok(input) => return Some(input),
+            Ok(input) => return Ok(input),
             Err(error) => {
-                if !is_interrupted(failure_of(number_of(&error))) {
+                if !Failure::from(number_of(&error)).is_interrupted() {
                     fail(rt, path, &error);
-                    return None;
+                    return Err(Unread::Failed);
                 }
             }
         }
     }
-    None
+    Err(Unread::Failed)
 }
 
 // Reads more of a file. A read into no byte answers 0, and that is not the end of the file.
@@ -54,15 +51,13 @@ fn read_more<H: Clock + Tell, R: Read>(
 }
 
 // What a file comes to, by the last read, which follows so many bytes that are in the room.
-fn file_after(last: Reading, done: usize) -> FileRead
+fn file_after(last: Reading, done: usize) -> Result<usize, Unread>
     ensures { result ≡ file_after last done }
 {
     match last {
-        Reading::Bytes(_) => FileRead::TooLong,
-        Reading::End => FileRead::Bytes(done),
-        Reading::Again => FileRead::Failed,
-        Reading::Wait => FileRead::Failed,
-        Reading::Failed => FileRead::Failed,
+        Reading::End => Ok(done),
+        Reading::Bytes(_) => Err(Unread::TooLong),
+        Reading::Again | Reading::Wait | Reading::Failed => Err(Unread::Failed),
     }
 }
 
@@ -72,10 +67,11 @@ fn read_whole<H: Clock + Tell, R: Read>(
     input: &mut R,
     path: &[u8],
     room: &mut [u8],
-) -> FileRead
+) -> Result<usize, Unread>
     ensures { FileWithin room.new result }
 {
     let mut done = 0;
+    // Form: a turn goes on by as many bytes as were read, so no `for` fits.
     while done < room.len() {
         let reading = read_more(rt, input, path, &mut room[done..]);
         let n = bytes_read(reading);
@@ -97,24 +93,19 @@ fn tell_length<H: Tell>(rt: &H, path: &[u8], room: usize) {
     rt.tell(b" bytes\n");
 }
 
-// Tells what is not yet told of a file.
-fn attend<H: Tell>(rt: &H, read: FileRead, path: &[u8], room: usize) {
-    match read {
-        FileRead::Bytes(_) => {}
-        FileRead::TooLong => tell_length(rt, path, room),
-        FileRead::Failed => {}
-    }
-}
-
 // Reads a file whole, into the room from its start on.
-pub fn read_file<H: Files + Clock + Tell>(rt: &H, path: &[u8], room: &mut [u8]) -> FileRead
+pub fn read_file<H: Files + Clock + Tell>(
+    rt: &H,
+    path: &[u8],
+    room: &mut [u8],
+) -> Result<usize, Unread>
     ensures { FileWithin room.new result }
 {
-    let Some(mut input) = open(rt, path) else {
-        return FileRead::Failed;
-    };
+    let mut input = open(rt, path)?;
     let read = read_whole(rt, &mut input, path, room);
     drop(input);
-    attend(rt, read, path, room.len());
+    if let Err(Unread::TooLong) = read {
+        tell_length(rt, path, room.len());
+    }
     read
 }

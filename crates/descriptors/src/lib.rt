@@ -13,7 +13,7 @@ pub mod told;
 pub mod write;
 
 // Why a call failed, by its errno.
-#[derive(Clone, Copy)]
+#[derive(Clone, Copy, PartialEq, Eq)]
 pub enum Failure {
     Interrupted,
     WouldBlock,
@@ -31,11 +31,9 @@ pub enum Reading {
     Failed,
 }
 
-// What reading a file whole comes to: the number of its bytes, or that it has more than there is room for, or a failure. The last
-// two were told on standard error.
+// Why a file is not read whole, which was told on standard error: it has more bytes than there is room for, or a call failed.
 #[derive(Clone, Copy)]
-pub enum FileRead {
-    Bytes(usize),
+pub enum Unread {
     TooLong,
     Failed,
 }

@@ -3,9 +3,8 @@ ghost use Rattle.std.specs.Prelude.{◌≡◌};
 ghost use Rattle.descriptors.specs.Reads.{read_after, read_step, read_again_lem, bytes_read, ReadWithin};
 
 use crate::answers::answer_of;
-use crate::failures::failure_of;
 use crate::pause::pause;
-use crate::told::{Tell, fail};
+use crate::told::{Tell, tell_failure};
 use crate::{Failure, Reading};
 use std::io;
 use std::io::Read;
@@ -18,36 +17,27 @@ fn read_after(failure: Failure) -> Reading
     match failure {
         Failure::Interrupted => Reading::Again,
         Failure::WouldBlock => Reading::Wait,
-        Failure::Closed => Reading::Failed,
-        Failure::Other => Reading::Failed,
+        Failure::Closed | Failure::Other => Reading::Failed,
     }
 }
 
-// What a call of read comes to, by its answer and errno.
+// What a call of read comes to, by its answer.
 #[tactic(auto, unfolding(crate::specs::Reads::read_step))]
-fn read_step(got: isize, error: i32) -> Reading
-    ensures { result ≡ read_step got error }
+fn read_step(answer: Result<usize, i32>) -> Reading
+    ensures { result ≡ read_step answer }
 {
-    if got < 0 {
-        return read_after(failure_of(error));
+    match answer {
+        Ok(0) => Reading::End,
+        Ok(n) => Reading::Bytes(n),
+        Err(errno) => read_after(Failure::from(errno)),
     }
-    if got == 0 {
-        return Reading::End;
-    }
-    Reading::Bytes(got as usize)
 }
 
 // Whether the call is to be made again.
 fn is_again(reading: Reading) -> bool
     ensures { result ≡ read_again_lem reading }
 {
-    match reading {
-        Reading::Bytes(_) => false,
-        Reading::End => false,
-        Reading::Again => true,
-        Reading::Wait => true,
-        Reading::Failed => false,
-    }
+    matches!(reading, Reading::Again | Reading::Wait)
 }
 
 // The number of bytes read.
@@ -56,27 +46,14 @@ pub fn bytes_read(reading: Reading) -> usize
 {
     match reading {
         Reading::Bytes(n) => n,
-        Reading::End => 0,
-        Reading::Again => 0,
-        Reading::Wait => 0,
-        Reading::Failed => 0,
-    }
-}
-
-// Tells a read that failed, of an input with this name.
-fn tell_failure<H: Tell>(rt: &H, name: &[u8], returned: &io::Result<usize>) {
-    match returned {
-        Ok(_) => {}
-        Err(error) => fail(rt, name, error),
+        Reading::End | Reading::Again | Reading::Wait | Reading::Failed => 0,
     }
 }
 
 // Waits where a read would block, and tells one that failed, of an input with this name.
 fn attend<H: Clock + Tell>(rt: &H, reading: Reading, name: &[u8], returned: &io::Result<usize>) {
     match reading {
-        Reading::Bytes(_) => {}
-        Reading::End => {}
-        Reading::Again => {}
+        Reading::Bytes(_) | Reading::End | Reading::Again => {}
         Reading::Wait => pause(rt),
         Reading::Failed => tell_failure(rt, name, returned),
     }
@@ -95,8 +72,7 @@ pub fn read_named<H: Clock + Tell, R: Read>(
 {
     for _ in 0..u64::MAX {
         let returned = input.read(block);
-        let answer = answer_of(&returned);
-        let reading = read_step(answer.got, answer.error);
+        let reading = read_step(answer_of(&returned));
         attend(rt, reading, name, &returned);
         if !is_again(reading) {
             return reading;

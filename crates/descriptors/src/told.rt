@@ -15,6 +15,7 @@ impl Tell for HostRuntime {
 }
 
 // The start of a text, as much as there is room for.
+// Form: no heap, so a text has an array of a fixed size, and its length.
 #[derive(Drop)]
 struct Text {
     bytes: [u8; ROOM],
@@ -70,6 +71,13 @@ pub fn fail<H: Tell>(rt: &H, what: &[u8], error: &io::Error) {
         None => rt.tell(text.as_bytes()),
     }
     rt.tell(b"\n");
+}
+
+// Tells the failure of a call that returned this, if it failed.
+pub(crate) fn tell_failure<H: Tell>(rt: &H, what: &[u8], returned: &io::Result<usize>) {
+    if let Err(error) = returned {
+        fail(rt, what, error);
+    }
 }
 
 // Tells a number in decimal.

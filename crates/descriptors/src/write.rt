@@ -5,9 +5,8 @@ ghost use Rattle.descriptors.specs.Io.{Moved};
 ghost use Rattle.descriptors.specs.Writes.{next_after, next_at, goes_on_lem, is_complete, write_start, write_step, Reached};
 
 use crate::answers::answer_of;
-use crate::failures::failure_of;
 use crate::pause::pause;
-use crate::told::{Tell, fail};
+use crate::told::{Tell, tell_failure};
 use crate::{Failure, Next, Writing};
 use std::io;
 use std::io::Write;
@@ -18,16 +17,12 @@ use std::rt::Clock;
 fn write_start(length: usize) -> Writing
     ensures { result ≡ write_start length }
 {
-    if length == 0 {
-        return Writing {
-            done: 0,
-            next: Next::Complete,
-        };
-    }
-    Writing {
-        done: 0,
-        next: Next::Go,
-    }
+    let next = if length == 0 {
+        Next::Complete
+    } else {
+        Next::Go
+    };
+    Writing { done: 0, next }
 }
 
 // What comes after a call that failed.
@@ -48,32 +43,33 @@ fn next_at(length: usize, before: usize, after: usize) -> Next
     ensures { result ≡ next_at length before after }
 {
     if after == before {
-        return Next::Stuck;
+        Next::Stuck
+    } else if after < length {
+        Next::Go
+    } else {
+        Next::Complete
     }
-    if after < length {
-        return Next::Go;
-    }
-    Next::Complete
 }
 
-// What a call of write on the bytes that are not yet done comes to, by its answer and errno.
+// What a call of write on the bytes that are not yet done comes to, by its answer.
 #[tactic(auto, unfolding(crate::specs::Writes::write_step))]
-fn write_step(length: usize, state: Writing, got: isize, error: i32) -> Writing
+fn write_step(length: usize, state: Writing, answer: Result<usize, i32>) -> Writing
     requires done_in_bounds { state.done ≤ length }
-    requires moved { Moved (length - state.done) got }
-    ensures { result ≡ write_step length state.done got error }
+    requires moved { Moved (length - state.done) answer }
+    ensures { result ≡ write_step length state.done answer }
 {
-    let done = state.done;
-    if got < 0 {
-        return Writing {
-            done,
-            next: next_after(failure_of(error)),
-        };
-    }
-    let after = done + got as usize;
-    Writing {
-        done: after,
-        next: next_at(length, done, after),
+    match answer {
+        Ok(n) => {
+            let done = state.done + n;
+            Writing {
+                done,
+                next: next_at(length, state.done, done),
+            }
+        }
+        Err(errno) => Writing {
+            next: next_after(Failure::from(errno)),
+            ..state
+        },
     }
 }
 
@@ -81,46 +77,22 @@ fn write_step(length: usize, state: Writing, got: isize, error: i32) -> Writing
 fn goes_on(next: Next) -> bool
     ensures { result ≡ goes_on_lem next }
 {
-    match next {
-        Next::Go => true,
-        Next::Wait => true,
-        Next::Complete => false,
-        Next::Closed => false,
-        Next::Failed => false,
-        Next::Stuck => false,
-    }
+    matches!(next, Next::Go | Next::Wait)
 }
 
 // Whether all is written.
 pub fn is_complete(next: Next) -> bool
     ensures { result ≡ is_complete next }
 {
-    match next {
-        Next::Go => false,
-        Next::Wait => false,
-        Next::Complete => true,
-        Next::Closed => false,
-        Next::Failed => false,
-        Next::Stuck => false,
-    }
-}
-
-// Tells a write that failed.
-fn tell_failure<H: Tell>(rt: &H, returned: &io::Result<usize>) {
-    match returned {
-        Ok(_) => {}
-        Err(error) => fail(rt, b"write", error),
-    }
+    matches!(next, Next::Complete)
 }
 
 // Waits where a write would block, and tells one that failed. A closed output is not told.
 fn attend<H: Clock + Tell>(rt: &H, next: Next, returned: &io::Result<usize>) {
     match next {
-        Next::Go => {}
+        Next::Go | Next::Complete | Next::Closed => {}
         Next::Wait => pause(rt),
-        Next::Complete => {}
-        Next::Closed => {}
-        Next::Failed => tell_failure(rt, returned),
+        Next::Failed => tell_failure(rt, b"write", returned),
         Next::Stuck => rt.tell(b"write: nothing was taken\n"),
     }
 }
@@ -132,16 +104,13 @@ pub fn send<H: Clock + Tell, W: Write>(rt: &H, output: &mut W, text: &[u8]) -> W
 {
     let mut state = write_start(text.len());
     for _ in 0..u64::MAX {
-        let next = state.next;
-        if !goes_on(next) {
+        if !goes_on(state.next) {
             return state;
         }
         let from = state.done;
         let returned = output.write(&text[from..]);
-        let answer = answer_of(&returned);
-        state = write_step(text.len(), state, answer.got, answer.error);
-        let after = state.next;
-        attend(rt, after, &returned);
+        state = write_step(text.len(), state, answer_of(&returned));
+        attend(rt, state.next, &returned);
     }
     state
 }

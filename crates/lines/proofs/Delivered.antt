@@ -1,5 +1,6 @@
 -- Answers that are made in an array of our own, and then delivered with those to the rest of the text: of a piece without a newline, of any other, and
 -- of the end. Assumes nothing.
+use Rattle.std.specs.Prelude.{Ok}
 use mathlib.Core.Bool.{Bool, true, false}
 use mathlib.Core.List.{List, [], ◌++◌, append-nil}
 use mathlib.Core.Path.{◌≡◌, refl, sym, ap, ◌∙◌}
@@ -10,7 +11,6 @@ use borrow.Author.Tests.{ltb-true, ltb-false, lt-ltb, le-ltb}
 use lib.Dec.{ltb}
 use lib.ListN.{length, take, drop, replicate, take-append-drop, length-append}
 use lib.Seq.{take_at, sets-eq}
-use Rattle.requests.specs.declared.Answer.TheVariants.{Accepted}
 use Rattle.names.specs.Lists.{NameLists}
 use Rattle.responder.specs.Texts.{Put}
 use Rattle.answers.specs.ReplyLength.{reply_room}
@@ -52,7 +52,7 @@ put_at_start {before} {text} put fits =
 -- ---- a piece without a newline
 
 pub unfinished_piece : (n : NameLists) (s : PieceFeed) (text out : List ℕ) {next : Feed} → s.ended ≡ false → NewlineFree text → next ≡ feed_state n s.feed text
-    → (◌≡◌ {A = PieceAnswered} (record { answer = Accepted; state = record { feed = next; ended = false }; written = 0 }) (piece_of n s text (length out)))
+    → (◌≡◌ {A = PieceAnswered} (record { answer = Ok tt; state = record { feed = next; ended = false }; written = 0 }) (piece_of n s text (length out)))
     × (out ≡ piece_out n s text out)
 unfolding piece_of piece_out piece_state
 unfinished_piece n s text out going free is =

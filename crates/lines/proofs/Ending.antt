@@ -1,5 +1,6 @@
 -- The reply to the end of the input: a line that has begun is answered as one that is closed and too long, which has the same field at fault, and
 -- otherwise there is nothing.
+use Rattle.std.specs.Prelude.{Err}
 use mathlib.Core.Bool.{true, false}
 use mathlib.Core.List.{List, [], ◌∷◌}
 use mathlib.Core.Path.{◌≡◌, refl, ◌∙◌}
@@ -9,7 +10,6 @@ use lib.ListN.{length, take, replicate, length-replicate}
 use Rattle.requests.specs.Choice.{both}
 use Rattle.requests.specs.Refusals.{answer_for}
 use Rattle.requests.specs.declared.Refusal.TheVariants.{NotInGrammar}
-use Rattle.requests.specs.declared.Answer.TheVariants.{Refused}
 use Rattle.grammar.specs.Parse.{parsed_refusal}
 use Rattle.grammar.specs.Text.{newline}
 use Rattle.names.specs.Lists.{NameLists, row_texts, is_ended, all_formed, well_formed, lists_formed}
@@ -47,7 +47,7 @@ none_formed = refl
 module _ (f : Feed) where
   -- the text at the end
   abbrev last : List ℕ
-  last = answer_text (Refused NotInGrammar) (fault_at (unclosed f))
+  last = answer_text (Err NotInGrammar) (fault_at (unclosed f))
 
   -- the line as one that is closed and too long: its reply ..
   longer_reply : ◌≡◌ {A = Reply} (line_reply_lem no_names (longer f)) (record { text = last; session = f.session })
@@ -73,7 +73,7 @@ module _ (f : Feed) where
       → record { text = text; length = fed.written; session = fed.feed.session } ≡ in_array (end_reply f)
   unfolding in_array at_start end_reply end_text line_start reply_room
   ended_begun e a b =
-      let short : length last ≤ reply_room = omega (arith, answer_length (Refused NotInGrammar) (fault_at (unclosed f))) in
+      let short : length last ≤ reply_room = omega (arith, answer_length (Err NotInGrammar) (fault_at (unclosed f))) in
       rw (a ∙ longer_fed, b ∙ longer_out, e, end_text, drop_zeros (length last) reply_room short)
 
 -- and where none has

@@ -15,14 +15,14 @@ use Rattle.answers.specs.ReplyLength.{reply_room}
 use Rattle.responder.specs.Written.{at_start, Left, replied_in, replied_out}
 use Rattle.names.specs.Lists.{NameLists}
 use Rattle.lines.specs.Blocks.{taken_of, taken_from, fed_of, fed_out}
-use Rattle.lines.specs.Pieces.{FirstNewline, kept_line}
+use Rattle.lines.specs.Pieces.{NewlineAt, kept_line}
 use Rattle.streams.specs.Stream.{NewlineFree, line_start, line_reply_lem, feed_state, feed_text}
 use Rattle.streams.specs.declared.Feed.{Feed}
 use Rattle.lines.specs.declared.Fed.{Fed}
 use Rattle.streams.proofs.Cut.{state_append, text_append}
 use Rattle.streams.proofs.Kept.{run_silent}
 use Rattle.streams.proofs.LineByLine.{newline_state, newline_text}
-use Rattle.lines.proofs.NextLine.{all_left, piece, piece_free, piece_length, with_newline, from_newline}
+use Rattle.lines.proofs.NextLine.{all_left, left_within, piece, piece_free, piece_length, with_newline, from_newline}
 use Rattle.lines.proofs.Progress.{line_reply_length}
 use Rattle.lines.proofs.Runs.{ended_reply}
 use Rattle.lines.proofs.Taking.{taken_run, taken_newline, taken_full}
@@ -85,7 +85,7 @@ module _ {n : NameLists} {f : Feed} {block out : List ℕ} {next : Feed} {taken 
   fed_all e = (rw (so.state, so.count, ← e), rw (← e) so.text)
 
   -- a line that ends within the block
-  module _ {m : ℕ} (first : FirstNewline (take (length block - taken) (drop taken block)) m) (inside : taken + m < length block) (h : reply_room ≤ length out - written) where
+  module _ {m : ℕ} (first : NewlineAt (take (length block - taken) (drop taken block)) m) (h : reply_room ≤ length out - written) where
     -- the state at the newline, and the reply to the line
     abbrev pub ended : Feed
     ended = feed_state n next (piece block taken m)
@@ -94,7 +94,7 @@ module _ {n : NameLists} {f : Feed} {block out : List ℕ} {next : Feed} {taken 
     line_state =
         sym
         (rw (
-          with_newline block taken first inside,
+          with_newline block taken first,
           state_append n f (take taken block) (piece block taken m ++ newline ∷ []),
           ← so.state,
           state_append n next (piece block taken m) (newline ∷ []),
@@ -104,7 +104,7 @@ module _ {n : NameLists} {f : Feed} {block out : List ℕ} {next : Feed} {taken 
     line_text : feed_text n f (take (taken + m + 1) block) ≡ feed_text n f (take taken block) ++ (line_reply_lem n ended).text
     line_text =
         rw (
-          with_newline block taken first inside,
+          with_newline block taken first,
           text_append n f (take taken block) (piece block taken m ++ newline ∷ []),
           ← so.state,
           text_append n next (piece block taken m) (newline ∷ []),
@@ -115,7 +115,7 @@ module _ {n : NameLists} {f : Feed} {block out : List ℕ} {next : Feed} {taken 
     line_taken : taken_of n (length out - written) next (drop taken block)
         ≡ m + suc (taken_of n (length out - (written + length (line_reply_lem n ended).text)) (line_start (line_reply_lem n ended).session) (drop (taken + m + 1) block))
     line_taken =
-        ap (taken_of n (length out - written) next) (from_newline block taken first inside)
+        ap (taken_of n (length out - written) next) (from_newline block taken first)
         ∙ taken_run n (length out - written) next (piece block taken m) (newline ∷ drop (taken + m + 1) block) h (piece_free block taken first)
         ∙ rw (
           piece_length block taken first,
@@ -128,7 +128,7 @@ module _ {n : NameLists} {f : Feed} {block out : List ℕ} {next : Feed} {taken 
         (take written output ++ at_start (line_reply_lem n ended).text (drop written output))
     fed_line short =
         record {
-          within = omega arith;
+          within = omega (arith, left_within block taken first, so.within);
           room = omega arith;
           state = line_state;
           count = rw (line_text, length-append, ← so.count);

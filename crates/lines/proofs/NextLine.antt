@@ -1,13 +1,13 @@
--- The rest of a block from a place on, by the place of its first newline: the piece before it, the newline, and what follows; or a piece alone.
+-- The rest of a block from a place on, by the place of its first newline: the piece before it, the newline, and what follows.
 use mathlib.Core.List.{List, [], ◌∷◌, ◌++◌}
 use mathlib.Core.Path.{◌≡◌, sym}
-use Prim.Native.Nat.{ℕ, suc, ◌+◌, ◌-◌, ◌≤◌, ◌<◌}
+use Prim.Native.Nat.{ℕ, suc, ◌+◌, ◌-◌, ◌<◌}
 use native.Mathlib.Omega.{arith}
 use lib.ListN.{length, take, drop, take-append-drop, length-drop}
 use lib.Seq.{take_all, take-add, take-suc, drop-cons, drop-drop, length-take-le}
 use Rattle.grammar.specs.Text.{newline}
 use Rattle.streams.specs.Stream.{NewlineFree}
-use Rattle.lines.specs.Pieces.{FirstNewline}
+use Rattle.lines.specs.Pieces.{NewlineAt}
 
 -- all that is left
 pub all_left : (l : List ℕ) (from : ℕ) → take (length l - from) (drop from l) ≡ drop from l
@@ -17,11 +17,11 @@ all_left l from = take_all (length l - from) (drop from l) (omega (arith, length
 abbrev pub piece : List ℕ → ℕ → ℕ → List ℕ
 piece block from n = take (from + n - from) (drop from block)
 
-module _ (block : List ℕ) (from : ℕ) {n : ℕ} (first : FirstNewline (take (length block - from) (drop from block)) n) where
-  left : FirstNewline (drop from block) n
+module _ (block : List ℕ) (from : ℕ) {n : ℕ} (first : NewlineAt (take (length block - from) (drop from block)) n) where
+  left : NewlineAt (drop from block) n
   left = rw (all_left block from) at first
 
-  pub left_within : n ≤ length block - from
+  pub left_within : n < length block - from
   left_within = omega (arith, left.within, length-drop from block)
 
   -- the piece before it
@@ -32,26 +32,16 @@ module _ (block : List ℕ) (from : ℕ) {n : ℕ} (first : FirstNewline (take (
   piece_free = rw piece_is left.before
 
   pub piece_length : length (piece block from n) ≡ n
-  piece_length = rw piece_is (length-take-le n (drop from block) left.within)
+  piece_length = rw piece_is (length-take-le n (drop from block) (omega (arith, left.within)))
 
-  -- a newline after it
-  module _ (inside : from + n < length block) where
-    within : n < length (drop from block)
-    within = rw length-drop (omega arith)
+  -- the newline after it
+  pub with_newline : take (from + n + 1) block ≡ take from block ++ (piece block from n ++ newline ∷ [])
+  with_newline =
+      let e : from + n + 1 ≡ from + suc n = omega arith in
+      rw (e, piece_is, take-add from (suc n) block, take-suc (drop from block) n 0 left.within, left.found)
 
-    pub with_newline : take (from + n + 1) block ≡ take from block ++ (piece block from n ++ newline ∷ [])
-    with_newline =
-        let e : from + n + 1 ≡ from + suc n = omega arith in
-        rw (e, piece_is, take-add from (suc n) block, take-suc (drop from block) n 0 within, left.found within)
-
-    pub from_newline : drop from block ≡ piece block from n ++ newline ∷ drop (from + n + 1) block
-    from_newline =
-        let e : from + n + 1 ≡ from + suc n = omega arith in
-        rw (e, piece_is, ← left.found within, ← drop-drop (suc n) from block, ← drop-cons (drop from block) n 0 within)
-        (sym (take-append-drop n (drop from block)))
-
-  -- no newline after it
-  pub rest_free : from + n ≡ length block → NewlineFree (take (length block - from) (drop from block))
-  rest_free e =
-      let m : length block - from ≡ n = omega arith in
-      rw m left.before
+  pub from_newline : drop from block ≡ piece block from n ++ newline ∷ drop (from + n + 1) block
+  from_newline =
+      let e : from + n + 1 ≡ from + suc n = omega arith in
+      rw (e, piece_is, ← left.found, ← drop-drop (suc n) from block, ← drop-cons (drop from block) n 0 left.within)
+      (sym (take-append-drop n (drop from block)))

@@ -1,30 +1,36 @@
 -- Pieces of a line as the code meets them: found byte by byte, kept byte by byte, and parsed at once where they are a whole line.
-use mathlib.Core.Bool.{Bool, true, false}
+use mathlib.Core.Bool.{Bool, true, false, true≢false}
 use mathlib.Core.List.Memᴰ
 use mathlib.Core.List.{List, ◌∷◌}
 use mathlib.Core.Logic.{⊎_elim}
 use mathlib.Core.Path.{◌≡◌, sym, ap, ◌∙◌}
-use Prim.Native.Nat.{ℕ, suc, ◌+◌, ◌-◌, ◌≤◌, ◌<◌}
+use Prim.Native.Nat.{ℕ, zero, suc, ◌+◌, ◌-◌, ◌≤◌, ◌<◌, min}
 use native.Mathlib.Nat.{add-zero, sub-zero}
 use native.Mathlib.Numerals.{add-one}
 use native.Mathlib.Omega.{arith}
-use borrow.Author.Tests.{lt-ltb, ltb-false}
+use native.Mathlib.Decide.{dec_le, dec_lt}
+use borrow.Author.Tests.{lt-ltb, ltb-false, le-ltb}
 use lib.Dec.{ltb}
 use lib.ListN.{length, get_or, take, drop, set, length-take}
-use lib.Seq.{drop-cons, take-suc}
+use lib.Seq.{sets, drop-cons, take-suc, take-length, length-take-le}
+use Rattle.sessions.specs.declared.Session.{Session}
 use Rattle.requests.specs.declared.Device.{Device}
 use Rattle.requests.specs.Choice.{either, pick}
 use Rattle.requests.proofs.Tests.{either_true, either_parts}
+use Rattle.requests.proofs.Windows.{take_min}
+use Rattle.std.specs.Prelude.{Option, None, Some, MatchOption, is_some}
+use Rattle.std.specs.List.{AllWithin, HoldsAt}
 use Rattle.grammar.specs.Text.{newline}
 use Rattle.grammar.specs.Parse.{longest}
 use Rattle.parser.specs.ParseWith.{parse_text_with}
 use Rattle.grammar.specs.declared.Parsed.{Parsed}
 use Rattle.answers.specs.Replies.{parsed_reply}
 use Rattle.names.specs.Lists.{NameLists}
-use Rattle.lines.specs.Pieces.{kept_line, state_of, KeptOn, EndedLine}
+use Rattle.lines.specs.Pieces.{kept_line, state_of, FirstNewline, KeptOn, EndedLine}
 use Rattle.streams.specs.Stream.{NewlineFree, keep_byte, line_reply_lem, feed_state}
 use Rattle.lines.specs.declared.Extent.{Extent}
 use Rattle.streams.specs.declared.Feed.{Feed}
+use Rattle.responder.specs.Texts.{Put}
 use Rattle.streams.proofs.Kept.{head_free, tail_free, not_ending, keep_fitting, after_run, kept_run}
 use Rattle.streams.proofs.LineByLine.{front}
 
@@ -107,3 +113,49 @@ module _ (n : NameLists) (d : Device) (kept : List ℕ) (used : ℕ) (long : Boo
         → e ≡ record { used = longest; long = ltb longest (length piece) } → EndedLine n d kept used long piece p
     ended_whole given none full free extent s here =
         is ∙ rw (cut, chosen, given, extent, ← here) (sym (whole_line n (state_of s kept used long) piece full none free))
+
+-- no newline stands among the first bytes of a block
+free_within : (block : List ℕ) (at : ℕ) → at ≤ length block → AllWithin (λ b. ¬ (b ≡ newline)) block 0 at → NewlineFree (take at block)
+free_within block zero inside other = λ m. Memᴰ.not-nil m
+free_within block (suc at) inside other =
+    rw (← add-one at)
+    (free_next block at (omega arith) (free_within block at (omega arith) (λ k d low high. other k d low (omega arith))) (other at 0 (omega arith) (omega arith)))
+
+-- the place that a search finds
+pub first_newline : (block : List ℕ) (r : Option ℕ)
+    → MatchOption r (AllWithin (λ b. ¬ (b ≡ newline)) block 0 (length block)) (λ i. (i < length block) × HoldsAt (λ b. b ≡ newline) block i × AllWithin (λ b. ¬ (b ≡ newline)) block 0 i)
+    → FirstNewline block r
+first_newline block None free = rw (take-length block) at (free_within block (length block) (omega arith) free)
+first_newline block (Some at) found = record { within = found.0; before = free_within block at (omega (arith, found.0)) found.2; found = found.1 0 }
+
+-- none is found where there is none
+pub no_newline : (block : List ℕ) (r : Option ℕ) → FirstNewline block r → is_some r ≡ false → NewlineFree block
+no_newline block None free e = free
+no_newline block (Some at) found e = absurd (true≢false e)
+
+-- a piece is kept as far as there is room
+module _ (s : Session) (kept : List ℕ) (used : ℕ) (long : Bool) (piece : List ℕ) {from m : ℕ} (start : from ≡ min used longest) (most : m ≡ min (length piece) (longest - from)) where
+  fitting_is : take (longest - used) piece ≡ take m piece
+  fitting_is = sym (take_min piece (longest - used) m (omega arith))
+
+  fitting_length : length (take m piece) ≡ m
+  fitting_length = length-take-le m piece (omega arith)
+
+  stored : sets kept used (take m piece) ≡ sets kept from (take m piece)
+  stored = go (dec_le used longest)
+    where
+      go : Dec (used ≤ longest) → sets kept used (take m piece) ≡ sets kept from (take m piece)
+      go (yes h) = let e : from ≡ used = omega arith in rw e
+      go (no h) = let e : m ≡ 0 = omega arith in rw e
+
+  past : ltb (longest - used) (length piece) ≡ ltb m (length piece)
+  past = go (dec_lt (longest - used) (length piece))
+    where
+      go : Dec (longest - used < length piece) → ltb (longest - used) (length piece) ≡ ltb m (length piece)
+      go (yes h) = lt-ltb (longest - used) (length piece) h ∙ sym (lt-ltb m (length piece) (omega arith))
+      go (no h) = le-ltb (longest - used) (length piece) (omega arith) ∙ sym (le-ltb m (length piece) (omega arith))
+
+  pub keep_piece : {after : List ℕ} {next : ℕ} {over : Bool} (n : NameLists) → NewlineFree piece → Put kept from (take m piece) after next
+      → over ≡ either long (ltb m (length piece)) → feed_state n (state_of s kept used long) piece ≡ state_of s after (used + m) over
+  unfolding after_run
+  keep_piece n free put e = kept_run n (state_of s kept used long) piece free ∙ rw (fitting_is, fitting_length, stored, past, put.contents, e)

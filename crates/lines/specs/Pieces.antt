@@ -1,5 +1,5 @@
 -- A piece of a line: bytes without a newline.
-use Rattle.std.specs.Prelude.{◌≡◌, Bool, true, List, ℕ, ◌≤◌, ◌<◌, length, get_or, take}
+use Rattle.std.specs.Prelude.{◌≡◌, Bool, true, Option, None, Some, List, ℕ, ◌<◌, length, get_or, take}
 use Rattle.grammar.specs.Text.{newline}
 use Rattle.requests.specs.declared.Device.{Device}
 use Rattle.names.specs.Lists.{NameLists}
@@ -10,11 +10,16 @@ use Rattle.streams.specs.Stream.{NewlineFree, feed_state}
 use Rattle.lines.specs.declared.Extent.{Extent}
 use Rattle.streams.specs.declared.Feed.{Feed}
 
--- the place of the first newline of a block, or its length where there is none
-pub record FirstNewline (block : List ℕ) (at : ℕ) : Type 0 where
-  pub within : at ≤ length block
+-- the first newline of a block stands there
+pub record NewlineAt (block : List ℕ) (at : ℕ) : Type 0 where
+  pub within : at < length block
   pub before : NewlineFree (take at block)
-  pub found : at < length block → get_or block at 0 ≡ newline
+  pub found : get_or block at 0 ≡ newline
+
+-- the place of the first newline of a block, where there is one
+abbrev pub FirstNewline : List ℕ → Option ℕ → Type 0
+FirstNewline block None = NewlineFree block
+FirstNewline block (Some at) = NewlineAt block at
 
 -- what the kept bytes ask for as a line that has just ended
 unfoldable pub kept_line : NameLists → Feed → Parsed

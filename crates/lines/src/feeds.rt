@@ -33,13 +33,14 @@ fn refused(state: PieceFeed, refusal: Refusal) -> PieceAnswered
     ensures { result ≡ refused_feed state refusal }
 {
     PieceAnswered {
-        answer: Answer::Refused(refusal),
+        answer: Err(refusal),
         state,
         written: 0,
     }
 }
 
 // Whether the answers to a text are longer than the room: they are made in an array of our own, and only their lengths are used.
+// Form: `pass` has this loop too, but writes and never stops: a closure for either is no plainer, since it has to promise what it leaves.
 #[tactic(auto, unfolding(streams::specs::Stream::feed_text, answers::specs::ReplyLength::reply_room))]
 fn too_long<'a>(state: Feed, text: &[u8], site: &'a [u8], house: &'a [u8], room: usize) -> bool
     ensures { result ≡ ltb room (length (feed_text (record { site = site.now; house = house.now }) state text.now)) }
@@ -50,11 +51,10 @@ fn too_long<'a>(state: Feed, text: &[u8], site: &'a [u8], house: &'a [u8], room:
     while taken < text.len() {
         let mut answers = [0u8; ANSWERS];
         let fed = feed(next, &text[taken..], site, house, &mut answers);
-        let written = fed.written;
-        if left < written {
+        if left < fed.written {
             return true;
         }
-        left -= written;
+        left -= fed.written;
         next = fed.feed;
         taken += fed.taken;
     }
@@ -80,8 +80,7 @@ fn pass<'a>(
     while taken < text.len() {
         let mut answers = [0u8; ANSWERS];
         let fed = feed(next, &text[taken..], site, house, &mut answers);
-        let n = fed.written;
-        written = put_bytes(out, written, &answers[..n]);
+        written = put_bytes(out, written, &answers[..fed.written]);
         next = fed.feed;
         taken += fed.taken;
     }
@@ -99,12 +98,11 @@ fn unfinished(state: Feed, text: &[u8]) -> Feed
 {
     let mut kept = state.kept;
     let extent = keep(&mut kept, state.used, state.long, text);
-    let session = state.session;
     Feed {
-        session,
         kept,
         used: extent.used,
         long: extent.long,
+        ..state
     }
 }
 
@@ -132,10 +130,12 @@ fn deliver<'a>(
     }
     let written = put_bytes(out, 0, answers);
     let passed = pass(next, rest, site, house, out, written);
-    let feed = passed.feed;
     PieceAnswered {
-        answer: Answer::Accepted,
-        state: PieceFeed { feed, ended },
+        answer: Ok(()),
+        state: PieceFeed {
+            feed: passed.feed,
+            ended,
+        },
         written: passed.written,
     }
 }
@@ -156,26 +156,23 @@ pub fn piece<'a>(
     if state.ended {
         return refused(state, Refusal::CallOrder);
     }
-    let current = state.feed;
-    let end = newline_in(text);
-    if end == text.len() {
-        let feed = unfinished(current, text);
+    if newline_in(text).is_none() {
         return PieceAnswered {
-            answer: Answer::Accepted,
-            state: PieceFeed { feed, ended: false },
+            answer: Ok(()),
+            state: PieceFeed {
+                feed: unfinished(state.feed, text),
+                ended: false,
+            },
             written: 0,
         };
     }
     let mut answers = [0u8; ANSWERS];
-    let fed = feed(current, text, site, house, &mut answers);
-    let next = fed.feed;
-    let n = fed.written;
-    let taken = fed.taken;
+    let fed = feed(state.feed, text, site, house, &mut answers);
     deliver(
         state,
-        next,
-        &answers[..n],
-        &text[taken..],
+        fed.feed,
+        &answers[..fed.written],
+        &text[fed.taken..],
         site,
         house,
         false,
@@ -193,9 +190,16 @@ pub fn end<'a>(state: PieceFeed, site: &'a [u8], house: &'a [u8], out: &mut [u8]
         return refused(state, Refusal::CallOrder);
     }
     let last = stream::end(state.feed);
+    let next = line_start(last.session);
     let text = last.text;
-    let session = last.session;
-    let n = last.length;
-    let next = line_start(session);
-    deliver(state, next, &text[..n], b"", site, house, true, out)
+    deliver(
+        state,
+        next,
+        &text[..last.length],
+        b"",
+        site,
+        house,
+        true,
+        out,
+    )
 }

@@ -9,6 +9,7 @@ mod pieces;
 pub mod stream;
 
 // How far an unfinished line goes: the number of its bytes that are kept, and whether it is longer.
+// Form: the two are the fields of `streams::Feed`, and its definitions let each be anything.
 #[derive(Clone, Copy)]
 struct Extent {
     pub used: usize,

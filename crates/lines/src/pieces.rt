@@ -9,6 +9,7 @@ use crate::Extent;
 use grammar::Parsed;
 use parser::parse::parse_text;
 use requests::Device;
+use responder::texts::put_bytes;
 use streams::LONGEST;
 
 // Whether a line has begun.
@@ -16,10 +17,7 @@ use streams::LONGEST;
 pub fn begun(used: usize, long: bool) -> bool
     ensures { result ≡ either long (ltb 0 used) }
 {
-    if long {
-        return true;
-    }
-    0 < used
+    long || 0 < used
 }
 
 // Keeps a piece of an unfinished line behind what is kept of it.
@@ -28,40 +26,27 @@ pub fn keep(kept: &mut [u8; LONGEST], used: usize, long: bool, piece: &[u8]) -> 
     requires { NewlineFree piece.now }
     ensures { KeptOn kept.old used long piece.now kept.new result }
 {
-    let mut next = used;
-    let mut i = 0;
-    while i < piece.len() {
-        if LONGEST <= next {
-            return Extent {
-                used: next,
-                long: true,
-            };
-        }
-        kept[next] = piece[i];
-        next += 1;
-        i += 1;
+    let from = used.min(LONGEST);
+    let n = piece.len().min(LONGEST - from);
+    put_bytes(kept, from, &piece[..n]);
+    Extent {
+        used: used + n,
+        long: long || n < piece.len(),
     }
-    Extent { used: next, long }
 }
 
 // The line that a piece ends: what is kept of it where it began before, otherwise the piece.
 fn line_of<'a>(carried: bool, kept: &'a [u8], piece: &'a [u8]) -> &'a [u8]
     ensures { result.now ≡ pick carried kept.now piece.now }
 {
-    if carried {
-        return kept;
-    }
-    piece
+    if carried { kept } else { piece }
 }
 
 // The first bytes of a text, at most n.
 fn start_of<'a>(text: &'a [u8], n: usize) -> &'a [u8]
     ensures { result.now ≡ take n text.now }
 {
-    if n < text.len() {
-        return &text[..n];
-    }
-    text
+    &text[..n.min(text.len())]
 }
 
 // What a line asks for that ends with a piece.
@@ -80,13 +65,14 @@ pub fn parse_ended<'a>(
     ensures { EndedLine (record { site = site.now; house = house.now }) device kept.old used long piece.now result }
 {
     let carried = begun(used, long);
-    let mut ended = Extent {
-        used: LONGEST,
-        long: LONGEST < piece.len(),
+    let ended = if carried {
+        keep(kept, used, long, piece)
+    } else {
+        Extent {
+            used: LONGEST,
+            long: LONGEST < piece.len(),
+        }
     };
-    if carried {
-        ended = keep(kept, used, long, piece);
-    }
     let line = line_of(carried, kept, piece);
     parse_text(
         start_of(line, ended.used),

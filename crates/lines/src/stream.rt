@@ -76,24 +76,32 @@ pub fn feed<'a>(feed: Feed, block: &[u8], site: &'a [u8], house: &'a [u8], out: 
 {
     let mut ids: [u64; QUEUE_LIMIT] = [0; QUEUE_LIMIT];
     let mut rows: [u64; QUEUE_NUMBERS] = [0; QUEUE_NUMBERS];
-    let session = feed.session;
-    let mut head = pack(session, &mut ids, &mut rows);
+    let mut head = pack(feed.session, &mut ids, &mut rows);
     let mut kept = feed.kept;
     let mut used = feed.used;
     let mut long = feed.long;
     let mut taken = 0;
     let mut written = 0;
+    // Form: a turn goes on by a whole line, and ends early where the output is full, so a `for` over the bytes does not fit.
     while taken < block.len() {
         if out.len() - written < REPLY_ROOM {
             return fed(head, &ids, &rows, kept, used, long, taken, written);
         }
-        let end = taken + newline_in(&block[taken..]);
-        if end == block.len() {
+        let Some(n) = newline_in(&block[taken..]) else {
             let rest = keep(&mut kept, used, long, &block[taken..]);
-            return fed(head, &ids, &rows, kept, rest.used, rest.long, end, written);
-        }
-        let setup = head.setup;
-        let on = setup.device;
+            return fed(
+                head,
+                &ids,
+                &rows,
+                kept,
+                rest.used,
+                rest.long,
+                block.len(),
+                written,
+            );
+        };
+        let end = taken + n;
+        let on = head.setup.device;
         let parsed = parse_ended(&mut kept, used, long, &block[taken..end], on, site, house);
         let replied = reply(head, &mut ids, &mut rows, parsed, &mut out[written..]);
         head = replied.head;
@@ -114,21 +122,20 @@ pub fn end(state: Feed) -> LineReply
 {
     let mut text = [0u8; REPLY_ROOM];
     if begun(state.used, state.long) {
-        let mut longer = state;
-        longer.long = true;
+        let longer = Feed {
+            long: true,
+            ..state
+        };
         let last = feed(longer, b"\n", b"", b"", &mut text);
-        let next = last.feed;
-        let session = next.session;
         return LineReply {
             text,
             length: last.written,
-            session,
+            session: last.feed.session,
         };
     }
-    let session = state.session;
     LineReply {
         text,
         length: 0,
-        session,
+        session: state.session,
     }
 }

@@ -10,11 +10,8 @@ pub fn last_of(reading: Reading, next: Next) -> Next
     ensures { result ≡ last_of reading next }
 {
     match reading {
-        Reading::Bytes(_) => Next::Failed,
         Reading::End => next,
-        Reading::Again => Next::Failed,
-        Reading::Wait => Next::Failed,
-        Reading::Failed => Next::Failed,
+        Reading::Bytes(_) | Reading::Again | Reading::Wait | Reading::Failed => Next::Failed,
     }
 }
 
@@ -23,12 +20,9 @@ pub fn ending_of(next: Next) -> Ending
     ensures { result ≡ ending_of next }
 {
     match next {
-        Next::Go => Ending::Failed,
-        Next::Wait => Ending::Failed,
         Next::Complete => Ending::Complete,
         Next::Closed => Ending::Closed,
-        Next::Failed => Ending::Failed,
-        Next::Stuck => Ending::Failed,
+        Next::Go | Next::Wait | Next::Failed | Next::Stuck => Ending::Failed,
     }
 }
 
@@ -39,7 +33,6 @@ pub fn status_of(ending: Ending) -> u64
     match ending {
         Ending::Complete => 0,
         Ending::Closed => 141,
-        Ending::Failed => 1,
-        Ending::Refused => 1,
+        Ending::Failed | Ending::Refused => 1,
     }
 }

@@ -17,7 +17,7 @@ use descriptors::file::read_file;
 use descriptors::read::{bytes_read, read_some};
 use descriptors::told::Tell;
 use descriptors::write::{is_complete, send};
-use descriptors::{FileRead, Next, Reading, Writing};
+use descriptors::{Next, Reading, Writing};
 pub use endings::status_of;
 use endings::{ending_of, last_of};
 use lines::stream::{end, feed, start};
@@ -67,17 +67,6 @@ pub struct Answered {
     pub sent: usize,
 }
 
-// An input that is not read.
-fn refused() -> Answered
-    ensures { result ≡ record { ending = Ending.Refused; received = 0; sent = 0 } }
-{
-    Answered {
-        ending: Ending::Refused,
-        received: 0,
-        sent: 0,
-    }
-}
-
 // Answers a block: what the output holds is written before more of the block is answered.
 fn pass_block<'a, H: Clock + Tell, W: Write>(
     rt: &H,
@@ -89,11 +78,12 @@ fn pass_block<'a, H: Clock + Tell, W: Write>(
     out: &mut [u8],
 ) -> Passed
     requires { reply_room ≤ length out.old }
-    ensures { Passing (record { site = site.entry.now; house = house.now }) state block.now result }
+    ensures { Passing (record { site = site.now; house = house.now }) state block.now result }
 {
     let mut current = state;
     let mut taken = 0;
     let mut sent = 0;
+    // Form: a turn goes on by as many bytes as `feed` took, so no `for` fits.
     while taken < block.len() {
         let fed = feed(current, &block[taken..], site, house, out);
         current = fed.feed;
@@ -101,13 +91,12 @@ fn pass_block<'a, H: Clock + Tell, W: Write>(
         let n = fed.written;
         let written = send(rt, output, &out[..n]);
         sent = wrapping_add_usize(sent, written.done);
-        let next = written.next;
-        if !is_complete(next) {
+        if !is_complete(written.next) {
             return Passed {
                 feed: current,
                 taken,
                 sent,
-                next,
+                next: written.next,
             };
         }
     }
@@ -127,20 +116,8 @@ fn send_first<H: Clock + Tell, W: Write>(rt: &H, output: &mut W, text: &[u8], n:
     send(rt, output, &text[..n])
 }
 
-// A run that leaves these.
-fn run_of(feed: Feed, received: usize, sent: usize, last: Reading, next: Next) -> Run
-    ensures { result ≡ record { feed = feed; received = received; sent = sent; last = last; next = next } }
-{
-    Run {
-        feed,
-        received,
-        sent,
-        last,
-        next,
-    }
-}
-
 // Answers what is read, block by block, until a read has nothing more or a write is not complete.
+// Form: the two lists stay two parameters, as in `feed` and the public calls: a struct that is made of them here is no plainer.
 fn answer_blocks<'a, H: Clock + Tell, R: Read, W: Write>(
     rt: &H,
     input: &mut R,
@@ -151,9 +128,9 @@ fn answer_blocks<'a, H: Clock + Tell, R: Read, W: Write>(
     out: &mut [u8],
 ) -> Run
     requires { reply_room ≤ length out.old }
-    ensures { Relaying (record { site = site.entry.now; house = house.now }) result }
+    ensures { Relaying (record { site = site.now; house = house.now }) result }
 {
-    let mut state = start();
+    let mut feed = start();
     let mut received = 0;
     let mut sent = 0;
     let mut last = Reading::Again;
@@ -163,16 +140,27 @@ fn answer_blocks<'a, H: Clock + Tell, R: Read, W: Write>(
         if n == 0 {
             break;
         }
-        let passed = pass_block(rt, state, &block[..n], site, house, output, out);
-        state = passed.feed;
+        let passed = pass_block(rt, feed, &block[..n], site, house, output, out);
+        feed = passed.feed;
         received = wrapping_add_usize(received, n);
         sent = wrapping_add_usize(sent, passed.sent);
-        let ended = passed.next;
-        if !is_complete(ended) {
-            return run_of(state, received, sent, last, ended);
+        if !is_complete(passed.next) {
+            return Run {
+                feed,
+                received,
+                sent,
+                last,
+                next: passed.next,
+            };
         }
     }
-    run_of(state, received, sent, last, Next::Complete)
+    Run {
+        feed,
+        received,
+        sent,
+        last,
+        next: Next::Complete,
+    }
 }
 
 // Answers what is read, and then the end of the input.
@@ -186,25 +174,18 @@ fn answer_all<'a, H: Clock + Tell, R: Read, W: Write>(
     out: &mut [u8],
 ) -> Run
     requires { reply_room ≤ length out.old }
-    ensures { Relayed (record { site = site.entry.now; house = house.now }) result }
+    ensures { Relayed (record { site = site.now; house = house.now }) result }
 {
     let run = answer_blocks(rt, input, output, site, house, block, out);
-    let reached = run.next;
-    if !is_complete(reached) {
+    if !is_complete(run.next) {
         return run;
     }
-    let feed = run.feed;
-    let reply = end(feed);
-    let text = reply.text;
-    let written = send_first(rt, output, &text, reply.length);
-    let ended = written.next;
-    let last = run.last;
+    let reply = end(run.feed);
+    let written = send_first(rt, output, &reply.text, reply.length);
     Run {
-        feed,
-        received: run.received,
         sent: wrapping_add_usize(run.sent, written.done),
-        last,
-        next: last_of(last, ended),
+        next: last_of(run.last, written.next),
+        ..run
     }
 }
 
@@ -224,18 +205,18 @@ pub fn answer_input<'a, H: Clock + Tell, R: Read, W: Write>(
     ensures refused { Unfit block.old out.old → result.ending ≡ Ending.Refused }
     ensures fit { result.ending ≡ Ending.Refused → Unfit block.old out.old }
     ensures unused { Unfit block.old out.old → (block.new ≡ block.old) × (out.new ≡ out.old) }
-    ensures complete { result.ending ≡ Ending.Complete → Transcribed (record { site = site.entry.now; house = house.now }) result }
+    ensures complete { result.ending ≡ Ending.Complete → Transcribed (record { site = site.now; house = house.now }) result }
 {
-    if block.len() == 0 {
-        return refused();
-    }
-    if out.len() < REPLY_ROOM {
-        return refused();
+    if block.is_empty() || out.len() < REPLY_ROOM {
+        return Answered {
+            ending: Ending::Refused,
+            received: 0,
+            sent: 0,
+        };
     }
     let run = answer_all(rt, input, output, site, house, block, out);
-    let next = run.next;
     Answered {
-        ending: ending_of(next),
+        ending: ending_of(run.next),
         received: run.received,
         sent: run.sent,
     }
@@ -255,14 +236,12 @@ pub fn answer_with_files<H: Files + Clock + Tell, R: Read, W: Write>(
     ensures { result ≡ Ending.Refused → Unfit block.old out.old }
 {
     let mut site = [0u8; LIST_ROOM];
-    let FileRead::Bytes(n) = read_file(rt, site_path, &mut site) else {
+    let Ok(n) = read_file(rt, site_path, &mut site) else {
         return Ending::Failed;
     };
     let mut house = [0u8; LIST_ROOM];
-    let FileRead::Bytes(m) = read_file(rt, house_path, &mut house) else {
+    let Ok(m) = read_file(rt, house_path, &mut house) else {
         return Ending::Failed;
     };
-    let answered = answer_input(rt, input, output, &site[..n], &house[..m], block, out);
-    let ending = answered.ending;
-    ending
+    answer_input(rt, input, output, &site[..n], &house[..m], block, out).ending
 }

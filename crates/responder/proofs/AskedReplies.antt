@@ -1,8 +1,8 @@
 -- What a call answers, at the field of its line, is the reply to the record that a line asks for, by name or not. Assumes nothing.
+use Rattle.std.specs.Prelude.{Option, None, Some}
 use mathlib.Core.Path.{◌≡◌, refl}
 use mathlib.Core.Bool.{Bool, true, false}
 use mathlib.Core.List.{[], ◌∷◌, ◌++◌}
-use mathlib.Core.Option.{Option, none, some}
 use Prim.Native.Nat.{ℕ}
 use Rattle.requests.specs.declared.Opening.{Opening}
 use Rattle.requests.specs.declared.Setup.{Setup}
@@ -51,8 +51,8 @@ unfolding add_of answered session_of
 add_setup s id r = go (refused_by s (calls.Add id r))
   where
     go : (y : Option Refusal) → (unless_refused y s (session_of s.setup (queued s ++ record { id = id; request = r } ∷ []))).setup ≡ s.setup
-    go none = refl
-    go (some y) = refl
+    go None = refl
+    go (Some y) = refl
 
 pub add_asked : (s : Session) (x : Answered) (k id : ℕ) (r : Request) (named : Bool) → x ≡ add_of s id r
     → k ≡ line_field named (answer_field x.answer (request_fields x.session.setup.device r)) → reply_at x k ≡ asked_reply s (Add id r) named

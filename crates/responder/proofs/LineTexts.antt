@@ -1,8 +1,8 @@
 -- Laws of the lines of a reply: where numbers end, one request or one write more, and a `take` line in its parts.
 -- Assumes nothing.
+use Rattle.std.specs.Prelude.{Option, None, Some}
 use mathlib.Core.Path.{◌≡◌, refl}
 use mathlib.Core.List.{List, [], ◌∷◌, ◌++◌, flat_map, append_assoc, append-nil}
-use mathlib.Core.Option.{Option, none, some}
 use Prim.Native.Nat.{ℕ, zero, suc, ◌+◌, ◌*◌, ◌<◌, ◌≤◌}
 use native.Mathlib.Nat.{not-suc-le-zero}
 use native.Mathlib.Omega.{arith}
@@ -51,17 +51,17 @@ module _ (a : Assigned) where
   -- one line, with no register
   pub take_counter_lem : (k : ℕ) → a.place ≡ Counter k → take_lines a ≡ take_start a.id k ++ (bytes "-" ++ newline ∷ [])
   unfolding take_lines counted_of register_text flat_map
-  take_counter_lem k e = rw (e, append-nil) (take_line a.id k none)
+  take_counter_lem k e = rw (e, append-nil) (take_line a.id k None)
 
   -- one line, with the register
   pub take_rsp : (k i : ℕ) → a.place ≡ WithRsp k i → take_lines a ≡ take_start a.id k ++ (decimal_text i ++ newline ∷ [])
   unfolding take_lines counted_of register_text flat_map
-  take_rsp k i e = rw (e, append-nil) (take_line a.id k (some i))
+  take_rsp k i e = rw (e, append-nil) (take_line a.id k (Some i))
 
   -- two lines, the first with RSP0 and the second with RSP1
   pub take_pair : (j k : ℕ) → a.place ≡ Pair j k → take_lines a ≡ take_start a.id j ++ ((bytes "0" ++ newline ∷ []) ++ (take_start a.id k ++ (bytes "1" ++ newline ∷ [])))
   unfolding take_lines counted_of register_text flat_map bytes decimal_text decimal_digits
-  take_pair j k e = rw (e, append-nil, take_line a.id j (some 0), take_line a.id k (some 1), append_assoc (take_start a.id j))
+  take_pair j k e = rw (e, append-nil, take_line a.id j (Some 0), take_line a.id k (Some 1), append_assoc (take_start a.id j))
 
 -- texts one after another, and one more
 joined_last : {A : Type 0} (f : A → List ℕ) (l : List A) (a : A) → flat_map f (l ++ a ∷ []) ≡ flat_map f l ++ f a

@@ -1,13 +1,15 @@
 -- Laws of texts that are put into a slice: one after another, a byte at a time from the front, a byte at a time from the back.
 -- Assumes nothing.
 use mathlib.Core.Path.{◌≡◌, refl, ap, sym, ◌∙◌}
-use mathlib.Core.List.{List, [], ◌∷◌, ◌++◌}
-use Prim.Native.Nat.{ℕ, suc, ◌+◌, ◌<◌}
+use mathlib.Core.List.{List, [], ◌∷◌, ◌++◌, append_assoc}
+use Prim.Native.Nat.{ℕ, suc, ◌+◌, ◌-◌, ◌<◌, ◌≤◌}
 use native.Mathlib.Numerals.{add-one}
 use native.Mathlib.Nat.{add-zero}
 use native.Mathlib.Omega.{arith}
 use lib.ListN.{length, get_or, take, drop, set, length-append, length-take}
-use lib.Seq.{sets, take-suc, drop-cons, drop-length, length-sets, set_comm, take_at, get_or_at, get_or-take, take-take}
+use lib.Seq.{sets, drop-cons, drop-length, length-sets, set_comm, take_at, get_or_at, get_or-take, take-take, drop-drop}
+use borrow.Rule.Slice.PartMut.{put_mid}
+use Rattle.std.proofs.lemmas.List.Edits.{sets-eq}
 use Rattle.layouts.proofs.ListLaws.{sets_append}
 use Rattle.responder.specs.Texts.{Put}
 
@@ -31,11 +33,9 @@ then {d} {e} {f} {a} {b} {at} {n} {m} v w =
 put_byte : (d : List ℕ) (at x : ℕ) → Put d at (x ∷ []) (set d at x) (at + 1)
 put_byte d at x = record { place = refl; contents = refl }
 
--- ---- from the front
-
--- one byte more of a copy
-pub copied_next : {d e : List ℕ} {at n : ℕ} (s : List ℕ) (i : ℕ) → i < length s → Put d at (take i s) e n → Put d at (take (i + 1) s) (set e n (get_or s i 0)) (n + 1)
-copied_next {d} {e} {at} {n} s i h v = rw (add-one i, take-suc s i 0) (then v (put_byte e n (get_or s i 0)))
+-- a copy
+pub copied : (d : List ℕ) (at : ℕ) (b : List ℕ) → at + length b ≤ length d → Put d at b (put_mid at (at + length b - at) d b) (at + length b)
+copied d at b h = record { place = refl; contents = let k : at + length b - at ≡ length b = omega arith in rw (k, sets-eq b d at h, drop-drop, append_assoc) }
 
 -- ---- from the back
 

@@ -25,11 +25,10 @@ pub fn put_answer(out: &mut [u8], at: usize, answer: Answer, field: usize) -> us
     ensures { Put out.old at (answer_text answer field) out.new result }
 {
     match answer {
-        Answer::Accepted => put_bytes(out, at, b"ok\n"),
-        Answer::Refused(refusal) => {
-            let number = number_of(refusal);
+        Ok(()) => put_bytes(out, at, b"ok\n"),
+        Err(refusal) => {
             let verb_end = put_bytes(out, at, b"no");
-            let number_end = put_field(out, verb_end, number);
+            let number_end = put_field(out, verb_end, number_of(refusal));
             let end = put_field(out, number_end, field as u64);
             put_byte(out, end, b'\n')
         }

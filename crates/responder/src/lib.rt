@@ -14,6 +14,7 @@ mod take_lines;
 pub mod texts;
 
 // The reply to a line: its text in the first `length` bytes, and the session afterwards.
+// Form: no heap, so the text has an array of a fixed size; the definition `in_array` holds both fields.
 #[derive(Clone, Copy)]
 pub struct LineReply {
     pub text: [u8; REPLY_ROOM],

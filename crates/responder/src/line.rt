@@ -19,16 +19,12 @@ pub fn answer_line<'a>(session: Session, line: &[u8], site: &'a [u8], house: &'a
     let mut ids: [u64; QUEUE_LIMIT] = [0; QUEUE_LIMIT];
     let mut rows: [u64; QUEUE_NUMBERS] = [0; QUEUE_NUMBERS];
     let head = pack(session, &mut ids, &mut rows);
-    let setup = session.setup;
-    let device = setup.device;
-    let parsed = parse_line(line, device, site, house);
+    let parsed = parse_line(line, session.setup.device, site, house);
     let mut text: [u8; REPLY_ROOM] = [0; REPLY_ROOM];
     let replied = reply(head, &mut ids, &mut rows, parsed, &mut text);
-    let left = replied.head;
-    let next = unpack(left, &ids, &rows);
     LineReply {
-        text: text,
+        text,
         length: replied.written,
-        session: next,
+        session: unpack(replied.head, &ids, &rows),
     }
 }

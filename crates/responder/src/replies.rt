@@ -35,10 +35,10 @@ fn call_reply(answered: HeadAnswered, field: usize, out: &mut [u8]) -> Replied
     requires { reply_room ≤ length out.old }
     ensures { (ids rows : List ℕ) → Delivered (reply_at (answered_in answered ids rows) field) out.old out.new (left_in result ids rows) }
 {
-    let answer = answered.answer;
-    let written = put_answer(out, 0, answer, field);
-    let head = answered.head;
-    Replied { head, written }
+    Replied {
+        head: answered.head,
+        written: put_answer(out, 0, answered.answer, field),
+    }
 }
 
 // The reply to a turn: its `take` lines, its `set` lines, and its answer.
@@ -56,14 +56,11 @@ fn turn_reply(
 {
     let mut list: [u64; TURN_ROOM] = [0; TURN_ROOM];
     let turned = turn(head, ids, rows, &mut list);
-    let answer = turned.answer;
     let takes = put_takes(out, 0, turned.code, ids, rows, turned.front, turned.taken);
     let sets = put_sets(out, takes, &list, turned.writes);
-    let written = put_answer(out, sets, answer, 0);
-    let next = turned.head;
     Replied {
-        head: next,
-        written,
+        head: turned.head,
+        written: put_answer(out, sets, turned.answer, 0),
     }
 }
 
@@ -74,7 +71,7 @@ fn fault_reply(head: Head, k: usize, out: &mut [u8]) -> Replied
     ensures { (ids rows : List ℕ) → Delivered (parsed_reply (session_in head ids rows) (Parsed.Fault k)) out.old out.new (left_in result ids rows) }
 {
     let answered = HeadAnswered {
-        answer: Answer::Refused(Refusal::NotInGrammar),
+        answer: Err(Refusal::NotInGrammar),
         head,
     };
     call_reply(answered, k, out)
@@ -88,8 +85,7 @@ fn open_reply(head: Head, given: Setup, out: &mut [u8]) -> Replied
 {
     let opening = opening_of(given);
     let opened = open(head, opening);
-    let answer = opened.answer;
-    let field = open_field(answer, opening);
+    let field = open_field(opened.answer, opening);
     call_reply(opened, field, out)
 }
 
@@ -108,8 +104,7 @@ fn drop_reply(
     ensures sized_2 { Sized ids.new rows.new }
 {
     let dropped = drop_request(head, ids, rows, id);
-    let answer = dropped.answer;
-    let field = drop_field(answer);
+    let field = drop_field(dropped.answer);
     call_reply(dropped, field, out)
 }
 
@@ -131,25 +126,19 @@ pub fn reply(
     if out.len() < REPLY_ROOM {
         return Replied { head, written: 0 };
     }
-    let mut named = false;
-    let asked = match parsed {
+    let (asked, named) = match parsed {
         Parsed::Fault(k) => return fault_reply(head, k, out),
-        Parsed::Named { id, request } => {
-            named = true;
-            Record::Add { id, request }
-        }
-        Parsed::Line(record) => record,
+        Parsed::Named { id, request } => (Record::Add { id, request }, true),
+        Parsed::Line(record) => (record, false),
     };
-    let mut field = 0;
-    let answered = match asked {
-        Record::Turn => return turn_reply(head, ids, rows, out),
-        Record::Open(given) => return open_reply(head, given, out),
-        Record::Drop { id } => return drop_reply(head, ids, rows, id, out),
+    match asked {
+        Record::Turn => turn_reply(head, ids, rows, out),
+        Record::Open(given) => open_reply(head, given, out),
+        Record::Drop { id } => drop_reply(head, ids, rows, id, out),
         Record::Add { id, request } => {
             let added = add(head, ids, rows, id, request);
-            field = add_field(added, request, named);
-            added
+            let field = add_field(added, request, named);
+            call_reply(added, field, out)
         }
-    };
-    call_reply(answered, field, out)
+    }
 }

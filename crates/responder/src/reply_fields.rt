@@ -15,8 +15,8 @@ pub fn open_field(answer: Answer, opening: Opening) -> usize
     ensures { result ≡ answer_field answer (opening_fields opening) }
 {
     match answer {
-        Answer::Accepted => 0,
-        Answer::Refused(refusal) => field_of(refusal, opening_fields(opening)),
+        Ok(()) => 0,
+        Err(refusal) => field_of(refusal, opening_fields(opening)),
     }
 }
 
@@ -25,18 +25,12 @@ pub fn open_field(answer: Answer, opening: Opening) -> usize
 pub fn add_field(added: HeadAnswered, request: Request, named: bool) -> usize
     ensures { result ≡ line_field named (answer_field added.answer (request_fields added.head.setup.device request)) }
 {
-    let answer = added.answer;
-    match answer {
-        Answer::Accepted => 0,
-        Answer::Refused(refusal) => {
-            let head = added.head;
-            let setup = head.setup;
-            let device = setup.device;
+    match added.answer {
+        Ok(()) => 0,
+        Err(refusal) => {
+            let device = added.head.setup.device;
             let field = field_of(refusal, request_fields(device, request));
-            if named {
-                return named_field(field);
-            }
-            field
+            if named { named_field(field) } else { field }
         }
     }
 }
@@ -47,7 +41,7 @@ pub fn drop_field(answer: Answer) -> usize
     ensures { result ≡ answer_field answer no_fields }
 {
     match answer {
-        Answer::Accepted => 0,
-        Answer::Refused(refusal) => field_of(refusal, no_fields()),
+        Ok(()) => 0,
+        Err(refusal) => field_of(refusal, no_fields()),
     }
 }

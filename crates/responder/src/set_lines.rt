@@ -13,13 +13,13 @@ fn put_value(out: &mut [u8], at: usize, value: u64) -> usize
     ensures { Put out.old at (hex_text 16 value) out.new result }
 {
     if value == 0 {
-        return put_bytes(out, at, b"0000000000000000");
-    }
-    if value < 0x1_0000_0000 {
+        put_bytes(out, at, b"0000000000000000")
+    } else if value < 0x1_0000_0000 {
         let half = put_bytes(out, at, b"00000000");
-        return put_hex(out, half, 8, value);
+        put_hex(out, half, 8, value)
+    } else {
+        put_hex(out, at, 16, value)
     }
-    put_hex(out, at, 16, value)
 }
 
 // Puts the `set` line of a write.
@@ -42,12 +42,10 @@ pub fn put_sets(out: &mut [u8], at: usize, list: &[u64], writes: usize) -> usize
     ensures { Put out.old at (set_lines (take (2 * writes) list.now)) out.new result }
 {
     let mut next = at;
-    let mut i = 0;
-    while i < writes {
+    for i in 0..writes {
         let address = list[2 * i];
         let value = list[2 * i + 1];
         next = put_set(out, next, address, value);
-        i += 1;
     }
     next
 }

@@ -34,8 +34,7 @@ fn put_assigned(out: &mut [u8], at: usize, assigned: Assigned) -> usize
     ensures { Put out.old at (take_lines assigned) out.new result }
 {
     let id = assigned.id;
-    let place = assigned.place;
-    match place {
+    match assigned.place {
         Place::Counter(counter) => {
             let register = put_start(out, at, id, counter);
             put_bytes(out, register, b"-\n")
@@ -69,16 +68,12 @@ pub fn put_takes(
     ensures { Put out.old at (flat_map take_lines (planned code (take taken (drop front (queue_in ids.now rows.now))))) out.new result }
 {
     let mut next = at;
-    let mut i = 0;
-    while i < taken {
-        let request = request_in(rows, front + i);
+    for i in 0..taken {
         let entry = Entry {
             id: ids[front + i],
-            request,
+            request: request_in(rows, front + i),
         };
-        let assigned = assigned_to(code, i, entry);
-        next = put_assigned(out, next, assigned);
-        i += 1;
+        next = put_assigned(out, next, assigned_to(code, i, entry));
     }
     next
 }

@@ -9,6 +9,41 @@ use std::fs;
 use std::io::Write;
 use std::rt::{Clock, Files};
 
+// The files, in the order in which they are answered.
+const FILES: [&str; 31] = [
+    "g.txt",
+    "s.txt",
+    "lab.txt",
+    "field.txt",
+    "clock.txt",
+    "c.txt",
+    "freeze.txt",
+    "b.txt",
+    "lone.txt",
+    "single_c_box.txt",
+    "single_empty_queue.txt",
+    "single_latency.txt",
+    "single_narrow.txt",
+    "single_no_such_line.txt",
+    "single_packets.txt",
+    "single_sixteen.txt",
+    "single_two_in_turn.txt",
+    "shorter_three_ahead.txt",
+    "shorter_four_ahead.txt",
+    "shorter_eight_ahead_offcore.txt",
+    "shorter_fifteen_ahead.txt",
+    "shorter_two_usable.txt",
+    "shorter_one_usable.txt",
+    "shorter_fifteen_ahead_one_usable.txt",
+    "shorter_one_dropped.txt",
+    "shorter_added_behind.txt",
+    "shorter_c_box.txt",
+    "shorter_s_packet.txt",
+    "shorter_latency_not_meant.txt",
+    "shorter_pinned_not_meant.txt",
+    "shorter_b_keeps_the_old.txt",
+];
+
 // Answers a file's lines, with no names.
 fn answer_file<H: Files + Clock + Tell, W: Write>(rt: &H, output: &mut W, path: &str) {
     let mut input = match fs::open(rt, path) {
@@ -25,43 +60,7 @@ fn answer_file<H: Files + Clock + Tell, W: Write>(rt: &H, output: &mut W, path: 
 
 fn main(rt: HostRuntime) {
     let mut output = rt.stdout();
-    answer_file(&rt, &mut output, "g.txt");
-    answer_file(&rt, &mut output, "s.txt");
-    answer_file(&rt, &mut output, "lab.txt");
-    answer_file(&rt, &mut output, "field.txt");
-    answer_file(&rt, &mut output, "clock.txt");
-    answer_file(&rt, &mut output, "c.txt");
-    answer_file(&rt, &mut output, "freeze.txt");
-    answer_file(&rt, &mut output, "b.txt");
-    answer_file(&rt, &mut output, "lone.txt");
-    single_turns(&rt, &mut output);
-    shorter_waits(&rt, &mut output);
-}
-
-fn single_turns<H: Files + Clock + Tell, W: Write>(rt: &H, output: &mut W) {
-    answer_file(rt, output, "single_c_box.txt");
-    answer_file(rt, output, "single_empty_queue.txt");
-    answer_file(rt, output, "single_latency.txt");
-    answer_file(rt, output, "single_narrow.txt");
-    answer_file(rt, output, "single_no_such_line.txt");
-    answer_file(rt, output, "single_packets.txt");
-    answer_file(rt, output, "single_sixteen.txt");
-    answer_file(rt, output, "single_two_in_turn.txt");
-}
-
-fn shorter_waits<H: Files + Clock + Tell, W: Write>(rt: &H, output: &mut W) {
-    answer_file(rt, output, "shorter_three_ahead.txt");
-    answer_file(rt, output, "shorter_four_ahead.txt");
-    answer_file(rt, output, "shorter_eight_ahead_offcore.txt");
-    answer_file(rt, output, "shorter_fifteen_ahead.txt");
-    answer_file(rt, output, "shorter_two_usable.txt");
-    answer_file(rt, output, "shorter_one_usable.txt");
-    answer_file(rt, output, "shorter_fifteen_ahead_one_usable.txt");
-    answer_file(rt, output, "shorter_one_dropped.txt");
-    answer_file(rt, output, "shorter_added_behind.txt");
-    answer_file(rt, output, "shorter_c_box.txt");
-    answer_file(rt, output, "shorter_s_packet.txt");
-    answer_file(rt, output, "shorter_latency_not_meant.txt");
-    answer_file(rt, output, "shorter_pinned_not_meant.txt");
-    answer_file(rt, output, "shorter_b_keeps_the_old.txt");
+    for path in FILES.iter() {
+        answer_file(&rt, &mut output, path);
+    }
 }

@@ -43,8 +43,7 @@ fn is_status_asked<H: Env>(rt: &H) -> bool {
 // Whether there is such an argument.
 fn is_given<H: Env>(rt: &H, at: usize) -> bool {
     match rt.arg(at, &mut []) {
-        Ok(_) => true,
-        Err(FillError::TooLong) => true,
+        Ok(_) | Err(FillError::TooLong) => true,
         Err(FillError::NotPresent) => false,
     }
 }
@@ -53,17 +52,13 @@ fn is_given<H: Env>(rt: &H, at: usize) -> bool {
 fn argument<H: Env + Tell>(rt: &H, at: usize, room: &mut [u8; ARGUMENT_ROOM]) -> Option<usize>
     ensures { IfSome result (λ n. n ≤ 4096) }
 {
-    match rt.arg(at, room) {
-        Ok(n) => Some(n),
-        Err(FillError::TooLong) => {
-            fail(rt, room, &io::Error::from_raw_os_error(ENAMETOOLONG));
-            None
-        }
-        Err(FillError::NotPresent) => {
-            fail(rt, room, &io::Error::from_raw_os_error(EINVAL));
-            None
-        }
-    }
+    let errno = match rt.arg(at, room) {
+        Ok(n) => return Some(n),
+        Err(FillError::TooLong) => ENAMETOOLONG,
+        Err(FillError::NotPresent) => EINVAL,
+    };
+    fail(rt, room, &io::Error::from_raw_os_error(errno));
+    None
 }
 
 // Answers the lines with the lists of the two files that the arguments from `first` on name.
@@ -100,9 +95,7 @@ fn answer_with_arguments<H: Env + Files + Clock + Tell, R: Read, W: Write>(
     let mut block = [0u8; BLOCK_ROOM];
     let mut out = [0u8; BLOCK_ROOM];
     if !is_given(rt, first) {
-        let answered = answer_input(rt, input, output, b"", b"", &mut block, &mut out);
-        let ending = answered.ending;
-        return status_of(ending);
+        return status_of(answer_input(rt, input, output, b"", b"", &mut block, &mut out).ending);
     }
     if is_given(rt, first + 1) && !is_given(rt, first + 2) {
         return answer_with_lists(rt, input, output, first, &mut block, &mut out);

@@ -6,6 +6,6 @@ use Rattle.relay.proofs.answer_blocks.Given as goal
 
 abbrev pub invariant-loop : goal.invariant-loop
 invariant-loop g l = record {
-  relayed : RelayedSoFar (record { site = l.site; house = l.house }) l.state l.received l.sent;
+  relayed : RelayedSoFar (record { site = l.site; house = l.house }) l.feed l.received l.sent;
   roomy : reply_room ≤ length l.out;
 }

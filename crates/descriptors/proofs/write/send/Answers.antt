@@ -2,7 +2,7 @@
 use Rattle.std.proofs.Common.{length, rules}
 use Rattle.descriptors.specs.Writes.{Reached, begun}
 use Rattle.descriptors.proofs.Reported.{known}
-use Rattle.descriptors.proofs.CallAnswers.{write_reached}
+use Rattle.descriptors.proofs.CallAnswers.{moved_at_most, write_reached}
 use Rattle.descriptors.proofs.write.send.Goals as goal
 
 pub loop-init : goal.loop-init
@@ -13,5 +13,5 @@ loop-init g c =
 pub loop-preserved : goal.loop-preserved
 loop-preserved g c =
     let reached : Reached (length c.args.text.now) c.write_step-state.result =
-    write_reached c.args.text.now c.loop.state c.write_step-state.result c.write-returned.result c.answer_of-answer.result.got _ c.loop.invariant.reached (search rules) (search rules) c.write-returned.ensures.bound c.answer_of-answer.ensures.moved c.write_step-state.ensures in
+    write_reached c.args.text.now c.loop.state c.write_step-state.result c.answer_of.result c.loop.invariant.reached (search rules) (moved_at_most c.write-returned.result _ _ c.write-returned.ensures.bound (search rules)) c.write_step-state.ensures in
     record { reached = reached; within = (known reached).within }

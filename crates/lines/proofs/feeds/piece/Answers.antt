@@ -1,9 +1,10 @@
 use mathlib.Core.Path.{sym}
 use native.Mathlib.Omega.{arith}
 use lib.ListN.{replicate}
-use lib.Seq.{length-take-le, take-length}
+use lib.Seq.{length-take-le}
 use Rattle.streams.specs.Feeds.{piece_of, piece_out}
 use Rattle.streams.proofs.FeedAnswers.{after_end}
+use Rattle.lines.proofs.Runs.{no_newline}
 use Rattle.lines.proofs.Delivered.{unfinished_piece, block_held, block_taken, piece_delivered}
 use Rattle.lines.proofs.feeds.piece.Goals as goal
 
@@ -14,10 +15,10 @@ returns-then-state c =
     let t = after_end a.state _ _ a.out.now c.if-state.true c.refused.ensures in
     record { answer = t.0; output = t.1 }
 
-pub returns-then-end-text : goal.returns-then-end-text
-returns-then-end-text c =
+pub returns-then-is_none : goal.returns-then-is_none
+returns-then-is_none c =
     let a = c.args in
-    let t = unfinished_piece (record { site = a.site.now; house = a.house.now }) a.state a.text.now a.out.now c.if-state.false (rw (c.if-end-text.true, take-length a.text.now) at c.newline_in-end.ensures.before) (c.unfinished-feed.ensures _) in
+    let t = unfinished_piece (record { site = a.site.now; house = a.house.now }) a.state a.text.now a.out.now c.if-state.false (no_newline a.text.now _ c.newline_in.ensures c.if-is_none.ensures) (c.unfinished.ensures _) in
     record { answer = t.0; output = t.1 }
 
 pub slice_bounds-answers-end : goal.slice_bounds-answers-end

@@ -9,12 +9,12 @@ pub loop-taken-init : goal.loop-taken-init
 unfolding feed_text
 loop-taken-init c = let a = c.args in (passed_none _ a.state a.text.now, omega arith)
 
-pub returns-then-left-written : goal.returns-then-left-written
+pub returns-then-left-fed : goal.returns-then-left-fed
 unfolding reply_room
-returns-then-left-written c =
+returns-then-left-fed c =
     let l = c.loop-taken in
     let p = part_passed 4096 l.invariant.0 (omega arith) (omega arith) c.feed-fed.ensures.answer in
-    sym (part_long 4096 l.invariant.0 c.args.room l.left p l.invariant.1 c.if-left-written.true)
+    sym (part_long 4096 l.invariant.0 c.args.room l.left p l.invariant.1 c.if-left-fed.true)
 
 pub overflow_add-taken : goal.overflow_add-taken
 unfolding reply_room
@@ -35,4 +35,4 @@ unfolding reply_room
 loop-taken-preserved c =
     let l = c.loop-taken in
     let p = part_passed 4096 l.invariant.0 (omega arith) (omega arith) c.feed-fed.ensures.answer in
-    (p.more, omega (arith, part_count 4096 l.invariant.0 p, l.invariant.1, c.if-left-written.false))
+    (p.more, omega (arith, part_count 4096 l.invariant.0 p, l.invariant.1, c.if-left-fed.false))

@@ -1,11 +1,12 @@
-use native.Mathlib.Omega.{arith}
+use Rattle.std.proofs.Common.{◌≡◌, rules}
+use Rattle.std.proofs.lemmas.Iterator.{IsFirst-from_position, YieldsList-from_slice}
 use Rattle.grammar.specs.Text.{newline}
-use Rattle.lines.proofs.Runs.{free_next}
+use Rattle.lines.proofs.Runs.{first_newline}
 use Rattle.lines.proofs.newlines.newline_in.Goals as goal
 
-pub loop-at-preserved : goal.loop-at-preserved
+pub returns : goal.returns
 unfolding newline
-loop-at-preserved c =
-    let l = c.loop-at in
-    let a = c.args in
-    (omega arith, free_next a.block.now l.at (omega arith) l.invariant.1 c.if-block-at-eq10.false)
+returns c =
+    first_newline c.args.block.now c.position.result
+    (IsFirst-from_position _ _ c.position.result (λ b. b ≡ newline) (λ b. ¬ (b ≡ newline)) c.position.ensures.ran
+    (YieldsList-from_slice c.args.block.now c.iter.ensures.rest) (λ x q k. search rules) (λ x q k. search rules))

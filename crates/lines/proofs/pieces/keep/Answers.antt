@@ -1,23 +1,16 @@
-use mathlib.Core.Path.{sym, ◌∙◌}
-use native.Mathlib.Omega.{arith}
+use Rattle.requests.specs.Choice.{either}
 use Rattle.grammar.specs.Parse.{longest}
-use Rattle.lines.specs.Pieces.{state_of}
-use Rattle.lines.proofs.Runs.{free_more, keep_more, keep_no_more}
+use Rattle.lines.proofs.Runs.{keep_piece}
 use Rattle.lines.proofs.pieces.keep.Goals as goal
 
-pub returns-then-next-ge-LONGEST : goal.returns-then-next-ge-LONGEST
-unfolding longest
-returns-then-next-ge-LONGEST c =
-    let l = c.loop-i in
+pub returns-then-long : goal.returns-then-long
+unfolding longest either
+returns-then-long c =
     let a = c.args in
-    λ n s. sym (keep_no_more a.piece.now l.i (omega arith) l.invariant.1 n (state_of s l.kept l.next a.long) (omega arith) ∙ l.invariant.2 n s)
+    λ n s. keep_piece s a.kept.now a.used a.long a.piece.now c.min-from.ensures c.min-n.ensures n c.requires c.put_bytes.ensures (rw c.if-long.true)
 
-pub loop-i-preserved : goal.loop-i-preserved
-unfolding longest
-loop-i-preserved c =
-    let l = c.loop-i in
-    let a = c.args in (
-      omega arith,
-      free_more a.piece.now l.i (omega arith) l.invariant.1,
-      λ n s. keep_more a.piece.now l.i (omega arith) l.invariant.1 n (state_of s l.kept l.next a.long) (omega arith) ∙ l.invariant.2 n s,
-    )
+pub returns-else-long : goal.returns-else-long
+unfolding longest either
+returns-else-long c =
+    let a = c.args in
+    λ n s. keep_piece s a.kept.now a.used a.long a.piece.now c.min-from.ensures c.min-n.ensures n c.requires c.put_bytes.ensures (rw c.if-long.false)

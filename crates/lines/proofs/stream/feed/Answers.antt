@@ -6,7 +6,6 @@ use Rattle.answers.specs.ReplyLength.{reply_room}
 use Rattle.responder.specs.Written.{left_in}
 use Rattle.lines.specs.Pieces.{state_of}
 use Rattle.streams.specs.Stream.{line_start}
-use Rattle.lines.proofs.NextLine.{left_within, rest_free}
 use Rattle.lines.proofs.Feeding.{FedSoFar, fed_none, fed_length, fed_reply, fed_rest, fed_full, fed_end}
 use Rattle.lines.proofs.stream.feed.Goals as goal
 
@@ -20,22 +19,20 @@ returns-then-out-written-lt-REPLY_ROOM c =
     let full = fed_full so_far (omega (arith, c.if-out-written-lt-REPLY_ROOM.true, fed_length c.loop-taken.invariant.1)) in
     record { answer = rw c.fed.ensures full.0; output = full.1 }
 
-pub returns-then-end-block : goal.returns-then-end-block
+pub returns-in_default : goal.returns-in_default
 unfolding reply_room
-returns-then-end-block c =
+returns-in_default c =
     let so_far : (let l = c.loop-taken in let a = c.args in FedSoFar (record { site = a.site.now; house = a.house.now }) a.feed a.block.now a.out.now (state_of (session_in l.head l.ids l.rows) l.kept l.used l.long) l.taken l.written l.out) = rw c.pack-head.ensures.rows_after at c.loop-taken.invariant.1 in
     let a = c.args in
     let l = c.loop-taken in
-    let end = c.if-end-block.true in
-    let free = rest_free a.block.now l.taken c.newline_in.ensures end in
-    let rest = fed_end (fed_rest so_far free (omega (arith, c.if-out-written-lt-REPLY_ROOM.false, fed_length l.invariant.1))) refl in
-    record { answer = rw (c.fed-then-end-block.ensures, ← c.keep-rest.ensures (record { site = a.site.now; house = a.house.now }) (session_in l.head l.ids l.rows), end) rest.0; output = rest.1 }
+    let rest = fed_end (fed_rest so_far (rw c.in_default.is at c.newline_in.ensures) (omega (arith, c.if-out-written-lt-REPLY_ROOM.false, fed_length l.invariant.1))) refl in
+    record { answer = rw (c.fed-in_default.ensures, ← c.keep-rest.ensures (record { site = a.site.now; house = a.house.now }) (session_in l.head l.ids l.rows)) rest.0; output = rest.1 }
 
 pub overflow_add-written : goal.overflow_add-written
 unfolding reply_room line_start longest left_in session_in
 overflow_add-written c =
     let replied = c.reply-replied in
-    let first = c.newline_in.ensures in
+    let first = c.in-Some.ensures in
     let l = c.loop-taken in
     let v = l.invariant.1 in
     let block = c.args.block.now in
@@ -43,7 +40,6 @@ overflow_add-written c =
     fed_reply
     v
     first
-    (omega (arith, left_within block l.taken first, v.within, c.if-end-block.false))
     (omega (arith, c.if-out-written-lt-REPLY_ROOM.false, fed_length v))
     (c.parse_ended-parsed.ensures (session_in l.head l.ids l.rows) refl)
     replied.ensures.rows_after
@@ -54,7 +50,7 @@ pub loop-taken-preserved : goal.loop-taken-preserved
 unfolding reply_room line_start longest left_in session_in
 loop-taken-preserved c =
     let replied = c.reply-replied in
-    let first = c.newline_in.ensures in
+    let first = c.in-Some.ensures in
     let l = c.loop-taken in
     let v = l.invariant.1 in
     let block = c.args.block.now in (
@@ -62,7 +58,6 @@ loop-taken-preserved c =
       fed_reply
           v
           first
-          (omega (arith, left_within block l.taken first, v.within, c.if-end-block.false))
           (omega (arith, c.if-out-written-lt-REPLY_ROOM.false, fed_length v))
           (c.parse_ended-parsed.ensures (session_in l.head l.ids l.rows) refl)
           replied.ensures.rows_after

@@ -11,8 +11,8 @@ put_field-end-requires c = omega (arith, field_end _ c.put_field-number_end.ensu
 pub put_byte-requires : goal.put_byte-requires
 put_byte-requires c = omega (arith, field_end _ c.put_field-end.ensures, field_end _ c.put_field-number_end.ensures)
 
-pub returns-in-Refused : goal.returns-in-Refused
+pub returns-in-Err : goal.returns-in-Err
 unfolding answer_text line_of bytes tab newline
-returns-in-Refused c =
-    rw (c.in-Refused.is, ← c.number_of-number.ensures)
+returns-in-Err c =
+    rw (c.in-Err.is, ← c.number_of.ensures)
     (then c.put_bytes-verb_end.ensures (then c.put_field-number_end.ensures (then c.put_field-end.ensures c.put_byte.ensures)))

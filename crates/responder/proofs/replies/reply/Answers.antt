@@ -28,9 +28,9 @@ returns-in-Fault c =
 pub returns-in-Turn : goal.returns-in-Turn
 unfolding reply_room asked_reply record_reply parsed_reply
 returns-in-Turn c =
-    let asked_is : (let a = c.args in let s = session_in a.head a.ids.now a.rows.now in asked_reply s c.match-parsed.asked c.match-parsed.named ≡ parsed_reply s a.parsed) = elim c.match-parsed.branch [
-      | in-Named w ↦ rw (w.named-is, w.asked-is, w.in-Named.is)
-      | in-Line w ↦ rw (w.named-is, w.asked-is, w.in-Line.is) (asked_plain _ _)
+    let asked_is : (let a = c.args in let s = session_in a.head a.ids.now a.rows.now in asked_reply s c.match-parsed.asked.0 c.match-parsed.asked.1 ≡ parsed_reply s a.parsed) = elim c.match-parsed.branch [
+      | in-Named w ↦ rw (w.asked-is, w.in-Named.is)
+      | in-Line w ↦ rw (w.asked-is, w.in-Line.is) (asked_plain _ _)
     ] in
     let a = c.args in
     let turn = c.turn_reply in
@@ -42,9 +42,9 @@ returns-in-Turn c =
 pub returns-in-Open : goal.returns-in-Open
 unfolding reply_room asked_reply parsed_reply
 returns-in-Open c =
-    let asked_is : (let a = c.args in let s = session_in a.head a.ids.now a.rows.now in asked_reply s c.match-parsed.asked c.match-parsed.named ≡ parsed_reply s a.parsed) = elim c.match-parsed.branch [
-      | in-Named w ↦ rw (w.named-is, w.asked-is, w.in-Named.is)
-      | in-Line w ↦ rw (w.named-is, w.asked-is, w.in-Line.is) (asked_plain _ _)
+    let asked_is : (let a = c.args in let s = session_in a.head a.ids.now a.rows.now in asked_reply s c.match-parsed.asked.0 c.match-parsed.asked.1 ≡ parsed_reply s a.parsed) = elim c.match-parsed.branch [
+      | in-Named w ↦ rw (w.asked-is, w.in-Named.is)
+      | in-Line w ↦ rw (w.asked-is, w.in-Line.is) (asked_plain _ _)
     ] in
     let a = c.args in
     let opened = c.open_reply in
@@ -55,9 +55,9 @@ returns-in-Open c =
 pub returns-in-Drop : goal.returns-in-Drop
 unfolding reply_room asked_reply parsed_reply
 returns-in-Drop c =
-    let asked_is : (let a = c.args in let s = session_in a.head a.ids.now a.rows.now in asked_reply s c.match-parsed.asked c.match-parsed.named ≡ parsed_reply s a.parsed) = elim c.match-parsed.branch [
-      | in-Named w ↦ rw (w.named-is, w.asked-is, w.in-Named.is)
-      | in-Line w ↦ rw (w.named-is, w.asked-is, w.in-Line.is) (asked_plain _ _)
+    let asked_is : (let a = c.args in let s = session_in a.head a.ids.now a.rows.now in asked_reply s c.match-parsed.asked.0 c.match-parsed.asked.1 ≡ parsed_reply s a.parsed) = elim c.match-parsed.branch [
+      | in-Named w ↦ rw (w.asked-is, w.in-Named.is)
+      | in-Line w ↦ rw (w.asked-is, w.in-Line.is) (asked_plain _ _)
     ] in
     let a = c.args in
     let dropped = c.drop_reply in
@@ -66,16 +66,16 @@ returns-in-Drop c =
     (rw (← asked_is, c.in-Drop.is) d.delivered) in
     record { rows_after = x.0; out_after = x.1; sized = d.sized_2 }
 
-pub returns : goal.returns
+pub returns-in-Add : goal.returns-in-Add
 unfolding reply_room asked_reply parsed_reply answered_in session_in
-returns c =
-    let asked_is : (let a = c.args in let s = session_in a.head a.ids.now a.rows.now in asked_reply s c.match-parsed.asked c.match-parsed.named ≡ parsed_reply s a.parsed) = elim c.match-parsed.branch [
-      | in-Named w ↦ rw (w.named-is, w.asked-is, w.in-Named.is)
-      | in-Line w ↦ rw (w.named-is, w.asked-is, w.in-Line.is) (asked_plain _ _)
+returns-in-Add c =
+    let asked_is : (let a = c.args in let s = session_in a.head a.ids.now a.rows.now in asked_reply s c.match-parsed.asked.0 c.match-parsed.asked.1 ≡ parsed_reply s a.parsed) = elim c.match-parsed.branch [
+      | in-Named w ↦ rw (w.asked-is, w.in-Named.is)
+      | in-Line w ↦ rw (w.asked-is, w.in-Line.is) (asked_plain _ _)
     ] in
     let added_is : (let a = c.args in let added = c.add-added in reply_at (answered_in added.result added.new.ids added.new.rows) c.add_field-field.result ≡ parsed_reply (session_in a.head a.ids.now a.rows.now) a.parsed) = let a = c.args in
     let s = session_in a.head a.ids.now a.rows.now in
-    let named = c.match-parsed.named in
+    let named = c.match-parsed.asked.1 in
     add_asked s _ _ _ _ named c.add-added.ensures.answered c.add_field-field.ensures ∙ ap (λ (r : Record). asked_reply s r named) (sym c.in-Add.is) ∙ asked_is in
     let a = c.args in
     let call = c.call_reply in

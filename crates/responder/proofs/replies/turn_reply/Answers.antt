@@ -28,9 +28,9 @@ put_sets-sets-requires c =
     let place = c.put_takes-takes.ensures.place in
     (omega arith, omega (arith, takes_length t.code (drop t.front (queue_in c.turn-turned.new.ids c.turn-turned.new.rows)) t.taken))
 
-pub put_answer-written-requires : goal.put_answer-written-requires
+pub put_answer-requires : goal.put_answer-requires
 unfolding turn_room reply_room
-put_answer-written-requires c =
+put_answer-requires c =
     let limits : (let t = c.turn-turned.result in (t.taken ≤ 8) × (t.front + t.taken ≤ 16) × (2 * t.writes ≤ turn_room)) = let a = c.args in
     let t = c.turn-turned.ensures.turns_in in
     (t.few, t.inside, rw t.writes (turn_at_most (session_in a.head a.ids.now a.rows.now) turn_room).writes) in
@@ -47,6 +47,6 @@ returns c =
     let turn = c.turn-turned in
     let t = turn.ensures.turns_in in record {
       delivered = rw (← turn.ensures.out_after) (turn_delivered (turn_of (session_in a.head a.ids.now a.rows.now) turn_room) _ _ _ _ _ t.plan t.writes t.answer t.session
-          c.put_takes-takes.ensures c.put_sets-sets.ensures c.put_answer-written.ensures);
+          c.put_takes-takes.ensures c.put_sets-sets.ensures c.put_answer.ensures);
       sized_2 = t.size;
     }

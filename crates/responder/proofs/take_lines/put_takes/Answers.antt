@@ -16,15 +16,15 @@ use Rattle.responder.proofs.take_lines.put_takes.Goals as goal
 
 pub loop-i-init : goal.loop-i-init
 unfolding flat_map planned assign requests_of places_from
-loop-i-init c = (omega arith, put_nothing _ _)
+loop-i-init c = put_nothing _ _
 
 pub put_assigned-next-requires : goal.put_assigned-next-requires
 put_assigned-next-requires c =
     let l = c.loop-i in
     let a = c.args in
     let room = c.requires.2 in
-    let place = l.invariant.1.place in
-    omega (arith, put_length l.invariant.1, takes_length a.code (drop a.front (queue_in a.ids.now a.rows.now)) l.i)
+    let place = l.invariant.place in
+    omega (arith, put_length l.invariant, takes_length a.code (drop a.front (queue_in a.ids.now a.rows.now)) l.i)
 
 pub loop-i-preserved : goal.loop-i-preserved
 unfolding entry_at
@@ -35,4 +35,4 @@ loop-i-preserved c =
     let q = queue_in a.ids.now a.rows.now in
     let size = queue_length a.ids.now a.rows.now in
     let is = get_or-drop a.front q l.i vacant ∙ place_is a.ids.now a.rows.now 16 (a.front + l.i) (omega arith) in
-    (omega arith, rw (takes_next a.code (drop a.front q) l.i (rw length-drop (omega arith)), is, ← c.request_in-request.ensures, ← c.assigned_to-assigned.ensures) (then l.invariant.1 c.put_assigned-next.ensures))
+    rw (takes_next a.code (drop a.front q) l.i (rw length-drop (omega arith)), is, ← c.request_in.ensures, ← c.assigned_to.ensures) (then l.invariant c.put_assigned-next.ensures)

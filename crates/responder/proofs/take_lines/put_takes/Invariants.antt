@@ -1,5 +1,4 @@
 use mathlib.Core.List.{flat_map}
-use Prim.Native.Nat.{◌-◌, ◌≤◌}
 use lib.ListN.{take, drop}
 use Rattle.planner.specs.Selections.{planned}
 use Rattle.queue_rows.specs.Rows.{queue_in}
@@ -8,7 +7,4 @@ use Rattle.responder.specs.Texts.{Put}
 use Rattle.responder.proofs.take_lines.put_takes.Given as goal
 
 abbrev pub invariant-loop-i : goal.invariant-loop-i
-invariant-loop-i l = (l.i ≤ l.taken) × Put l.initial.out l.at (flat_map take_lines (planned l.code (take l.i (drop l.front (queue_in l.ids l.rows))))) l.out l.next
-
-abbrev pub decreases-loop-i : goal.decreases-loop-i
-decreases-loop-i l = l.taken - l.i
+invariant-loop-i l = Put l.initial.out l.at (flat_map take_lines (planned l.code (take l.i (drop l.front (queue_in l.ids l.rows))))) l.out l.next

@@ -1,8 +1,5 @@
-use native.Mathlib.Omega.{arith}
-use Rattle.responder.proofs.Putting.{copied_next}
+use Rattle.responder.proofs.Putting.{copied}
 use Rattle.responder.proofs.texts.put_bytes.Goals as goal
 
-pub loop-i-preserved : goal.loop-i-preserved
-loop-i-preserved c =
-    let l = c.loop-i in
-    (omega arith, copied_next c.args.bytes.now l.i (omega arith) l.invariant.1)
+pub returns : goal.returns
+returns c = rw c.copy_from_slice.ensures.after (copied c.args.out.now c.args.at c.args.bytes.now c.requires)
