@@ -7,10 +7,8 @@ use native.Mathlib.Omega.{arith}
 use lib.ListN.{take, get_or}
 use Rattle.requests.specs.declared.Request.{Request}
 use Rattle.plans.specs.declared.Place.{Place}
-use Rattle.search.specs.declared.Found.{Found}
 use Rattle.search.specs.Rows.{request_at, rows_from}
-use Rattle.search.specs.Found.{nothing}
-use Rattle.bench.specs.Numbers.{digits_of, place_number}
+use Rattle.bench.specs.Numbers.{digits_of}
 
 rows_part : (rows : List ℕ) (at k m : ℕ) → take k (rows_from rows at (k + m)) ≡ rows_from rows at k
 unfolding rows_from
@@ -31,12 +29,3 @@ rows_listed rows count a b c d e f g h l p0 p1 p2 p3 p4 p5 p6 p7 =
 pub digits_few : (x : ℕ) (p : Place) → x ≡ digits_of p → x ≤ 63
 unfolding digits_of
 digits_few x p e = omega arith
-
--- the number of a place that is there, and of none
-pub number_there : (found : Found) (i x : ℕ) → found.found ≡ true → x ≡ digits_of (get_or found.places i nothing).place → x + 1 ≡ place_number found i
-unfolding place_number
-number_there found i x h e = rw (h, e)
-
-pub number_none : (found : Found) (i : ℕ) → found.found ≡ false → 0 ≡ place_number found i
-unfolding place_number
-number_none found i h = rw h

@@ -12,7 +12,7 @@ use plans::Place;
 
 pub mod turns;
 
-use requests::{Core, CounterSet, Device, Overflow, Setup};
+use requests::{CounterSet, Device, Overflow, Setup};
 use search::first_plan::first_plan;
 use search::plan_rows::plan_rows;
 use search::rows::{ROW_NUMBERS, request_at};
@@ -29,6 +29,21 @@ fn digits_of(place: Place) -> u64
     }
 }
 
+// Device G with a usable set, its fixed counters off, where nothing is asked.
+fn setup_for(usable: u64) -> Setup
+    ensures { result ≡ setup_for usable }
+{
+    Setup {
+        device: Device::G,
+        usable: CounterSet(usable),
+        fixed: 0,
+        overflow: Overflow {
+            freeze: 0,
+            core: None,
+        },
+    }
+}
+
 // Request i's place in the first plan of the requests in the first `count` rows.
 #[unsafe(no_mangle)]
 pub extern "C" fn rattle_first_plan(
@@ -40,15 +55,8 @@ pub extern "C" fn rattle_first_plan(
     requires { (count ≤ 8) × (i < 8) }
     ensures { result ≡ place_number (found_of (first_plan (setup_for usable) (rows_from rows.now 0 count))) i }
 {
-    let setup = Setup {
-        device: Device::G,
-        usable: CounterSet(usable),
-        fixed: 0,
-        overflow: Overflow {
-            freeze: 0,
-            core: Core::NoCore,
-        },
-    };
+    let setup = setup_for(usable);
+    // Form: (d) a literal of eight calls: filled by a loop it would want an invariant over the rows read so far.
     let requests = [
         request_at(rows, 0),
         request_at(rows, 1),
@@ -59,14 +67,10 @@ pub extern "C" fn rattle_first_plan(
         request_at(rows, 6),
         request_at(rows, 7),
     ];
-    let found = first_plan(setup, requests, count);
-    if found.found {
-        let places = found.places;
-        let given = places[i];
-        let place = given.place;
-        return digits_of(place) + 1;
+    match first_plan(setup, requests, count) {
+        Some(places) => digits_of(places[i]) + 1,
+        None => 0,
     }
-    0
 }
 
 // The packed first plan of the requests in the first `count` rows.
@@ -75,14 +79,5 @@ pub extern "C" fn rattle_plan_rows(usable: u64, rows: &[u64; ROW_NUMBERS], count
     requires { count ≤ 8 }
     ensures { result ≡ packed (first_plan (setup_for usable) (rows_from rows.now 0 count)) }
 {
-    let setup = Setup {
-        device: Device::G,
-        usable: CounterSet(usable),
-        fixed: 0,
-        overflow: Overflow {
-            freeze: 0,
-            core: Core::NoCore,
-        },
-    };
-    plan_rows(setup, rows, count)
+    plan_rows(setup_for(usable), rows, count)
 }

@@ -9,7 +9,7 @@ use requests::{CounterSet, Device, Entry, Request, Setup};
 use sessions::Session;
 use std::io;
 
-const ALL: u64 = 0xFFFF_FFFF_FFFF_FFFF;
+const ALL: u64 = u64::MAX;
 
 // A setup that no open takes; requests of other devices, ill-formed, under equal ids and the id 0; and a length past the array.
 fn nonsense() -> Session {
@@ -27,14 +27,10 @@ fn nonsense() -> Session {
         request: word,
     };
     let mut queue = [entry; 16];
-    queue[1] = Entry {
-        id: 7,
-        request: types,
-    };
-    let unlisted = event(0xFF, 0xFF, 8);
+    queue[1].request = types;
     queue[2] = Entry {
         id: 0,
-        request: unlisted,
+        request: event(0xFF, 0xFF, 8),
     };
     let setup = Setup {
         device: Device::S,
@@ -44,27 +40,24 @@ fn nonsense() -> Session {
     };
     Session {
         opened: true,
-        setup: setup,
-        queue: queue,
+        setup,
+        queue,
         len: 1000,
     }
 }
 
 pub fn run(rt: &impl Print) -> io::Result<()> {
     let session = nonsense();
-    print::session(rt, session)?;
+    print::session(rt, &session)?;
     let again = opening(G, 15);
     let reopened = open(session, again);
-    let answer = reopened.answer;
-    print::answer(rt, answer, opening_fields(again))?;
+    print::answer(rt, reopened.answer, opening_fields(again))?;
     let same = added(rt, session, 8, event(0x52, 0x00, 1))?;
     let after = turned(rt, same)?;
-    print::session(rt, after)?;
+    print::session(rt, &after)?;
     let dropped = drop_request(after, 7);
-    let taken_out = dropped.answer;
-    print::answer(rt, taken_out, no_fields())?;
-    let left = dropped.session;
-    print::session(rt, left)?;
-    turned(rt, left)?;
+    print::answer(rt, dropped.answer, no_fields())?;
+    print::session(rt, &dropped.session)?;
+    turned(rt, dropped.session)?;
     Ok(())
 }

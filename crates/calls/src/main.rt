@@ -2,17 +2,12 @@
 // docs/MAINTAINING.md has the notation. A line that is not in it is answered `?` and changes nothing.
 #![tactic(auto)]
 
-mod asked;
-mod edits;
+mod call;
 mod escapes;
 mod feed_calls;
-mod formats;
-mod host;
 mod lending;
 mod lent_calls;
-mod lent_words;
 mod numbers;
-mod opening;
 mod output;
 mod printed;
 mod reading;

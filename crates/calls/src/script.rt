@@ -1,141 +1,133 @@
-// A line of a script, and its call.
-ghost use Rattle.std.specs.Prelude.{◌≤◌, length};
-
-use crate::asked::{Asked, add_numbers, request_of};
-use crate::feed_calls::{feed_call, is_fed};
-use crate::formats::numbers_in;
-use crate::host::{Host, new_host, with_session};
-use crate::lent_words::{is_lent, lent_call};
-use crate::opening::opening;
+// What the calls of a script are made on, and the call of a line.
+use crate::call::{Call, call_of};
+use crate::escapes::text_in;
+use crate::feed_calls::{ended, given};
+use crate::lent_calls::Lent;
 use crate::output::{KEPT, LONGEST_SLICE, unknown};
 use crate::reading::reading;
 use crate::session_calls::{added, dropped, opened, turned, turned_at_once};
-use crate::words::{Words, word, words_of};
-use scanner::words::same;
+use crate::words::Words;
+use lines::feeds::new_feed;
+use planner::open::new_session;
 use sessions::Session;
 use std::io;
+use streams::PieceFeed;
 
-fn unknown_session(rt: &impl Print, session: Session) -> io::Result<Session> {
-    unknown(rt)?;
-    Ok(session)
-}
+// The most bytes of a text: as many as a line of a script.
+const LONGEST_TEXT: usize = 4096;
 
-fn add_call(rt: &impl Print, session: Session, line: &[u8], words: Words) -> io::Result<Session> {
-    let numbers = add_numbers(line, words);
-    let at = numbers.at;
-    match request_of(line, words, numbers) {
-        Asked::For(request) => added(rt, session, at[1], request),
-        Asked::Nothing => unknown_session(rt, session),
-    }
-}
+// The byte at every place of an output before a call.
+const LENT: u8 = b'#';
 
-// A turn with the first numbers of a list.
-fn turn_in(rt: &impl Print, session: Session, list: &mut [u64], count: usize) -> io::Result<Session>
-    requires { count ≤ length list.old }
-{
-    turned(rt, session, &mut list[..count])
-}
-
-fn turn_call(rt: &impl Print, session: Session, length: u64) -> io::Result<Session> {
-    if LONGEST_SLICE < length {
-        return unknown_session(rt, session);
-    }
-    let mut list = [KEPT; 8192];
-    turn_in(rt, session, &mut list, length as usize)
-}
-
-// Turns at once with the first numbers of two lists.
-fn turns_in(
-    rt: &impl Print,
+// A session; apart from it a lent session; and a text in pieces, with a session of its own.
+#[derive(Drop)]
+pub struct Host {
     session: Session,
-    n: usize,
-    list: &mut [u64],
-    count: usize,
-    ends: &mut [u64],
-    places: usize,
-) -> io::Result<Session>
-    requires { (count ≤ length list.old) × (places ≤ length ends.old) }
-{
-    turned_at_once(rt, session, n, &mut list[..count], &mut ends[..places])
+    lent: Lent,
+    feed: PieceFeed,
 }
 
-fn turns_call(rt: &impl Print, session: Session, at: [u64; 20]) -> io::Result<Session> {
-    if LONGEST_SLICE < at[2] || LONGEST_SLICE < at[3] {
-        return unknown_session(rt, session);
-    }
-    let mut list = [KEPT; 8192];
-    let mut ends = [KEPT; 8192];
-    turns_in(
-        rt,
-        session,
-        at[1] as usize,
-        &mut list,
-        at[2] as usize,
-        &mut ends,
-        at[3] as usize,
-    )
-}
-
-// The call of a line with one number or three, or with all that open or the reader takes.
-fn session_call(
+// A call with the front of a slice, where it is as long.
+fn with_front<T, F: FnOnce(&mut [T]) -> io::Result<()> + Drop>(
     rt: &impl Print,
-    session: Session,
-    line: &[u8],
-    words: Words,
-) -> io::Result<Session> {
-    let verb = word(line, words, 0);
-    let one = numbers_in(line, words, b"vd");
-    let at = one.at;
-    if same(verb, b"drop") && one.fits {
-        return dropped(rt, session, at[1]);
+    slice: &mut [T],
+    length: usize,
+    call: F,
+) -> io::Result<()>
+    requires { F.IsAlwaysCallable call }
+{
+    match slice.get_mut(..length) {
+        Some(front) => call(front),
+        None => unknown(rt),
     }
-    if same(verb, b"turn") && one.fits {
-        return turn_call(rt, session, at[1]);
-    }
-    let three = numbers_in(line, words, b"vddd");
-    if same(verb, b"turns") && three.fits {
-        let given = three.at;
-        return turns_call(rt, session, given);
-    }
-    let numbers = numbers_in(line, words, b"vlddddc");
-    if same(verb, b"open") && numbers.fits {
-        let at = numbers.at;
-        return opened(rt, session, opening(line, words, at));
-    }
-    let values = numbers_in(line, words, b"vlddddcxxxxxxxxxxxx");
-    if same(verb, b"read") && values.fits {
-        let at = values.at;
-        reading(rt, opening(line, words, at), at)?;
-        return Ok(session);
-    }
-    if same(verb, b"add") {
-        return add_call(rt, session, line, words);
-    }
-    unknown_session(rt, session)
 }
 
-// The call of a line, of the one session or the other, or of the text in pieces.
-fn call(rt: &impl Print, host: Host, line: &[u8], words: Words) -> io::Result<Host> {
-    let verb = word(line, words, 0);
-    let alone = numbers_in(line, words, b"v");
-    if same(verb, b"new") && alone.fits {
-        return Ok(new_host());
+impl Host {
+    // Fresh sessions, no records, and no text.
+    pub fn new() -> Host {
+        Host {
+            session: new_session(),
+            lent: Lent::new(),
+            feed: new_feed(),
+        }
     }
-    if is_lent(verb) {
-        return lent_call(rt, host, line, words);
-    }
-    if is_fed(verb) {
-        return feed_call(rt, host, line, words);
-    }
-    let session = host.session;
-    Ok(with_session(host, session_call(rt, session, line, words)?))
-}
 
-// A line of the script; one without words is passed over.
-pub fn run_line(rt: &impl Print, host: Host, line: &[u8]) -> io::Result<Host> {
-    let words = words_of(line);
-    if words.count == 0 {
-        return Ok(host);
+    // Turns at once with the first numbers of two lists.
+    fn turns(&mut self, rt: &impl Print, n: usize, length: usize, places: usize) -> io::Result<()> {
+        with_front(rt, &mut [KEPT; LONGEST_SLICE], length, |list| {
+            with_front(rt, &mut [KEPT; LONGEST_SLICE], places, |ends| {
+                turned_at_once(rt, &mut self.session, n, list, ends)
+            })
+        })
     }
-    call(rt, host, line, words)
+
+    // A piece of a text, with the first bytes of an output.
+    fn piece(&mut self, rt: &impl Print, room: usize, written: &[u8]) -> io::Result<()> {
+        let mut text = [0; LONGEST_TEXT];
+        match text_in(written, &mut text) {
+            Some(text) => with_front(
+                rt,
+                &mut [LENT; LONGEST_SLICE],
+                room,
+                |out| given(rt, &mut self.feed, text, out),
+            ),
+            None => unknown(rt),
+        }
+    }
+
+    fn call(&mut self, rt: &impl Print, call: Call) -> io::Result<()> {
+        match call {
+            Call::New => {
+                *self = Host::new();
+                Ok(())
+            }
+            Call::Open(opening) => opened(rt, &mut self.session, opening),
+            Call::Add(entry) => added(rt, &mut self.session, entry),
+            Call::Drop(id) => dropped(rt, &mut self.session, id),
+            Call::Turn(length) => with_front(
+                rt,
+                &mut [KEPT; LONGEST_SLICE],
+                length,
+                |list| turned(rt, &mut self.session, list),
+            ),
+            Call::Turns { turns, list, ends } => self.turns(rt, turns, list, ends),
+            Call::Read(opening, values) => reading(rt, opening, values),
+            Call::Lend(count) => self.lent.lend(rt, count),
+            Call::Write(at, entry) => self.lent.write(rt, at, entry),
+            Call::LentOpen(opening) => self.lent.open(rt, opening),
+            Call::LentAdd(entry) => self.lent.add(rt, entry),
+            Call::LentDrop(id) => self.lent.drop_id(rt, id),
+            Call::LentTurn(length) => with_front(
+                rt,
+                &mut [KEPT; LONGEST_SLICE],
+                length,
+                |list| self.lent.turn(rt, list),
+            ),
+            Call::LentRun { turns, list } => with_front(
+                rt,
+                &mut [KEPT; LONGEST_SLICE],
+                list,
+                |list| self.lent.run(rt, turns, list),
+            ),
+            Call::Piece(room, written) => self.piece(rt, room, written),
+            Call::End(room) => with_front(
+                rt,
+                &mut [LENT; LONGEST_SLICE],
+                room,
+                |out| ended(rt, &mut self.feed, out),
+            ),
+        }
+    }
+
+    // A line of the script; one without words is passed over, and one that is not in the notation changes nothing.
+    pub fn run_line(&mut self, rt: &impl Print, line: &[u8]) -> io::Result<()> {
+        let mut words = Words(line);
+        match words.next() {
+            None => Ok(()),
+            Some(verb) => match call_of(verb, words) {
+                Some(call) => self.call(rt, call),
+                None => unknown(rt),
+            },
+        }
+    }
 }

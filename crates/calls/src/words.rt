@@ -1,94 +1,80 @@
 // The words of a line: parted by blanks; `#` starts a remark.
-ghost use Rattle.std.specs.Prelude.{◌≤◌, ◌<◌, length};
+ghost use Rattle.std.specs.Prelude.{◌≤◌, length};
+ghost use Rattle.std.specs.Iterator.{at_most};
 
-// The most words that a call has.
-pub const MOST: usize = 20;
+use crate::numbers::{decimal, hex};
+use requests::CounterSet;
 
-// Where the words of a line begin and end, and how many there are: one more than the most where there are too many.
+// What is left of a line. Its words are taken one after another.
 #[derive(Clone, Copy)]
-pub struct Words {
-    pub starts: [usize; 21],
-    pub ends: [usize; 21],
-    pub count: usize,
-}
+pub struct Words<'a>(pub &'a [u8]);
 
-// Whether a word may have the byte.
-fn in_word(byte: u8) -> bool {
-    byte != b' ' && byte != b'#'
-}
-
-// Where the blanks from a place on end.
-fn past_blanks(line: &[u8], from: usize) -> usize
-    requires { from ≤ length line.now }
-    ensures { (from ≤ result) × (result ≤ length line.now) }
+// How many bytes at the start of a text pass a test.
+fn span<F: Fn(u8) -> bool>(text: &[u8], passes: F) -> usize
+    requires { F.IsAlwaysCallable passes }
+    ensures { result ≤ length text.now }
 {
-    let mut at = from;
-    while at < line.len() {
-        if line[at] != b' ' {
-            return at;
-        }
-        at += 1;
-    }
-    at
+    text.iter()
+        .position(|byte| !passes(*byte))
+        .unwrap_or(text.len())
 }
 
-// Where the word from a place on ends.
-fn past_word(line: &[u8], from: usize) -> usize
-    requires { from ≤ length line.now }
-    ensures { (from ≤ result) × (result ≤ length line.now) }
-{
-    let mut at = from;
-    while at < line.len() {
-        if !in_word(line[at]) {
-            return at;
+impl<'a> Iterator for Words<'a> {
+    type Item = &'a [u8];
+
+    ghost remaining = { λ s. at_most (length s.0.now) };
+
+    fn next(&mut self) -> Option<&'a [u8]> {
+        let line = self.0;
+        let line = &line[span(line, |byte| byte == b' ')..];
+        let end = span(line, |byte| byte != b' ' && byte != b'#');
+        if end == 0 {
+            return None;
         }
-        at += 1;
+        self.0 = &line[end..];
+        Some(&line[..end])
     }
-    at
 }
 
-// The words of a line.
-pub fn words_of(line: &[u8]) -> Words {
-    let mut words = Words {
-        starts: [0; 21],
-        ends: [0; 21],
-        count: 0,
-    };
-    let mut at = 0;
-    let mut count = 0;
-    while count < 21 {
-        let start = past_blanks(line, at);
-        let end = past_word(line, start);
-        if start == end {
-            words.count = count;
-            return words;
-        }
-        words.starts[count] = start;
-        words.ends[count] = end;
-        at = end;
-        count += 1;
+// The next word, where it is what a call has there.
+impl Words<'_> {
+    pub fn decimal(&mut self) -> Option<u64> {
+        decimal(self.next()?)
     }
-    words.count = count;
-    words
-}
 
-// A word of the line; none is empty.
-pub fn word<'a>(line: &'a [u8], words: Words, k: usize) -> &'a [u8] {
-    if k < 21 {
-        let start = words.starts[k];
-        let end = words.ends[k];
-        if start <= end && end <= line.len() {
-            return &line[start..end];
+    pub fn hex(&mut self) -> Option<u64> {
+        hex(self.next()?)
+    }
+
+    pub fn length(&mut self) -> Option<usize> {
+        usize::try_from(self.decimal()?).ok()
+    }
+
+    pub fn set(&mut self) -> Option<CounterSet> {
+        Some(CounterSet(self.decimal()?))
+    }
+
+    // The code of a letter.
+    pub fn letter(&mut self) -> Option<u64> {
+        match self.next()? {
+            [letter] => Some(u64::from(*letter)),
+            _ => None,
         }
     }
-    &line[..0]
-}
 
-// The line after its first word.
-pub fn past_first<'a>(line: &'a [u8], words: Words) -> &'a [u8] {
-    let end = words.ends[0];
-    if end <= line.len() {
-        return &line[end..];
+    // A core by its number, or `-` for none.
+    pub fn core(&mut self) -> Option<Option<u64>> {
+        match self.next()? {
+            b"-" => Some(None),
+            number => Some(Some(decimal(number)?)),
+        }
     }
-    &line[..0]
+
+    // No word more.
+    pub fn end(&mut self) -> Option<()> {
+        match self.next() {
+            None => Some(()),
+            Some(_) => None,
+        }
+    }
 }

@@ -3,17 +3,17 @@ use checks::askings::unasked;
 use checks::check::request_refusal;
 use checks::devices::all_counters;
 use checks::refusals::number_of;
-use requests::{Answer, CounterSet, Device, Request, Setup};
-use std::num::wrapping_add_u64;
+use requests::{CounterSet, Device, Request, Setup};
+use std::fmt;
 
 // How many events are accepted, and how many are refused with 8, 9 and 10. In the sum each number moves those before it by a factor.
-#[derive(Clone, Copy)]
+#[derive(Clone, Copy, Default)]
 pub struct Tally {
-    pub accepted: u64,
-    pub unlisted: u64,
-    pub incomplete: u64,
-    pub range: u64,
-    pub sum: u64,
+    accepted: u64,
+    unlisted: u64,
+    incomplete: u64,
+    range: u64,
+    sum: u64,
 }
 
 // The sum is a number below this prime.
@@ -24,65 +24,53 @@ const FACTOR: u64 = 31;
 // The number that refuses an event on counter 0, or 0.
 fn number(setup: Setup, code: u8, mask: u8) -> u64 {
     let event = Request::Event {
-        code: code,
-        mask: mask,
+        code,
+        mask,
         allowed: CounterSet(1),
     };
     match request_refusal(setup, event) {
-        Answer::Accepted => 0,
-        Answer::Refused(refusal) => number_of(refusal),
+        Ok(()) => 0,
+        Err(refusal) => number_of(refusal),
     }
 }
 
-// One more, where it counts.
-fn more(count: u64, counts: bool) -> u64 {
-    if counts {
-        return wrapping_add_u64(count, 1);
+impl Tally {
+    // Counts an event with the number that refuses it.
+    fn count(&mut self, number: u64) {
+        match number {
+            0 => self.accepted = self.accepted.wrapping_add(1),
+            8 => self.unlisted = self.unlisted.wrapping_add(1),
+            9 => self.incomplete = self.incomplete.wrapping_add(1),
+            10 => self.range = self.range.wrapping_add(1),
+            _ => {}
+        }
+        self.sum = (self.sum % PRIME * FACTOR + number % PRIME) % PRIME;
     }
-    count
+
+    // The tally of a device, all of whose counters are usable.
+    pub fn of(device: Device) -> Tally {
+        let setup = Setup {
+            device,
+            usable: all_counters(device),
+            fixed: 0,
+            overflow: unasked(),
+        };
+        let mut tally = Tally::default();
+        for code in 0..=u8::MAX {
+            for mask in 0..=u8::MAX {
+                tally.count(number(setup, code, mask));
+            }
+        }
+        tally
+    }
 }
 
-// A tally with one more number.
-fn with_number(t: Tally, n: u64) -> Tally {
-    Tally {
-        accepted: more(t.accepted, n == 0),
-        unlisted: more(t.unlisted, n == 8),
-        incomplete: more(t.incomplete, n == 9),
-        range: more(t.range, n == 10),
-        sum: (t.sum % PRIME * FACTOR + n % PRIME) % PRIME,
+impl fmt::Display for Tally {
+    fn fmt<W: fmt::Write>(&self, f: &mut fmt::Formatter<W>) -> fmt::Result {
+        write!(
+            f,
+            "accepted {} unlisted {} incomplete {} range {} sum {}",
+            self.accepted, self.unlisted, self.incomplete, self.range, self.sum
+        )
     }
-}
-
-// A tally with the events of one code.
-fn with_code(setup: Setup, code: u8, t: Tally) -> Tally {
-    let mut all = t;
-    let mut mask: u64 = 0;
-    while mask < 256 {
-        all = with_number(all, number(setup, code, mask as u8));
-        mask += 1;
-    }
-    all
-}
-
-// The tally of a device, all of whose counters are usable.
-pub fn tally_of(device: Device) -> Tally {
-    let setup = Setup {
-        device: device,
-        usable: all_counters(device),
-        fixed: 0,
-        overflow: unasked(),
-    };
-    let mut all = Tally {
-        accepted: 0,
-        unlisted: 0,
-        incomplete: 0,
-        range: 0,
-        sum: 0,
-    };
-    let mut code: u64 = 0;
-    while code < 256 {
-        all = with_code(setup, code as u8, all);
-        code += 1;
-    }
-    all
 }

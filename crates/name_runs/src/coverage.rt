@@ -1,89 +1,56 @@
 // What the rows of a list name of the catalogue of a device.
 use crate::events::is_accepted;
-use crate::print;
 use crate::rows::is_named;
 use requests::Setup;
-use std::io;
-use std::num::wrapping_add_u64;
+use std::{fmt, io};
 
 // How many codes are accepted with some mask, and how many of these no row names; how many pairs of code and mask are accepted, and how many
 // of these some row names.
-#[derive(Clone, Copy)]
+#[derive(Clone, Copy, Default)]
 pub struct Coverage {
-    pub codes: u64,
-    pub unnamed: u64,
-    pub pairs: u64,
-    pub named: u64,
+    codes: u64,
+    unnamed: u64,
+    pairs: u64,
+    named: u64,
 }
 
-// One more, where it counts.
-fn more(count: u64, counts: bool) -> u64 {
-    if counts {
-        return wrapping_add_u64(count, 1);
+impl Coverage {
+    // What the rows name of the catalogue of the setup's device. A code that no row names is shown.
+    pub fn of(rt: &impl Print, list: &[u8], setup: Setup) -> io::Result<Coverage> {
+        let mut all = Coverage::default();
+        for code in 0..=u8::MAX {
+            let before = all;
+            all.add_pairs(list, setup, code);
+            if all.pairs != before.pairs {
+                all.codes = all.codes.saturating_add(1);
+                if all.named == before.named {
+                    all.unnamed = all.unnamed.saturating_add(1);
+                    println!(rt; "unnamed: {code:02x}")?;
+                }
+            }
+        }
+        Ok(all)
     }
-    count
+
+    // Counts the pairs of a code.
+    fn add_pairs(&mut self, list: &[u8], setup: Setup, code: u8) {
+        for mask in 0..=u8::MAX {
+            if is_accepted(setup, code, mask) {
+                self.pairs = self.pairs.saturating_add(1);
+                if is_named(list, setup.device, code, mask) {
+                    self.named = self.named.saturating_add(1);
+                }
+            }
+        }
+    }
 }
 
-// With one more pair, if it is accepted.
-fn with_pair(all: Coverage, list: &[u8], setup: Setup, code: u8, mask: u8) -> Coverage {
-    if is_accepted(setup, code, mask) {
-        let device = setup.device;
-        return Coverage {
-            codes: all.codes,
-            unnamed: all.unnamed,
-            pairs: wrapping_add_u64(all.pairs, 1),
-            named: more(all.named, is_named(list, device, code, mask)),
-        };
+impl fmt::Display for Coverage {
+    fn fmt<W: fmt::Write>(&self, f: &mut fmt::Formatter<W>) -> fmt::Result {
+        write!(
+            f,
+            "codes {} unnamed {} pairs {} named {}",
+            self.codes, self.unnamed, self.pairs, self.named
+        )
     }
-    all
-}
-
-// With the pairs of a code.
-fn with_pairs(start: Coverage, list: &[u8], setup: Setup, code: u8) -> Coverage {
-    let mut all = start;
-    let mut mask: u64 = 0;
-    while mask < 256 {
-        all = with_pair(all, list, setup, code, mask as u8);
-        mask += 1;
-    }
-    all
-}
-
-// With a code, which is shown where no row names it.
-fn with_code(
-    rt: &impl Print,
-    start: Coverage,
-    list: &[u8],
-    setup: Setup,
-    code: u8,
-) -> io::Result<Coverage> {
-    let all = with_pairs(start, list, setup, code);
-    if all.pairs == start.pairs {
-        return Ok(all);
-    }
-    if all.named == start.named {
-        print::unnamed(rt, code)?;
-    }
-    Ok(Coverage {
-        codes: wrapping_add_u64(all.codes, 1),
-        unnamed: more(all.unnamed, all.named == start.named),
-        pairs: all.pairs,
-        named: all.named,
-    })
-}
-
-// What the rows name of the catalogue of the setup's device.
-pub fn coverage_of(rt: &impl Print, list: &[u8], setup: Setup) -> io::Result<Coverage> {
-    let mut all = Coverage {
-        codes: 0,
-        unnamed: 0,
-        pairs: 0,
-        named: 0,
-    };
-    let mut code: u64 = 0;
-    while code < 256 {
-        all = with_code(rt, all, list, setup, code as u8)?;
-        code += 1;
-    }
-    Ok(all)
 }

@@ -2,11 +2,11 @@
 use checks::askings::unasked;
 use checks::check::request_refusal;
 use checks::devices::all_counters;
-use requests::{Answer, CounterSet, Device, Request, Setup};
+use requests::{CounterSet, Device, Request, Setup};
 
 pub fn all_usable(device: Device) -> Setup {
     Setup {
-        device: device,
+        device,
         usable: all_counters(device),
         fixed: 0,
         overflow: unasked(),
@@ -16,12 +16,9 @@ pub fn all_usable(device: Device) -> Setup {
 // Whether the event is accepted on counter 0.
 pub fn is_accepted(setup: Setup, code: u8, mask: u8) -> bool {
     let event = Request::Event {
-        code: code,
-        mask: mask,
+        code,
+        mask,
         allowed: CounterSet(1),
     };
-    match request_refusal(setup, event) {
-        Answer::Accepted => true,
-        Answer::Refused(_) => false,
-    }
+    request_refusal(setup, event).is_ok()
 }

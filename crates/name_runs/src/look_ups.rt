@@ -6,38 +6,39 @@ use sessions::Session;
 use std::io;
 
 // A name, and the row that it finds.
-fn show<'a>(rt: &impl Print, name: &[u8], site: &'a [u8], house: &'a [u8]) -> io::Result<()> {
-    prints::text(rt, name)?;
-    prints::text(rt, b": ")?;
-    prints::text(rt, look_up(name, site, house))?;
-    prints::text(rt, b"\n")
+fn show(rt: &impl Print, name: &str, site: &[u8], house: &[u8]) -> io::Result<()> {
+    print!(rt; "{name}: ")?;
+    rt.write_all(look_up(name.as_bytes(), site, house).unwrap_or_default())?;
+    println!(rt)
 }
 
 // Answers a line, and gives the session afterwards.
-fn answer<'a>(
+fn answer(
     rt: &impl Print,
     session: Session,
     line: &[u8],
-    site: &'a [u8],
-    house: &'a [u8],
+    site: &[u8],
+    house: &[u8],
 ) -> io::Result<Session> {
     let reply = answer_line(session, line, site, house);
     let text = reply.text;
-    let n = reply.length;
-    prints::text(rt, &text[..n])?;
+    rt.write_all(&text[..reply.length])?;
     Ok(reply.session)
 }
 
 // A name of both lists, one of each, the beginning of one, and none.
-pub fn look_up_each<'a>(rt: &impl Print, site: &'a [u8], house: &'a [u8]) -> io::Result<()> {
-    show(rt, b"BOTH", site, house)?;
-    show(rt, b"SITE", site, house)?;
-    show(rt, b"HOUSE", site, house)?;
-    show(rt, b"HOUS", site, house)?;
-    show(rt, b"", site, house)?;
-    let opened = answer(rt, new_session(), b"open\tG\t15\t0\t0\t-\n", site, house)?;
-    let first = answer(rt, opened, b"named\t1\tBOTH\t15\n", site, house)?;
-    let second = answer(rt, first, b"named\t2\tHOUSE\t15\n", site, house)?;
-    answer(rt, second, b"turn\n", site, house)?;
+pub fn look_up_each(rt: &impl Print, site: &[u8], house: &[u8]) -> io::Result<()> {
+    for name in ["BOTH", "SITE", "HOUSE", "HOUS", ""] {
+        show(rt, name, site, house)?;
+    }
+    let mut session = new_session();
+    for line in [
+        "open\tG\t15\t0\t0\t-\n",
+        "named\t1\tBOTH\t15\n",
+        "named\t2\tHOUSE\t15\n",
+        "turn\n",
+    ] {
+        session = answer(rt, session, line.as_bytes(), site, house)?;
+    }
     Ok(())
 }

@@ -6,13 +6,14 @@
 mod coverage;
 mod events;
 mod look_ups;
-mod print;
 mod rows;
 mod transcripts;
 
+use crate::coverage::Coverage;
+use crate::events::all_usable;
 use crate::look_ups::look_up_each;
+use crate::rows::Rows;
 use crate::transcripts::answer_named;
-use descriptors::FileRead;
 use descriptors::file::read_file;
 use descriptors::told::Tell;
 use names::lists::list_formed;
@@ -23,32 +24,33 @@ use std::rt::{Clock, Files};
 // The room for a list of names.
 const LIST_ROOM: usize = 65536;
 
-// The device's letter, its rows and what they name of its catalogue.
-fn line(rt: &impl Print, list: &[u8], letter: &[u8], device: Device) -> io::Result<()> {
-    let setup = events::all_usable(device);
-    let rows = rows::rows_on(rt, list, setup)?;
-    let coverage = coverage::coverage_of(rt, list, setup)?;
-    prints::text(rt, letter)?;
-    print::rows(rt, rows)?;
-    print::coverage(rt, coverage)
-}
-
+// Whether the list is formed; and of each device its letter, its rows and what they name of its catalogue.
 fn report(rt: &impl Print, list: &[u8]) -> io::Result<()> {
-    if list_formed(list) {
-        prints::text(rt, b"formed\n")?;
+    let formed = if list_formed(list) {
+        "formed"
     } else {
-        prints::text(rt, b"ill-formed\n")?;
+        "ill-formed"
+    };
+    println!(rt; "{formed}")?;
+    let devices = [
+        ("G", Device::G),
+        ("S", Device::S),
+        ("C", Device::C(0)),
+        ("B", Device::B),
+    ];
+    for (letter, device) in devices {
+        let setup = all_usable(device);
+        let rows = Rows::of(rt, list, setup)?;
+        let coverage = Coverage::of(rt, list, setup)?;
+        println!(rt; "{letter} {rows} {coverage}")?;
     }
-    line(rt, list, b"G", Device::G)?;
-    line(rt, list, b"S", Device::S)?;
-    line(rt, list, b"C", Device::C(0))?;
-    line(rt, list, b"B", Device::B)
+    Ok(())
 }
 
 // Holds the list of a file to the catalogues.
 fn hold<H: Files + Clock + Tell + Print>(rt: &H, path: &[u8]) -> io::Result<()> {
     let mut room = [0u8; LIST_ROOM];
-    let FileRead::Bytes(n) = read_file(rt, path, &mut room) else {
+    let Ok(n) = read_file(rt, path, &mut room) else {
         return Ok(());
     };
     report(rt, &room[..n])
@@ -56,40 +58,23 @@ fn hold<H: Files + Clock + Tell + Print>(rt: &H, path: &[u8]) -> io::Result<()> 
 
 fn main(rt: HostRuntime) -> io::Result<()> {
     hold(&rt, b"house.txt")?;
-    look_up_each(
-        &rt,
-        b"BOTH\tG\t3C\t00\nSITE\tG\tC0\t00\n",
-        b"BOTH\tG\tC4\t00\nHOUSE\tG\tC5\t00\n",
-    )?;
-    look_up_each(
-        &rt,
-        b"BOTH\tG\tC4\t00\nHOUSE\tG\tC5\t00\n",
-        b"BOTH\tG\t3C\t00\nSITE\tG\tC0\t00\n",
-    )?;
-    look_up_each(
-        &rt,
-        b"BOTH\tG\t3C\t00\nSITE\tG\tC0\t00\n",
-        b"BOTH\tG\tC4\t00\nHOUSE\tG\tC5\t00",
-    )?;
+    let one = b"BOTH\tG\t3C\t00\nSITE\tG\tC0\t00\n";
+    let other = b"BOTH\tG\tC4\t00\nHOUSE\tG\tC5\t00\n";
+    let damaged = b"BOTH\tG\tC4\t00\nHOUSE\tG\tC5\t00";
+    look_up_each(&rt, one, other)?;
+    look_up_each(&rt, other, one)?;
+    look_up_each(&rt, one, damaged)?;
     let mut output = rt.stdout();
-    answer_named(
-        &rt,
-        &mut output,
-        "technician.txt",
-        b"technician.site",
-        b"house.txt",
-    );
-    answer_named(&rt, &mut output, "g.txt", b"no_site.txt", b"house.txt");
-    answer_named(&rt, &mut output, "s.txt", b"no_site.txt", b"house.txt");
-    answer_named(&rt, &mut output, "c.txt", b"no_site.txt", b"house.txt");
-    answer_named(&rt, &mut output, "b.txt", b"no_site.txt", b"house.txt");
-    answer_named(&rt, &mut output, "names.txt", b"names.site", b"names.house");
-    answer_named(
-        &rt,
-        &mut output,
-        "damaged.txt",
-        b"damaged.site",
-        b"damaged.house",
-    );
+    for (path, site, house) in [
+        ("technician.txt", "technician.site", "house.txt"),
+        ("g.txt", "no_site.txt", "house.txt"),
+        ("s.txt", "no_site.txt", "house.txt"),
+        ("c.txt", "no_site.txt", "house.txt"),
+        ("b.txt", "no_site.txt", "house.txt"),
+        ("names.txt", "names.site", "names.house"),
+        ("damaged.txt", "damaged.site", "damaged.house"),
+    ] {
+        answer_named(&rt, &mut output, path, site, house);
+    }
     Ok(())
 }

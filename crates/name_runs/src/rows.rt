@@ -1,139 +1,84 @@
 // The rows of a device.
-ghost use Rattle.std.specs.Prelude.{◌≤◌, length};
-
 use crate::events::is_accepted;
-use crate::print;
 use checks::devices::letter_of;
-use names::RowRead;
-use names::lists::row_end;
 use names::look_up::look_up;
 use names::rows::row_of;
 use requests::{Device, Setup};
-use std::io;
-use std::num::wrapping_add_u64;
+use std::{fmt, io};
 
 // How many rows a device has, how many of them the planner refuses, and how many have a name that stands above them in the list.
-#[derive(Clone, Copy)]
+#[derive(Clone, Copy, Default)]
 pub struct Rows {
-    pub count: u64,
-    pub refused: u64,
-    pub again: u64,
-}
-
-// Where the name of a row ends: at its first tab, or at the end of the row.
-fn name_end(row: &[u8]) -> usize
-    ensures { result ≤ length row.now }
-{
-    let mut end = 0;
-    while end < row.len() {
-        if row[end] == b'\t' {
-            return end;
-        }
-        end += 1;
-    }
-    end
+    count: u64,
+    refused: u64,
+    again: u64,
 }
 
 // Whether a row above has the name of this one.
 fn is_again(above: &[u8], row: &[u8]) -> bool {
-    let end = name_end(row);
-    let found = look_up(&row[..end], above, &above[..0]);
-    0 < found.len()
+    let name = row.split(|byte| *byte == b'\t').next().unwrap_or(row);
+    look_up(name, above, b"").is_some()
 }
 
-// One more, where it counts; then the row is shown.
-fn more(rt: &impl Print, count: u64, counts: bool, row: &[u8], why: &[u8]) -> io::Result<u64> {
-    if counts {
-        print::offender(rt, row, why)?;
-        return Ok(wrapping_add_u64(count, 1));
-    }
-    Ok(count)
+// Shows a row that should not be there.
+fn show(rt: &impl Print, row: &[u8], why: &str) -> io::Result<()> {
+    print!(rt; "{why}: ")?;
+    rt.write_all(row)?;
+    println!(rt)
 }
 
-// The rows with one more, for the device.
-fn with_row(
-    rt: &impl Print,
-    rows: Rows,
-    above: &[u8],
-    row: &[u8],
-    accepted: bool,
-) -> io::Result<Rows> {
-    Ok(Rows {
-        count: wrapping_add_u64(rows.count, 1),
-        refused: more(rt, rows.refused, !accepted, row, b"refused")?,
-        again: more(rt, rows.again, is_again(above, row), row, b"again")?,
-    })
-}
-
-// The rows with one more, if it is for the device.
-fn with_text(
-    rt: &impl Print,
-    rows: Rows,
-    above: &[u8],
-    row: &[u8],
-    setup: Setup,
-) -> io::Result<Rows> {
-    match row_of(row) {
-        RowRead::Formed(said) => {
-            let on = said.device;
-            let device = setup.device;
-            if letter_of(on) == letter_of(device) {
-                return with_row(
-                    rt,
-                    rows,
-                    above,
-                    row,
-                    is_accepted(setup, said.code, said.mask),
-                );
-            }
-            Ok(rows)
+impl Rows {
+    // Counts one more row. It is shown where it should not be there.
+    fn add(&mut self, rt: &impl Print, above: &[u8], row: &[u8], accepted: bool) -> io::Result<()> {
+        self.count = self.count.saturating_add(1);
+        if !accepted {
+            self.refused = self.refused.saturating_add(1);
+            show(rt, row, "refused")?;
         }
-        RowRead::Bad => Ok(rows),
+        if is_again(above, row) {
+            self.again = self.again.saturating_add(1);
+            show(rt, row, "again")?;
+        }
+        Ok(())
+    }
+
+    // The rows of the setup's device.
+    pub fn of(rt: &impl Print, list: &[u8], setup: Setup) -> io::Result<Rows> {
+        let mut rows = Rows::default();
+        let mut at: usize = 0;
+        for line in list.split_inclusive(|byte| *byte == b'\n') {
+            let row = line.strip_suffix(b"\n").unwrap_or(line);
+            if let Some(said) = row_of(row) {
+                if letter_of(said.device) == letter_of(setup.device) {
+                    let above = list.get(..at).unwrap_or(list);
+                    rows.add(rt, above, row, is_accepted(setup, said.code, said.mask))?;
+                }
+            }
+            at = at.saturating_add(line.len());
+        }
+        Ok(rows)
     }
 }
 
-// The rows of the setup's device.
-pub fn rows_on(rt: &impl Print, list: &[u8], setup: Setup) -> io::Result<Rows> {
-    let mut rows = Rows {
-        count: 0,
-        refused: 0,
-        again: 0,
-    };
-    let mut at = 0;
-    while at < list.len() {
-        let end = row_end(list, at);
-        rows = with_text(rt, rows, &list[..at], &list[at..end], setup)?;
-        at = end + 1;
+impl fmt::Display for Rows {
+    fn fmt<W: fmt::Write>(&self, f: &mut fmt::Formatter<W>) -> fmt::Result {
+        write!(
+            f,
+            "rows {} refused {} again {}",
+            self.count, self.refused, self.again
+        )
     }
-    Ok(rows)
 }
 
 // Whether a row has the event.
 fn is_row_of(row: &[u8], device: Device, code: u8, mask: u8) -> bool {
-    match row_of(row) {
-        RowRead::Formed(said) => {
-            let on = said.device;
-            if letter_of(on) != letter_of(device) {
-                return false;
-            }
-            if said.code != code {
-                return false;
-            }
-            said.mask == mask
-        }
-        RowRead::Bad => false,
-    }
+    row_of(row).is_some_and(|said| {
+        letter_of(said.device) == letter_of(device) && said.code == code && said.mask == mask
+    })
 }
 
 // Whether some row of the list has the event.
 pub fn is_named(list: &[u8], device: Device, code: u8, mask: u8) -> bool {
-    let mut at = 0;
-    while at < list.len() {
-        let end = row_end(list, at);
-        if is_row_of(&list[at..end], device, code, mask) {
-            return true;
-        }
-        at = end + 1;
-    }
-    false
+    list.split(|byte| *byte == b'\n')
+        .any(|row| is_row_of(row, device, code, mask))
 }

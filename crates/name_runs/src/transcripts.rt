@@ -10,8 +10,8 @@ pub fn answer_named<H: Files + Clock + Tell, W: Write>(
     rt: &H,
     output: &mut W,
     path: &str,
-    site: &[u8],
-    house: &[u8],
+    site: &str,
+    house: &str,
 ) {
     let mut input = match fs::open(rt, path) {
         Ok(input) => input,
@@ -22,5 +22,13 @@ pub fn answer_named<H: Files + Clock + Tell, W: Write>(
     };
     let mut block = [0u8; 61];
     let mut out = [0u8; 2100];
-    relay::answer_with_files(rt, &mut input, output, site, house, &mut block, &mut out);
+    relay::answer_with_files(
+        rt,
+        &mut input,
+        output,
+        site.as_bytes(),
+        house.as_bytes(),
+        &mut block,
+        &mut out,
+    );
 }

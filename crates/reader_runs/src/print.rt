@@ -1,129 +1,78 @@
 // Prints what a reading tells, a line for each counter.
+use crate::changes::Run;
 use checks::devices::counter_count;
-use layouts::{CounterState, FilterRead, Reading};
-use prints::{decimal, hex, text};
-use requests::{Core, Device, Overflow, Setup};
+use layouts::{CounterState, FilterRead};
+use requests::{Device, Overflow, Setup};
 use std::io;
 
-// A blank and a number in hexadecimal, with at least `width` digits.
-fn hex_field(rt: &impl Print, n: u64, width: usize) -> io::Result<()> {
-    text(rt, b" ")?;
-    hex(rt, n, width)
-}
-
-fn device(rt: &impl Print, d: Device) -> io::Result<()> {
-    match d {
-        Device::G => text(rt, b"G"),
-        Device::S => text(rt, b"S"),
-        Device::C(_) => text(rt, b"C"),
-        Device::B => text(rt, b"B"),
-    }
-}
-
-// The box, where the device has several.
-fn cbox(rt: &impl Print, d: Device) -> io::Result<()> {
-    match d {
-        Device::G => Ok(()),
-        Device::S => Ok(()),
-        Device::C(number) => {
-            text(rt, b" box ")?;
-            decimal(rt, number)
-        }
-        Device::B => Ok(()),
-    }
-}
-
-// The core that an overflow interrupts.
-fn core(rt: &impl Print, c: Core) -> io::Result<()> {
-    match c {
-        Core::NoCore => Ok(()),
-        Core::At(number) => {
-            text(rt, b" core ")?;
-            decimal(rt, number)
-        }
+fn letter(device: Device) -> &'static str {
+    match device {
+        Device::G => "G",
+        Device::S => "S",
+        Device::C(_) => "C",
+        Device::B => "B",
     }
 }
 
 // What an overflow does.
-fn overflow(rt: &impl Print, o: Overflow) -> io::Result<()> {
-    let interrupted = o.core;
-    if o.freeze != 0 {
-        text(rt, b" freeze ")?;
-        decimal(rt, o.freeze)?;
+fn overflow(rt: &impl Print, asked: Overflow) -> io::Result<()> {
+    if asked.freeze != 0 {
+        print!(rt; " freeze {}", asked.freeze)?;
     }
-    core(rt, interrupted)
+    if let Some(number) = asked.core {
+        print!(rt; " core {number}")?;
+    }
+    Ok(())
 }
 
-// What a plan is for; fixed counters are told where they are on.
-pub fn setup(rt: &impl Print, s: Setup) -> io::Result<()> {
-    let on = s.device;
-    let usable = s.usable;
-    let asked = s.overflow;
-    device(rt, on)?;
-    text(rt, b" ")?;
-    decimal(rt, usable.0)?;
-    if s.fixed != 0 {
-        text(rt, b" fixed ")?;
-        decimal(rt, s.fixed)?;
+// What a plan is for. Fixed counters are told where they are on, and the box where the device has several.
+pub fn setup(rt: &impl Print, setup: Setup) -> io::Result<()> {
+    print!(rt; "{} {}", letter(setup.device), setup.usable.0)?;
+    if setup.fixed != 0 {
+        print!(rt; " fixed {}", setup.fixed)?;
     }
-    cbox(rt, on)?;
-    overflow(rt, asked)
+    if let Device::C(number) = setup.device {
+        print!(rt; " box {number}")?;
+    }
+    overflow(rt, setup.overflow)
 }
 
 // The filter register and its words.
-fn filter(rt: &impl Print, f: FilterRead) -> io::Result<()> {
-    match f {
+fn filter(rt: &impl Print, filter: FilterRead) -> io::Result<()> {
+    match filter {
         FilterRead::NoFilter => Ok(()),
-        FilterRead::Rsp(register, word) => {
-            text(rt, b" rsp ")?;
-            decimal(rt, register)?;
-            hex_field(rt, word, 16)
-        }
+        FilterRead::Rsp(register, word) => print!(rt; " rsp {register} {word:016x}"),
         FilterRead::MatchMask(match_word, mask_word) => {
-            hex_field(rt, match_word, 16)?;
-            hex_field(rt, mask_word, 16)
+            print!(rt; " {match_word:016x} {mask_word:016x}")
         }
     }
 }
 
 // What a counter does.
-fn state(rt: &impl Print, s: CounterState) -> io::Result<()> {
-    match s {
-        CounterState::NotOurs => text(rt, b" not ours"),
-        CounterState::Off => text(rt, b" off"),
+fn state(rt: &impl Print, state: CounterState) -> io::Result<()> {
+    match state {
+        CounterState::NotOurs => print!(rt; " not ours"),
+        CounterState::Off => print!(rt; " off"),
         CounterState::Counts {
             code,
             mask,
             filter: words,
         } => {
-            text(rt, b" counts")?;
-            hex_field(rt, code as u64, 2)?;
-            hex_field(rt, mask as u64, 2)?;
+            print!(rt; " counts {code:02x} {mask:02x}")?;
             filter(rt, words)
         }
     }
 }
 
-// A line for a counter.
-fn counter(rt: &impl Print, k: u64, told: CounterState) -> io::Result<()> {
-    decimal(rt, k)?;
-    state(rt, told)?;
-    text(rt, b"\n")
-}
-
 // The counters of the device.
-pub fn counters(rt: &impl Print, s: Setup, reading: Reading) -> io::Result<()> {
-    let device = s.device;
-    let count = counter_count(device);
-    let mut k: usize = 0;
-    while k < 8 {
-        if (k as u64) < count {
-            let told = reading.counters[k];
-            let does = told.state;
-            counter(rt, k as u64, does)?;
+pub fn counters(rt: &impl Print, run: &Run) -> io::Result<()> {
+    let count = counter_count(run.setup.device);
+    if let Ok(states) = run.told {
+        for (k, told) in (0..count).zip(&states) {
+            print!(rt; "{k}")?;
+            state(rt, *told)?;
+            println!(rt)?;
         }
-        k += 1;
     }
-
     Ok(())
 }
