@@ -4,7 +4,7 @@
 --     line-of          a call among those of lines that is no add, and its line
 --     calls-fit        their calls are ones that lines make
 --     askable-after    each request that lines leave waiting is one that a line can add
-use Rattle.std.specs.Prelude.{Option, None, Some, Err}
+use Rattle.std.specs.Prelude.{Option, None, Some, Ok, Err}
 use mathlib.Core.Path.{◌≡◌, refl, ap, sym, subst, ◌∙◌}
 use mathlib.Core.Bool.{false}
 use mathlib.Core.List.{List, [], ◌∷◌, ◌++◌, append_assoc}
@@ -38,8 +38,8 @@ use Rattle.sessions.proofs.Removed.{all_removed}
 use Rattle.grammar.specs.Records.{record_text, AddFits, Fits}
 use Rattle.grammar.specs.declared.Record.{Record}
 use Rattle.grammar.specs.declared.Record.TheVariants.{Open, Add, Drop, Turn}
-use Rattle.grammar.specs.declared.Parsed.{Parsed}
-use Rattle.grammar.specs.declared.Parsed.TheVariants.{Line, Named, Fault}
+use Rattle.grammar.specs.Parsed.{Parsed}
+use Rattle.grammar.specs.declared.Line.{Line}
 use Rattle.names.specs.Lists.{NameLists}
 use Rattle.names.specs.Named.{named_field}
 use Rattle.parser.specs.ParseWith.{parse_line_with}
@@ -54,16 +54,16 @@ use Rattle.answers.proofs.LinesAreCalls.{lines_are_calls}
 -- the call of a line leaves the session of its reply
 line_session : (s : Session) (p : Parsed) (cs : List Call) → session_after s (calls_in p ++ cs) ≡ session_after (parsed_reply s p).session cs
 unfolding calls_in parsed_reply session_after
-line_session s (Line r) cs = ap (λ (x : Session). session_after x cs) (sym (lines_are_calls.session s r))
-line_session s (Named id r) cs = ap (λ (x : Session). session_after x cs) (sym (lines_are_calls.named_session s id r))
-line_session s (Fault k) cs = refl
+line_session s (Ok (Line.Record r)) cs = ap (λ (x : Session). session_after x cs) (sym (lines_are_calls.session s r))
+line_session s (Ok (Line.Named id r)) cs = ap (λ (x : Session). session_after x cs) (sym (lines_are_calls.named_session s id r))
+line_session s (Err k) cs = refl
 
 -- which stands for the plain queue after it
 line_stands : (s : Session) (p : Parsed) → plain_of (parsed_reply s p).session ≡ run queue_limit (plain_of s) (calls_in p)
 unfolding calls_in parsed_reply run
-line_stands s (Line r) = ap plain_of (lines_are_calls.session s r) ∙ next_is s (call_of r)
-line_stands s (Named id r) = ap plain_of (lines_are_calls.named_session s id r) ∙ next_is s (calls.Add id r)
-line_stands s (Fault k) = refl
+line_stands s (Ok (Line.Record r)) = ap plain_of (lines_are_calls.session s r) ∙ next_is s (call_of r)
+line_stands s (Ok (Line.Named id r)) = ap plain_of (lines_are_calls.named_session s id r) ∙ next_is s (calls.Add id r)
+line_stands s (Err k) = refl
 
 -- before open an add is refused with 2, whatever it asks for
 add_closed_reply : (s : Session) (id : ℕ) (r : Request) → plain_of s ≡ not_open_lem → named_reply s id r ≡ reply_at (record { answer = Err CallOrder; session = s }) 0
@@ -160,23 +160,23 @@ line_of n p (line ∷ lines) before c after other e =
   where
     go : (x : Parsed) → parse_line_with n (device_at p) line ≡ x → (xs : List Call) → calls_in x ++ calls_from_lem n (run queue_limit p (calls_in x)) lines ≡ xs ++ c ∷ after
         → ((q : Plain) (xs ys : List Call) → calls_from_lem n q lines ≡ xs ++ c ∷ ys → LineOf n q lines xs c) → LineOf n p (line ∷ lines) xs c
-    go (Fault k) q xs h below = more_lines n p line lines xs [] c (rw q) (below p xs after h)
-    go (Line r) q [] h below =
+    go (Err k) q xs h below = more_lines n p line lines xs [] c (rw q) (below p xs after h)
+    go (Ok (Line.Record r)) q [] h below =
         let same : call_of r ∷ calls_from_lem n (run queue_limit p (call_of r ∷ [])) lines ≡ c ∷ after = h in
         let is : call_of r ≡ c = cc in
         let (fits, text) = parsed_lines.only n (device_at p) line r q in
         record { since = []; asked = r; rest = lines; split = ap (λ (x : List ℕ). x ∷ lines) text; made = refl; is = is; fits_fields = fits }
     -- a request by name makes an add
-    go (Named id r) q [] h below =
+    go (Ok (Line.Named id r)) q [] h below =
         let same : calls.Add id r ∷ calls_from_lem n (run queue_limit p (calls.Add id r ∷ [])) lines ≡ c ∷ after = h in
         let is : calls.Add id r ≡ c = cc in
         absurd (subst NotAdd (sym is) other)
-    go (Named id r) q (x ∷ xs) h below =
+    go (Ok (Line.Named id r)) q (x ∷ xs) h below =
         let same : calls.Add id r ∷ calls_from_lem n (run queue_limit p (calls.Add id r ∷ [])) lines ≡ x ∷ (xs ++ c ∷ after) = h in
         let first : calls.Add id r ≡ x = cc in
         let rest : calls_from_lem n (run queue_limit p (calls.Add id r ∷ [])) lines ≡ xs ++ c ∷ after = cc in
         more_lines n p line lines xs (x ∷ []) c (rw q (cc)) (below (run queue_limit p (x ∷ [])) xs after (rw first at rest))
-    go (Line r) q (x ∷ xs) h below =
+    go (Ok (Line.Record r)) q (x ∷ xs) h below =
         let same : call_of r ∷ calls_from_lem n (run queue_limit p (call_of r ∷ [])) lines ≡ x ∷ (xs ++ c ∷ after) = h in
         let first : call_of r ≡ x = cc in
         let rest : calls_from_lem n (run queue_limit p (call_of r ∷ [])) lines ≡ xs ++ c ∷ after = cc in
@@ -202,9 +202,9 @@ call_fits Turn h = tt
 -- a line makes no other call
 line_fits : (n : NameLists) (d : Device) (line : List ℕ) (p : Parsed) → parse_line_with n d line ≡ p → All CallFits (calls_in p)
 unfolding calls_in
-line_fits n d line (Line r) e = cons (call_fits r (parsed_lines.fits n d line r e)) nil
-line_fits n d line (Named id r) e = cons (parsed_lines.named_fits n d line id r e) nil
-line_fits n d line (Fault k) e = nil
+line_fits n d line (Ok (Line.Record r)) e = cons (call_fits r (parsed_lines.fits n d line r e)) nil
+line_fits n d line (Ok (Line.Named id r)) e = cons (parsed_lines.named_fits n d line id r e) nil
+line_fits n d line (Err k) e = nil
 
 pub calls_fit : (n : NameLists) (p : Plain) (lines : List (List ℕ)) → All CallFits (calls_from_lem n p lines)
 unfolding calls_from_lem

@@ -1,6 +1,6 @@
 -- A request by name is refused as the table says of the request that it stands for, or answered as the event in numbers. Assumes nothing.
 use Rattle.std.proofs.lemmas.Option.{none-some}
-use Rattle.std.specs.Prelude.{Option, None, Some, Err}
+use Rattle.std.specs.Prelude.{Option, None, Some, Ok, Err}
 use mathlib.Core.Path.{◌≡◌, refl, ap, sym, ◌∙◌}
 use mathlib.Core.Logic.{◌⊎◌, inl, inr, ⊎_elim}
 use mathlib.Core.Bool.{true, false, false≢true}
@@ -34,8 +34,8 @@ use Rattle.grammar.proofs.Outcomes.{fault_not_line}
 use Rattle.grammar.proofs.Settled.{Settled, asks, faulty, line_is}
 use Rattle.grammar.specs.Grammar.{IsText}
 use Rattle.grammar.specs.declared.Record.TheVariants.{Add}
-use Rattle.grammar.specs.declared.Parsed.{Parsed}
-use Rattle.grammar.specs.declared.Parsed.TheVariants.{Line}
+use Rattle.grammar.specs.Parsed.{Parsed}
+use Rattle.grammar.specs.declared.Line.{Line}
 use Rattle.names.specs.Lists.{NameLists}
 use Rattle.names.specs.LookUp.{row_named}
 use Rattle.names.specs.Named.{request_named, named_field}
@@ -138,7 +138,7 @@ module _ (n : NameLists) (s : Session) (line : List ℕ) (id : ℕ) (name : List
       (ap (λ (y : Reply). y.text) reply, ap (λ (y : Reply). y.session) reply)
 
   -- the answer and the field of an event in numbers
-  as_numbers : AreLists n → (r : Request) → request ≡ r → (numbers : List ℕ) → parse_line_with n s.setup.device numbers ≡ Line (Add id r) → AsEvent n s line numbers
+  as_numbers : AreLists n → (r : Request) → request ≡ r → (numbers : List ℕ) → parse_line_with n s.setup.device numbers ≡ Ok (Line.Record (Add id r)) → AsEvent n s line numbers
   unfolding answer_line parsed_reply record_reply reply_of reply_at named_reply
   as_numbers l r same numbers e =
       let named = line_adds l in

@@ -21,8 +21,8 @@ use Rattle.grammar.specs.Text.{bytes, tab, newline, decimal_digits, decimal_text
 use Rattle.grammar.specs.Parse.{parsed_refusal}
 use Rattle.grammar.specs.declared.Record.{Record}
 use Rattle.grammar.specs.declared.Record.TheVariants.{Open, Add, Drop, Turn}
-use Rattle.grammar.specs.declared.Parsed.{Parsed}
-use Rattle.grammar.specs.declared.Parsed.TheVariants.{Line, Named, Fault}
+use Rattle.grammar.specs.Parsed.{Parsed}
+use Rattle.grammar.specs.declared.Line.{Line}
 use Rattle.parser.specs.ParseWith.{parse_line_with}
 use Rattle.answers.specs.Replies.{answer_text, take_lines, set_lines, turn_room, reply_at, reply_of, turn_reply, record_reply, named_reply, parsed_reply, answer_line}
 use Rattle.answers.specs.NeverShort.{NeverShort}
@@ -97,9 +97,9 @@ record_text_lem s Turn k e = turn_fits s (turn_text (turn_of s turn_room) (turn_
 
 parsed_text : (s : Session) (p : Parsed) (k : ℕ) → ¬ ((parsed_reply s p).text ≡ fourteen k)
 unfolding parsed_reply named_reply reply_at answer_for parsed_refusal
-parsed_text s (Line r) k e = record_text_lem s r k e
-parsed_text s (Named id r) k e = add_fits s id r (is_fourteen _ k (add_of s id r).answer e)
-parsed_text s (Fault j) k e = let same = is_fourteen j k (Err NotInGrammar) e in let z : ◌≡◌ {A = ℕ} 0 1 = cc in omega arith
+parsed_text s (Ok (Line.Record r)) k e = record_text_lem s r k e
+parsed_text s (Ok (Line.Named id r)) k e = add_fits s id r (is_fourteen _ k (add_of s id r).answer e)
+parsed_text s (Err j) k e = let same = is_fourteen j k (Err NotInGrammar) e in let z : ◌≡◌ {A = ℕ} 0 1 = cc in omega arith
 
 pub never_short : NeverShort
 unfolding answer_line fourteen

@@ -1,6 +1,6 @@
 -- Every reply says its answer last and only there, by what is known of the replies to records, and texts one after another say what each says.
 -- Assumes nothing.
-use Rattle.std.specs.Prelude.{Some, Err}
+use Rattle.std.specs.Prelude.{Some, Ok, Err}
 use mathlib.Core.Path.{◌≡◌, refl}
 use mathlib.Core.Logic.{◌≢◌}
 use mathlib.Core.List.{List, [], ◌∷◌, ◌++◌, map, flat_map}
@@ -24,8 +24,8 @@ use Rattle.parser.specs.ParseWith.{parse_line_with}
 use Rattle.parser.proofs.LongLines.{long_lines}
 use Rattle.grammar.specs.Parse.{parsed_refusal}
 use Rattle.grammar.specs.declared.Record.{Record}
-use Rattle.grammar.specs.declared.Parsed.{Parsed}
-use Rattle.grammar.specs.declared.Parsed.TheVariants.{Line, Named, Fault}
+use Rattle.grammar.specs.Parsed.{Parsed}
+use Rattle.grammar.specs.declared.Line.{Line}
 use Rattle.grammar.specs.declared.Record.TheVariants.{Open, Add, Drop, Turn}
 use Rattle.answers.specs.Replies.{answer_text, turn_room, record_reply, named_reply, parsed_reply, answer_line}
 use Rattle.answers.specs.Reader.{Takes}
@@ -73,12 +73,12 @@ named_alone s id r =
       no_answer = nil;
     }
 
-one_reply : (s : Session) → Askable (waiting (plain_of s)) → (p : Parsed) → ((k : ℕ) → p ≡ Fault k → k ≤ 7) → OneReply (parsed_reply s p).text
+one_reply : (s : Session) → Askable (waiting (plain_of s)) → (p : Parsed) → ((k : ℕ) → p ≡ Err k → k ≤ 7) → OneReply (parsed_reply s p).text
 unfolding parsed_reply answer_for parsed_refusal
-one_reply s askable (Line (Open given)) within = record_alone s (Open given) (λ e. let z : ◌≡◌ {A = ℕ} 0 1 = cc in omega arith)
-one_reply s askable (Line (Add id r)) within = record_alone s (Add id r) (λ e. let z : ◌≡◌ {A = ℕ} 0 1 = cc in omega arith)
-one_reply s askable (Line (Drop id)) within = record_alone s (Drop id) (λ e. let z : ◌≡◌ {A = ℕ} 0 1 = cc in omega arith)
-one_reply s askable (Line Turn) within =
+one_reply s askable (Ok (Line.Record (Open given))) within = record_alone s (Open given) (λ e. let z : ◌≡◌ {A = ℕ} 0 1 = cc in omega arith)
+one_reply s askable (Ok (Line.Record (Add id r))) within = record_alone s (Add id r) (λ e. let z : ◌≡◌ {A = ℕ} 0 1 = cc in omega arith)
+one_reply s askable (Ok (Line.Record (Drop id))) within = record_alone s (Drop id) (λ e. let z : ◌≡◌ {A = ℕ} 0 1 = cc in omega arith)
+one_reply s askable (Ok (Line.Record Turn)) within =
     let t : TurnSays s = turn_said s askable in
     record {
       details = takes_of (plan_of (turn_of s turn_room)) ++ sets_of t.list;
@@ -86,8 +86,8 @@ one_reply s askable (Line Turn) within =
       says = t.says;
       no_answer = all_append (takes_no_answer (plan_of (turn_of s turn_room))) (sets_no_answer t.list);
     }
-one_reply s askable (Named id r) within = named_alone s id r
-one_reply s askable (Fault k) within = fault_alone k (within k refl)
+one_reply s askable (Ok (Line.Named id r)) within = named_alone s id r
+one_reply s askable (Err k) within = fault_alone k (within k refl)
 
 -- the reply after any lines
 reply_after_lem : (n : NameLists) (start : Session) → start.opened ≡ false → (lines : List (List ℕ)) (line : List ℕ) → OneReply (reply_after n start lines line)

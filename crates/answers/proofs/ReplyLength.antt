@@ -1,4 +1,5 @@
 -- No reply is longer than the room for one: a turn has at most 8 requests of 136 bytes, 22 writes of 26 bytes and the answer, any other reply the answer alone.
+use Rattle.std.specs.Prelude.{Ok, Err}
 use mathlib.Core.List.{List}
 use Prim.Native.Nat.{ℕ, ◌*◌, ◌≤◌}
 use native.Mathlib.Omega.{arith}
@@ -9,7 +10,7 @@ use Rattle.sessions.specs.declared.Session.{Session}
 use Rattle.sessions.specs.declared.TurnAnswered.{TurnAnswered}
 use Rattle.grammar.specs.declared.Record.{Record}
 use Rattle.grammar.specs.declared.Record.TheVariants.{Open, Add, Drop, Turn}
-use Rattle.grammar.specs.declared.Parsed.TheVariants.{Line, Named, Fault}
+use Rattle.grammar.specs.declared.Line.{Line}
 use Rattle.requests.specs.Answers.{Answer}
 use Rattle.answers.specs.Replies.{turn_room, answer_text, take_lines, reply_at, reply_of, turn_reply, record_reply, named_reply, parsed_reply}
 use Rattle.answers.specs.ReplyLength.{reply_room, ReplyLength}
@@ -43,6 +44,6 @@ record_short s Turn = let l = turn_at_most s turn_room in turn_short (turn_of s 
 
 pub reply_length : ReplyLength
 unfolding parsed_reply named_reply reply_at
-reply_length s (Line r) = record_short s r
-reply_length s (Named id r) = answer_short (add_of s id r).answer _
-reply_length s (Fault k) = answer_short _ k
+reply_length s (Ok (Line.Record r)) = record_short s r
+reply_length s (Ok (Line.Named id r)) = answer_short (add_of s id r).answer _
+reply_length s (Err k) = answer_short _ k

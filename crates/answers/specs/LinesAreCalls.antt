@@ -17,8 +17,8 @@ use Rattle.sessions.specs.Sessions.{queue_limit, plain_of, turn_of, turn_slice, 
 use Rattle.grammar.specs.Records.{AddFits}
 use Rattle.grammar.specs.declared.Record.{Record}
 use Rattle.grammar.specs.declared.Record.TheVariants.{Open, Add, Drop, Turn}
-use Rattle.grammar.specs.declared.Parsed.{Parsed}
-use Rattle.grammar.specs.declared.Parsed.TheVariants as parsed
+use Rattle.grammar.specs.Parsed.{Parsed}
+use Rattle.grammar.specs.declared.Line.{Line}
 use Rattle.names.specs.Named.{named_field}
 use Rattle.answers.specs.Replies.{answer_text, turn_room, record_reply, named_reply}
 use Rattle.answers.specs.Reader.{Refusing, Said, Takes, Sets, Answers, reply_says}
@@ -32,9 +32,9 @@ call_of Turn = Rattle.sessions.specs.Calls.Turn turn_room
 
 -- the calls of a line: one, or none where it is refused for what it is
 unfoldable pub calls_in : Parsed → List Call
-calls_in (parsed.Line r) = call_of r ∷ []
-calls_in (parsed.Named id r) = Rattle.sessions.specs.Calls.Add id r ∷ []
-calls_in (parsed.Fault k) = []
+calls_in (Ok (Line.Record r)) = call_of r ∷ []
+calls_in (Ok (Line.Named id r)) = Rattle.sessions.specs.Calls.Add id r ∷ []
+calls_in (Err k) = []
 
 -- the last line of a reply: `ok`, or the number and the field of the fault
 unfoldable pub fault_text : Option Fault → List ℕ

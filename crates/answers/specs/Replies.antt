@@ -17,8 +17,8 @@ use Rattle.grammar.specs.Text.{bytes, hex_text, decimal_text, line_of}
 use Rattle.grammar.specs.Parse.{parsed_refusal}
 use Rattle.grammar.specs.declared.Record.{Record}
 use Rattle.grammar.specs.declared.Record.TheVariants.{Open, Add, Drop, Turn}
-use Rattle.grammar.specs.declared.Parsed.{Parsed}
-use Rattle.grammar.specs.declared.Parsed.TheVariants.{Line, Named, Fault}
+use Rattle.grammar.specs.Parsed.{Parsed}
+use Rattle.grammar.specs.declared.Line.{Line}
 use Rattle.names.specs.Lists.{NameLists}
 use Rattle.names.specs.Named.{named_field}
 use Rattle.parser.specs.ParseWith.{parse_line_with}
@@ -78,9 +78,9 @@ named_reply s id r = reply_at (add_of s id r) (named_field (answer_field (add_of
 
 -- the reply to what a line is: the record's or the request's, or the refusal of a line that is neither, at the field that breaks the grammar
 unfoldable pub parsed_reply : Session → Parsed → Reply
-parsed_reply s (Line r) = record_reply s r
-parsed_reply s (Named id r) = named_reply s id r
-parsed_reply s (Fault k) = record { text = answer_text (answer_for (parsed_refusal (Fault k))) k; session = s }
+parsed_reply s (Ok (Line.Record r)) = record_reply s r
+parsed_reply s (Ok (Line.Named id r)) = named_reply s id r
+parsed_reply s (Err k) = record { text = answer_text (answer_for (parsed_refusal (Err k))) k; session = s }
 
 -- the reply to a line; a name stands for a request on the session's device
 unfoldable pub answer_line : NameLists → Session → List ℕ → Reply

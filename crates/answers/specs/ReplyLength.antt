@@ -1,7 +1,7 @@
 -- No reply is longer than the room for one, whatever the session holds.
 use Rattle.std.specs.Prelude.{ℕ, ◌≤◌, length}
 use Rattle.sessions.specs.declared.Session.{Session}
-use Rattle.grammar.specs.declared.Parsed.{Parsed}
+use Rattle.grammar.specs.Parsed.{Parsed}
 use Rattle.answers.specs.Replies.{parsed_reply}
 
 -- room for any reply, in bytes

@@ -19,6 +19,7 @@ fn first_of(written: &[u8]) -> Option<(u8, &[u8])>
 pub fn text_in<'a>(written: &[u8], room: &'a mut [u8]) -> Option<&'a [u8]> {
     let mut count = 0;
     let mut rest = written;
+    // Form: a turn takes one byte or two of what is left, so no `for` fits.
     while !rest.is_empty() {
         let (byte, behind) = first_of(rest)?;
         *room.get_mut(count)? = byte;

@@ -1,6 +1,6 @@
 -- Fields that are read format by format up to one at fault: those before it spell values that fit, and whatever follows it, it is at fault. Assumes
 -- nothing.
-use Rattle.std.specs.Prelude.{Option, None, Some}
+use Rattle.std.specs.Prelude.{Option, None, Some, Ok, Err}
 use mathlib.Core.Path.{◌≡◌, refl, ap, ap₂, sym, ◌∙◌}
 use mathlib.Core.Bool.{Bool, true, false}
 use mathlib.Core.List.{List, [], ◌∷◌}
@@ -17,8 +17,8 @@ use Rattle.grammar.specs.Fields.{fields, field_at, same_bytes_lem}
 use Rattle.grammar.specs.Numbers.{decimal_of, hex_of, core_number_of, core_of}
 use Rattle.grammar.specs.Verbs.{with_number, is_whole}
 use Rattle.grammar.specs.declared.Record.{Record}
-use Rattle.grammar.specs.declared.Parsed.{Parsed}
-use Rattle.grammar.specs.declared.Parsed.TheVariants.{Line, Fault}
+use Rattle.grammar.specs.Parsed.{Parsed}
+use Rattle.grammar.specs.declared.Line.{Line}
 use Rattle.grammar.proofs.Outcomes.{bad_not_value, fault_not_line}
 use Rattle.grammar.proofs.Decimals.{decimal_only}
 use Rattle.grammar.proofs.Hexes.{hex_only}
@@ -33,7 +33,7 @@ pub record Agree (t p : List ℕ) (k : ℕ) : Type 0 where
 
 -- ---- the end of a record
 
-pub ended_fault : (b : Bool) (n : ℕ) (r : Parsed) (k : ℕ) → ¬ (r ≡ Fault k) → pick b r (Fault n) ≡ Fault k → n ≡ k
+pub ended_fault : (b : Bool) (n : ℕ) (r : Parsed) (k : ℕ) → ¬ (r ≡ Err k) → pick b r (Err n) ≡ Err k → n ≡ k
 ended_fault true n r k other e = absurd (other e)
 ended_fault false n r k other e = cc
 
@@ -113,15 +113,15 @@ pub record Till (fs : List Format) (t : List ℕ) (j k : ℕ) (made : Values fs 
   pub is : k ≡ j + count
   pub till : k ≤ length (fields t)
   pub spells : take count (texts fs values) ≡ take count (drop j (fields t))
-  pub same : (p : List ℕ) (closed : Bool) → Agree t p k → read_from fs p closed j made ≡ Fault k
+  pub same : (p : List ℕ) (closed : Bool) → Agree t p k → read_from fs p closed j made ≡ Err k
 
-line_not_fault : (r : Record) (k : ℕ) → ¬ (Line r ≡ Fault k)
+line_not_fault : (r : Record) (k : ℕ) → ¬ (Ok (Line.Record r) ≡ Err k)
 line_not_fault r k e = fault_not_line k r (sym e)
 
 pub read_till : (fs : List Format) → AllHaveDigits fs → (t : List ℕ) (closed : Bool) (j : ℕ) (made : Values fs → Record) (k : ℕ) → j ≤ length (fields t)
-    → read_from fs t closed j made ≡ Fault k → Till fs t j k made
+    → read_from fs t closed j made ≡ Err k → Till fs t j k made
 read_till [] some t closed j made k h e =
-    let is : j ≡ k = ended_fault (is_whole t closed j) j (Line (made tt)) k (line_not_fault (made tt) k) e in
+    let is : j ≡ k = ended_fault (is_whole t closed j) j (Ok (Line.Record (made tt))) k (line_not_fault (made tt) k) e in
     record {
       values = tt;
       fit = tt;
@@ -129,7 +129,7 @@ read_till [] some t closed j made k h e =
       is = omega arith;
       till = omega arith;
       spells = refl;
-      same = λ p c a. rw (more_fields p c j (omega (arith, a.other))) (ap Fault is);
+      same = λ p c a. rw (more_fields p c j (omega (arith, a.other))) (ap Err is);
     }
 read_till (f ∷ fs) some t closed j made k h e =
     go (number_in f (field_at t j)) refl (sym (given_is f (field_at t j) j _) ∙ e) (λ x l q. read_till fs some.1 t closed (suc j) (λ v. made (x, v)) k l q)
@@ -137,8 +137,8 @@ read_till (f ∷ fs) some t closed j made k h e =
     next : List ℕ → Bool → ℕ → Parsed
     next p c x = read_from fs p c (suc j) (λ v. made (x, v))
 
-    go : (x : Option ℕ) → number_in f (field_at t j) ≡ x → with_number x j (next t closed) ≡ Fault k
-        → ((x : ℕ) → suc j ≤ length (fields t) → next t closed x ≡ Fault k → Till fs t (suc j) k (λ v. made (x, v))) → Till (f ∷ fs) t j k made
+    go : (x : Option ℕ) → number_in f (field_at t j) ≡ x → with_number x j (next t closed) ≡ Err k
+        → ((x : ℕ) → suc j ≤ length (fields t) → next t closed x ≡ Err k → Till fs t (suc j) k (λ v. made (x, v))) → Till (f ∷ fs) t j k made
     go None p q ih =
         let is : j ≡ k = cc in
         record {
@@ -148,7 +148,7 @@ read_till (f ∷ fs) some t closed j made k h e =
           is = omega arith;
           till = omega arith;
           spells = refl;
-          same = λ u c a. given_is f (field_at u j) j (next u c) ∙ rw (a.alike j (omega arith), p) (ap Fault is);
+          same = λ u c a. given_is f (field_at u j) j (next u c) ∙ rw (a.alike j (omega arith), p) (ap Err is);
         }
     go (Some x) p q ih =
         let there : j < length (fields t) = present (number_in f) t j (λ z. bad_not_value x (sym (missing f some.0) ∙ sym z ∙ p)) in

@@ -1,4 +1,5 @@
 -- A line is read as its text before the newline; a line that is read as a record is such a text and a newline. Assumes nothing.
+use Rattle.std.specs.Prelude.{Ok, Err}
 use mathlib.Core.Path.{◌≡◌, refl, ap, sym, ◌∙◌}
 use mathlib.Core.Bool.{Bool, true, false, true≢false}
 use mathlib.Core.List.{List, [], ◌∷◌, ◌++◌}
@@ -13,8 +14,8 @@ use Rattle.grammar.specs.Fields.{fields}
 use Rattle.grammar.specs.Verbs.{record_of}
 use Rattle.grammar.specs.Parse.{longest, too_long_lem, parse_text, is_closed, text_length, text_of, parse_line}
 use Rattle.grammar.specs.declared.Record.{Record}
-use Rattle.grammar.specs.declared.Parsed.{Parsed}
-use Rattle.grammar.specs.declared.Parsed.TheVariants.{Line, Named, Fault}
+use Rattle.grammar.specs.Parsed.{Parsed}
+use Rattle.grammar.specs.declared.Line.{Line}
 use Rattle.grammar.proofs.Outcomes.{fault_not_line}
 use Rattle.grammar.proofs.Numerals.{length_last}
 
@@ -52,19 +53,18 @@ unfolding parse_line parse_text
 closed_reads t h = let c = closed_text t h in rw (c.text, c.closed, c.short)
 
 -- a line that is too long is no record
-too_long_none : (p : Parsed) (n : ℕ) (r : Record) → too_long_lem p n ≡ Line r → ⊥
+too_long_none : (p : Parsed) (n : ℕ) (r : Record) → too_long_lem p n ≡ Ok (Line.Record r) → ⊥
 unfolding too_long_lem
-too_long_none (Line s) n r e = fault_not_line n r e
-too_long_none (Named id q) n r e = fault_not_line n r e
-too_long_none (Fault k) n r e = fault_not_line _ r e
+too_long_none (Ok asked) n r e = fault_not_line n r e
+too_long_none (Err k) n r e = fault_not_line _ r e
 
 -- so a line that is read as a record is not too long
-pub record_only : (line : List ℕ) (r : Record) → parse_line line ≡ Line r → (text_length line ≤ 80) × (record_of (text_of line) (is_closed line) ≡ Line r)
+pub record_only : (line : List ℕ) (r : Record) → parse_line line ≡ Ok (Line.Record r) → (text_length line ≤ 80) × (record_of (text_of line) (is_closed line) ≡ Ok (Line.Record r))
 unfolding parse_line parse_text longest
 record_only line r e = go (ltb longest (text_length line)) refl e
   where
-    go : (long : Bool) → ltb longest (text_length line) ≡ long → parse_text (text_of line) (is_closed line) long ≡ Line r
-        → (text_length line ≤ 80) × (record_of (text_of line) (is_closed line) ≡ Line r)
+    go : (long : Bool) → ltb longest (text_length line) ≡ long → parse_text (text_of line) (is_closed line) long ≡ Ok (Line.Record r)
+        → (text_length line ≤ 80) × (record_of (text_of line) (is_closed line) ≡ Ok (Line.Record r))
     go false l p = (ltb-false longest (text_length line) l, p)
     go true l p = absurd (too_long_none (record_of (text_of line) (is_closed line)) (length (fields (text_of line))) r p)
 

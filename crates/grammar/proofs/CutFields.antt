@@ -1,5 +1,6 @@
 -- The fields of a text and those of its first n bytes: the same up to one, of which at least the rest of the n bytes is left. Where that is more
 -- than any field of its format has, both break the grammar in the same field. Assumes nothing.
+use Rattle.std.specs.Prelude.{Err}
 use mathlib.Core.Path.{◌≡◌, refl, ap, sym, ◌∙◌}
 use mathlib.Core.Bool.{Bool, true, false}
 use mathlib.Core.List.{List, [], ◌∷◌}
@@ -14,8 +15,7 @@ use Rattle.requests.proofs.Tests.{both_false}
 use Rattle.grammar.specs.Text.{tab}
 use Rattle.grammar.specs.Fields.{onto, fields, field_at}
 use Rattle.grammar.specs.Verbs.{is_whole}
-use Rattle.grammar.specs.declared.Parsed.{Parsed}
-use Rattle.grammar.specs.declared.Parsed.TheVariants.{Fault}
+use Rattle.grammar.specs.Parsed.{Parsed}
 
 -- ---- the fields of a text, and those of its first n bytes
 
@@ -69,8 +69,8 @@ cut_at t n h = record { more = fields t; kept = fields (take n t); more_is = ref
 
 pub record SameFault (a b : Parsed) : Type 0 where
   pub at : ℕ
-  pub one : a ≡ Fault at
-  pub other : b ≡ Fault at
+  pub one : a ≡ Err at
+  pub other : b ≡ Err at
 
 -- field k and those after it
 field_next : {A : Type 0} (l : List A) (k : ℕ) (d x : A) (xs : List A) → drop k l ≡ x ∷ xs → (get_or l k d ≡ x) × (drop (suc k) l ≡ xs)
@@ -81,7 +81,7 @@ field_next (y ∷ l) (suc k) d x xs e = field_next l k d x xs e
 
 -- how field k is read: one of more than w bytes is at fault, and what has one field at fault after any value has it after the field
 pub record Field {A : Type 0} (read : List ℕ → (A → Parsed) → Parsed) (k w : ℕ) : Type 0 where
-  pub wide : (x : List ℕ) (next : A → Parsed) → w < length x → read x next ≡ Fault k
+  pub wide : (x : List ℕ) (next : A → Parsed) → w < length x → read x next ≡ Err k
   pub both : (x : List ℕ) (next next2 : A → Parsed) → ((a : A) → SameFault (next a) (next2 a)) → SameFault (read x next) (read x next2)
 
 module _ {A : Type 0} (read : List ℕ → (A → Parsed) → Parsed) (t p : List ℕ) (k w n : ℕ) (f : Field read k w) (room : w < n) (next next2 : A → Parsed) where

@@ -1,7 +1,7 @@
 -- The field at fault is the first that breaks the grammar: the fields before it begin a record, made of the numbers read and of 0 for the others, and
 -- no record goes on with it, for that record would have it at fault too. Assumes nothing.
 use Rattle.std.proofs.lemmas.Option.{none-some}
-use Rattle.std.specs.Prelude.{Option, None, Some}
+use Rattle.std.specs.Prelude.{Option, None, Some, Err}
 use mathlib.Core.Path.{◌≡◌, refl, ap, ap₂, sym, ◌∙◌}
 use mathlib.Core.Bool.{Bool, true}
 use mathlib.Core.List.{List, [], ◌∷◌}
@@ -26,8 +26,7 @@ use Rattle.grammar.specs.Parse.{is_closed, text_length, parse_line}
 use Rattle.grammar.specs.FirstBroken.{line_fields, BeginsRecord, FirstBroken}
 use Rattle.grammar.specs.declared.Record.{Record}
 use Rattle.grammar.specs.declared.Record.TheVariants.{Add, Drop, Turn}
-use Rattle.grammar.specs.declared.Parsed.{Parsed}
-use Rattle.grammar.specs.declared.Parsed.TheVariants.{Fault}
+use Rattle.grammar.specs.Parsed.{Parsed}
 use Rattle.grammar.proofs.Outcomes.{fault_not_line}
 use Rattle.grammar.proofs.WordLoops.{same_bytes}
 use Rattle.grammar.proofs.LetterFields.{lettered_only}
@@ -45,7 +44,7 @@ use Rattle.grammar.proofs.BrokenFields.{Agree, AllHaveDigits, present, zeros_fit
 pub record Tells (read : List ℕ → Bool → Parsed) (t : List ℕ) (k : ℕ) : Type 0 where
   pub till : k ≤ length (fields t)
   pub begins : BeginsRecord (fields t) k
-  pub same : (p : List ℕ) (closed : Bool) → Agree t p k → read p closed ≡ Fault k
+  pub same : (p : List ℕ) (closed : Bool) → Agree t p k → read p closed ≡ Err k
 
 -- a text has a field
 pub some_fields : (t : List ℕ) → 1 ≤ length (fields t)
@@ -58,7 +57,7 @@ as_many fs gs k n is e = rw is e
 -- a verb that is read by formats tells so
 module _ (word : String) (fs : List Format) (digits : AllHaveDigits fs) (made : Values fs → Record) (fits : (v : Values fs) → AllFit fs v → Fits (made v))
     (same : (v : Values fs) → record_fields (made v) ≡ bytes word ∷ texts fs v) where
-  verb_fault : (t : List ℕ) → has_verb t word ≡ true → (closed : Bool) (k : ℕ) → read_from fs t closed 1 made ≡ Fault k
+  verb_fault : (t : List ℕ) → has_verb t word ≡ true → (closed : Bool) (k : ℕ) → read_from fs t closed 1 made ≡ Err k
       → Tells (λ p c. read_from fs p c 1 made) t k
   unfolding has_verb
   verb_fault t verb closed k e =
@@ -78,7 +77,7 @@ module _ (word : String) (fs : List Format) (digits : AllHaveDigits fs) (made : 
 module _ (d : Device) (fs : List Format) (digits : AllHaveDigits fs) (made : Values fs → Record) (fits : (v : Values fs) → AllFit fs v → Fits (made v))
     (same : (v : Values fs) → record_fields (made v) ≡ bytes "open" ∷ (letter_of d ∷ []) ∷ texts fs v) where
   device_fault : (t : List ℕ) → has_verb t "open" ≡ true → 1 < length (fields t) → field_at t 1 ≡ letter_of d ∷ [] → (closed : Bool) (k : ℕ)
-      → read_from fs t closed 2 made ≡ Fault k → (2 ≤ k) × Tells (λ p c. read_from fs p c 2 made) t k
+      → read_from fs t closed 2 made ≡ Err k → (2 ≤ k) × Tells (λ p c. read_from fs p c 2 made) t k
   unfolding has_verb
   device_fault t verb two letter closed k e =
       let h : Till fs t 2 k made = read_till fs digits t closed 2 made k two e in
@@ -99,7 +98,7 @@ module _ (d : Device) (fs : List Format) (digits : AllHaveDigits fs) (made : Val
 
 -- each device's
 open_on_fault : (d : Device) (t : List ℕ) → has_verb t "open" ≡ true → 1 < length (fields t) → field_at t 1 ≡ letter_of d ∷ [] → (closed : Bool) (k : ℕ)
-    → open_on t closed d ≡ Fault k → (2 ≤ k) × Tells (λ p c. open_on p c d) t k
+    → open_on t closed d ≡ Err k → (2 ≤ k) × Tells (λ p c. open_on p c d) t k
 unfolding open_on open_formats open_as open_with line_from record_fields open_fields box_fields overflow_fields letter_of box_of
 open_on_fault G =
     device_fault G (decimal ∷ decimal ∷ decimal ∷ core ∷ []) (tt, (tt, (tt, (tt, tt))))
@@ -134,11 +133,11 @@ no_letter : lettered [] ≡ None
 unfolding lettered
 no_letter = refl
 
-open_fault : (t : List ℕ) → has_verb t "open" ≡ true → (closed : Bool) (k : ℕ) → open_line t closed ≡ Fault k → Tells open_line t k
+open_fault : (t : List ℕ) → has_verb t "open" ≡ true → (closed : Bool) (k : ℕ) → open_line t closed ≡ Err k → Tells open_line t k
 unfolding open_line
 open_fault t verb closed k e = go (lettered (field_at t 1)) refl e
   where
-    go : (o : Option Device) → lettered (field_at t 1) ≡ o → with_device o 1 (open_on t closed) ≡ Fault k → Tells open_line t k
+    go : (o : Option Device) → lettered (field_at t 1) ≡ o → with_device o 1 (open_on t closed) ≡ Err k → Tells open_line t k
     go None p q =
         let is : 1 ≡ k = cc in
         rw (← is) (record { till = some_fields t; begins = an_open t verb; same = λ u c a. rw (a.alike 1 (omega arith), p) })
@@ -148,7 +147,7 @@ open_fault t verb closed k e = go (lettered (field_at t 1)) refl e
         record { till = h.till; begins = h.begins; same = λ u c a. rw (a.alike 1 (omega arith), p) (h.same u c a) }
 
 -- each verb tells so
-verb_rows : (t : List ℕ) → Rows (λ read. (closed : Bool) (k : ℕ) → read t closed ≡ Fault k → Tells read t k) (verbs t)
+verb_rows : (t : List ℕ) → Rows (λ read. (closed : Bool) (k : ℕ) → read t closed ≡ Err k → Tells read t k) (verbs t)
 unfolding verbs event_line packet_line offcore_line latency_line drop_line turn_line record_fields add_fields
 verb_rows t =
     row (open_fault t)
@@ -173,7 +172,7 @@ unfolding verbs has_verb
 same_verbs t p same = rw same
 
 -- every text does
-pub text_fault : (t : List ℕ) (closed : Bool) (k : ℕ) → record_of t closed ≡ Fault k → Tells record_of t k
+pub text_fault : (t : List ℕ) (closed : Bool) (k : ℕ) → record_of t closed ≡ Err k → Tells record_of t k
 text_fault t closed k e = go (first_holding (verbs t)) refl
   where
     alike : (p : List ℕ) → Agree t p k → verbs p ≡ verbs t
@@ -181,7 +180,7 @@ text_fault t closed k e = go (first_holding (verbs t)) refl
 
     go : (o : Option (List ℕ → Bool → Parsed)) → first_holding (verbs t) ≡ o → Tells record_of t k
     go None p =
-        let no_such : Fault 0 ≡ Fault k = sym (no_verb t closed p) ∙ e in
+        let no_such : Err 0 ≡ Err k = sym (no_verb t closed p) ∙ e in
         let is : 0 ≡ k = cc in
         record {
           till = omega arith;
@@ -204,7 +203,7 @@ agree t p k h e =
     }
 
 -- no record goes on with the field at fault
-pub goes_on : (t : List ℕ) (closed : Bool) (k : ℕ) → record_of t closed ≡ Fault k → k < length (fields t) → ¬ BeginsRecord (fields t) (suc k)
+pub goes_on : (t : List ℕ) (closed : Bool) (k : ℕ) → record_of t closed ≡ Err k → k < length (fields t) → ¬ BeginsRecord (fields t) (suc k)
 goes_on t closed k e h b =
     let w : TextOf b.of = record_written b.of b.fits in
     let a : Agree t w.text k = agree t w.text k h (ap (take (suc k)) w.parts ∙ b.same) in
@@ -220,28 +219,28 @@ fewer fs j k h b =
     }
 
 module _ (line : List ℕ) where
-  read_whole : (k : ℕ) → parse_line line ≡ Fault k → record_of (take (text_length line) line) (is_closed line) ≡ Fault k
+  read_whole : (k : ℕ) → parse_line line ≡ Err k → record_of (take (text_length line) line) (is_closed line) ≡ Err k
   read_whole k e = sym (long_lines.whole line) ∙ e
 
-  told : (k : ℕ) → parse_line line ≡ Fault k → Tells record_of (take (text_length line) line) k
+  told : (k : ℕ) → parse_line line ≡ Err k → Tells record_of (take (text_length line) line) k
   told k e = text_fault (take (text_length line) line) (is_closed line) k (read_whole k e)
 
-  broken : (k : ℕ) → parse_line line ≡ Fault k → k < length (line_fields line) → ¬ BeginsRecord (line_fields line) (suc k)
+  broken : (k : ℕ) → parse_line line ≡ Err k → k < length (line_fields line) → ¬ BeginsRecord (line_fields line) (suc k)
   broken k e = goes_on (take (text_length line) line) (is_closed line) k (read_whole k e)
 
-  stops : parse_line line ≡ Fault (length (line_fields line)) → is_closed line ≡ true → (r : Record) → Fits r → ¬ (record_fields r ≡ line_fields line)
+  stops : parse_line line ≡ Err (length (line_fields line)) → is_closed line ≡ true → (r : Record) → Fits r → ¬ (record_fields r ≡ line_fields line)
   stops e closed r fits parts =
       fault_not_line (length (line_fields line)) r
       (sym (read_whole (length (line_fields line)) e) ∙ ap (record_of (take (text_length line) line)) closed ∙ fields_read (take (text_length line) line) r fits (sym parts))
 
   only : ((r : Record) → ¬ IsText line r) → (k : ℕ) → k ≤ length (line_fields line) → BeginsRecord (line_fields line) k
-      → (k < length (line_fields line) → ¬ BeginsRecord (line_fields line) (suc k)) → parse_line line ≡ Fault k
+      → (k < length (line_fields line) → ¬ BeginsRecord (line_fields line) (suc k)) → parse_line line ≡ Err k
   only no_text k within good wrong = let (j, e) = grammar.other line no_text in go j e (dec_lt j k) (dec_lt k j)
     where
-      go : (j : ℕ) → parse_line line ≡ Fault j → Dec (j < k) → Dec (k < j) → parse_line line ≡ Fault k
+      go : (j : ℕ) → parse_line line ≡ Err j → Dec (j < k) → Dec (k < j) → parse_line line ≡ Err k
       go j e (yes h) d = absurd (broken j e (omega arith) (fewer (line_fields line) (suc j) k h good))
       go j e (no h) (yes l) = absurd (wrong (omega (arith, (told j e).till)) (fewer (line_fields line) (suc k) j l (told j e).begins))
-      go j e (no h) (no l) = e ∙ ap Fault (omega arith)
+      go j e (no h) (no l) = e ∙ ap Err (omega arith)
 
 pub first_broken : FirstBroken
 first_broken =

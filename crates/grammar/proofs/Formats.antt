@@ -1,5 +1,5 @@
 -- A text that is read format by format, and gives a record, has exactly the fields that the record's values spell. Assumes nothing.
-use Rattle.std.specs.Prelude.{Option, None, Some}
+use Rattle.std.specs.Prelude.{Option, None, Some, Ok, Err}
 use mathlib.Core.Path.{◌≡◌, refl, ap₂, ◌∙◌}
 use mathlib.Core.Bool.{Bool, true, false}
 use mathlib.Core.List.{List, [], ◌∷◌}
@@ -17,8 +17,8 @@ use Rattle.grammar.specs.Fields.{fields, field_at}
 use Rattle.grammar.specs.Numbers.{decimal_of, hex_of, core_number_of, core_of}
 use Rattle.grammar.specs.Verbs.{with_number, ended}
 use Rattle.grammar.specs.declared.Record.{Record}
-use Rattle.grammar.specs.declared.Parsed.{Parsed}
-use Rattle.grammar.specs.declared.Parsed.TheVariants.{Line, Fault}
+use Rattle.grammar.specs.Parsed.{Parsed}
+use Rattle.grammar.specs.declared.Line.{Line}
 use Rattle.grammar.proofs.Outcomes.{fault_not_line}
 use Rattle.grammar.proofs.Decimals.{decimal_only}
 use Rattle.grammar.proofs.Hexes.{hex_only}
@@ -69,13 +69,13 @@ read_from [] t closed k made = ended t closed k (made tt)
 read_from (f ∷ fs) t closed k made = given f (field_at t k) k (λ x. read_from fs t closed (suc k) (λ v. made (x, v)))
 
 -- a number was there
-number_only : (x : Option ℕ) (k : ℕ) (next : ℕ → Parsed) (r : Record) → with_number x k next ≡ Line r → (n : ℕ) × (x ≡ Some n) × (next n ≡ Line r)
+number_only : (x : Option ℕ) (k : ℕ) (next : ℕ → Parsed) (r : Record) → with_number x k next ≡ Ok (Line.Record r) → (n : ℕ) × (x ≡ Some n) × (next n ≡ Ok (Line.Record r))
 number_only (Some n) k next r e = (n, refl, e)
 number_only None k next r e = absurd (fault_not_line k r e)
 
 -- a field that is read is the text of what it holds
-given_only : (f : Format) (x : List ℕ) (k : ℕ) (next : ℕ → Parsed) (r : Record) → given f x k next ≡ Line r
-    → (v : ℕ) × Fit f v × (x ≡ spelled f v) × (next v ≡ Line r)
+given_only : (f : Format) (x : List ℕ) (k : ℕ) (next : ℕ → Parsed) (r : Record) → given f x k next ≡ Ok (Line.Record r)
+    → (v : ℕ) × Fit f v × (x ≡ spelled f v) × (next v ≡ Ok (Line.Record r))
 given_only decimal x k next r e =
     let (n, value, rest) = number_only (decimal_of x) k next r e in
     let told = decimal_only x n value in
@@ -90,10 +90,10 @@ given_only core x k next r e =
     (n, told.0, told.1, rest)
 
 -- nothing follows
-ended_only : (t : List ℕ) (closed : Bool) (n : ℕ) (s r : Record) → ended t closed n s ≡ Line r → (closed ≡ true) × (length (fields t) ≡ n) × (r ≡ s)
+ended_only : (t : List ℕ) (closed : Bool) (n : ℕ) (s r : Record) → ended t closed n s ≡ Ok (Line.Record r) → (closed ≡ true) × (length (fields t) ≡ n) × (r ≡ s)
 ended_only t closed n s r e = go (both closed (eqb (length (fields t)) n)) refl e
   where
-    go : (b : Bool) → both closed (eqb (length (fields t)) n) ≡ b → pick b (Line s) (Fault n) ≡ Line r
+    go : (b : Bool) → both closed (eqb (length (fields t)) n) ≡ b → pick b (Ok (Line.Record s)) (Err n) ≡ Ok (Line.Record r)
         → (closed ≡ true) × (length (fields t) ≡ n) × (r ≡ s)
     go true p q = let (c, l) = both_parts closed (eqb (length (fields t)) n) p in (c, eqb-true (length (fields t)) n l, (cc))
     go false p q = absurd (fault_not_line n r q)
@@ -108,7 +108,7 @@ pub record Rest (fs : List Format) (t : List ℕ) (closed : Bool) (k : ℕ) (mad
   pub spells : drop k (fields t) ≡ texts fs values
 
 -- a record that is given says so
-pub read_only : (fs : List Format) (t : List ℕ) (closed : Bool) (k : ℕ) (made : Values fs → Record) (r : Record) → read_from fs t closed k made ≡ Line r
+pub read_only : (fs : List Format) (t : List ℕ) (closed : Bool) (k : ℕ) (made : Values fs → Record) (r : Record) → read_from fs t closed k made ≡ Ok (Line.Record r)
     → Rest fs t closed k made r
 read_only [] t closed k made r e =
     let (c, l, is) = ended_only t closed k (made tt) r e in

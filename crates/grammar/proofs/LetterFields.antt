@@ -1,6 +1,6 @@
 -- The device whose letter a field is: the field is that letter alone, and the first device with it, walking through all. Assumes nothing.
 use Rattle.std.proofs.lemmas.Option.{none-some}
-use Rattle.std.specs.Prelude.{Option, None, Some}
+use Rattle.std.specs.Prelude.{Option, None, Some, Ok}
 use mathlib.Core.Path.{◌≡◌, refl, ap, sym, ◌∙◌}
 use mathlib.Core.Bool.{Bool, true, false}
 use mathlib.Core.List.{List, [], ◌∷◌}
@@ -19,8 +19,8 @@ use Rattle.grammar.specs.Fields.{same_bytes_lem}
 use Rattle.grammar.specs.Verbs.{with_device}
 use Rattle.grammar.specs.Letters.{lettered}
 use Rattle.grammar.specs.declared.Record.{Record}
-use Rattle.grammar.specs.declared.Parsed.{Parsed}
-use Rattle.grammar.specs.declared.Parsed.TheVariants.{Line}
+use Rattle.grammar.specs.Parsed.{Parsed}
+use Rattle.grammar.specs.declared.Line.{Line}
 use Rattle.grammar.proofs.Outcomes.{fault_not_line}
 use Rattle.grammar.proofs.WordLoops.{same_bytes}
 
@@ -47,8 +47,8 @@ lettered_only (letter ∷ []) d e = ap (λ (x : ℕ). x ∷ []) (sym (letter_is 
 lettered_only (letter ∷ b ∷ f) d e = absurd (none-some d e)
 
 -- a device was there
-pub device_only : (x : Option Device) (k : ℕ) (next : Device → Parsed) (r : Record) → with_device x k next ≡ Line r
-    → (d : Device) × (x ≡ Some d) × (next d ≡ Line r)
+pub device_only : (x : Option Device) (k : ℕ) (next : Device → Parsed) (r : Record) → with_device x k next ≡ Ok (Line.Record r)
+    → (d : Device) × (x ≡ Some d) × (next d ≡ Ok (Line.Record r))
 device_only (Some d) k next r e = (d, refl, e)
 device_only None k next r e = absurd (fault_not_line k r e)
 

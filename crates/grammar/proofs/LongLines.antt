@@ -1,5 +1,5 @@
 -- The first 80 bytes of a longer text have its first field at fault: no record has as many, by the widths of its fields. Assumes nothing.
-use Rattle.std.specs.Prelude.{Option, None, Some}
+use Rattle.std.specs.Prelude.{Option, None, Some, Err}
 use mathlib.Core.Path.{◌≡◌, refl, ap, ◌∙◌}
 use mathlib.Core.Bool.{Bool, true, false}
 use mathlib.Core.List.{List, [], ◌∷◌}
@@ -24,8 +24,7 @@ use Rattle.grammar.specs.Parse.{longest, too_long_lem, parse_text, is_closed, te
 use Rattle.grammar.specs.LongLines.{LongLines}
 use Rattle.grammar.specs.declared.Record.{Record}
 use Rattle.grammar.specs.declared.Record.TheVariants.{Add, Drop, Turn}
-use Rattle.grammar.specs.declared.Parsed.{Parsed}
-use Rattle.grammar.specs.declared.Parsed.TheVariants.{Fault}
+use Rattle.grammar.specs.Parsed.{Parsed}
 use Rattle.grammar.proofs.VerbRows.{read_by, no_verb}
 use Rattle.grammar.proofs.WordLoops.{same_bytes}
 use Rattle.grammar.proofs.Formats.{Format, decimal, hex, core, Values, given, read_from}
@@ -82,7 +81,7 @@ letter_field : (k : ℕ) → Field (λ x next. with_device (lettered x) k next) 
 unfolding lettered
 letter_field k = record { wide = wide; both = λ x next next2 h. device_both (lettered x) k next next2 h }
   where
-    wide : (x : List ℕ) (next : Device → Parsed) → 1 < length x → with_device (lettered x) k next ≡ Fault k
+    wide : (x : List ℕ) (next : Device → Parsed) → 1 < length x → with_device (lettered x) k next ≡ Err k
     wide [] next h = let z : ⊥ = omega arith in absurd z
     wide (a ∷ []) next h = let z : ⊥ = omega arith in absurd z
     wide (a ∷ b ∷ x) next h = refl

@@ -1,19 +1,19 @@
 -- What is no number is not one, and what has a field at fault is no record. Assumes nothing.
-use Rattle.std.specs.Prelude.{Option, None, Some}
+use Rattle.std.specs.Prelude.{Option, None, Some, Ok, Err}
 use mathlib.Core.Path.{◌≡◌, refl}
 use mathlib.Core.Bool.{Bool, true, false}
 use Prim.Native.Nat.{ℕ}
 use native.Mathlib.Omega.{arith}
 use Rattle.requests.specs.Choice.{pick}
 use Rattle.grammar.specs.declared.Record.{Record}
-use Rattle.grammar.specs.declared.Parsed.TheVariants.{Line, Fault}
+use Rattle.grammar.specs.declared.Line.{Line}
 
 -- no number
 pub bad_not_value : (n : ℕ) → None ≡ Some n → ⊥
 bad_not_value n e = let z : ◌≡◌ {A = ℕ} 0 1 = cc in omega arith
 
 -- no record
-pub fault_not_line : (k : ℕ) (r : Record) → Fault k ≡ Line r → ⊥
+pub fault_not_line : (k : ℕ) (r : Record) → Err k ≡ Ok (Line.Record r) → ⊥
 fault_not_line k r e = let z : ◌≡◌ {A = ℕ} 0 1 = cc in omega arith
 
 -- a number that is read where a test holds

@@ -1,5 +1,5 @@
 -- A text that gives a record has that record's fields, with their numbers in range: each verb is read by formats, and the verbs by their table. Assumes nothing.
-use Rattle.std.specs.Prelude.{Option, None, Some}
+use Rattle.std.specs.Prelude.{Option, None, Some, Ok, Err}
 use mathlib.Core.Path.{◌≡◌, refl, ap, ap₂, sym, ◌∙◌}
 use mathlib.Core.Bool.{Bool, true, false}
 use mathlib.Core.List.{List, [], ◌∷◌}
@@ -20,8 +20,8 @@ use Rattle.grammar.specs.Verbs.{set_of, line_from, open_formats, open_as, open_w
 use Rattle.grammar.specs.Letters.{lettered}
 use Rattle.grammar.specs.declared.Record.{Record}
 use Rattle.grammar.specs.declared.Record.TheVariants.{Add, Drop, Turn}
-use Rattle.grammar.specs.declared.Parsed.{Parsed}
-use Rattle.grammar.specs.declared.Parsed.TheVariants.{Line, Fault}
+use Rattle.grammar.specs.Parsed.{Parsed}
+use Rattle.grammar.specs.declared.Line.{Line}
 use Rattle.grammar.proofs.Outcomes.{fault_not_line}
 use Rattle.grammar.proofs.WordLoops.{same_bytes}
 use Rattle.grammar.proofs.LetterFields.{lettered_only, device_only}
@@ -36,7 +36,7 @@ pub record Told (t : List ℕ) (closed : Bool) (r : Record) : Type 0 where
 -- a verb that is read by formats tells so
 module _ (word : String) (fs : List Format) (made : Values fs → Record) (fits : (v : Values fs) → AllFit fs v → Fits (made v))
     (same : (v : Values fs) → record_fields (made v) ≡ bytes word ∷ texts fs v) where
-  verb_only : (t : List ℕ) → has_verb t word ≡ true → (closed : Bool) (r : Record) → read_from fs t closed 1 made ≡ Line r → Told t closed r
+  verb_only : (t : List ℕ) → has_verb t word ≡ true → (closed : Bool) (r : Record) → read_from fs t closed 1 made ≡ Ok (Line.Record r) → Told t closed r
   unfolding has_verb
   verb_only t verb closed r e =
       let rest : Rest fs t closed 1 made r = read_only fs t closed 1 made r e in
@@ -52,7 +52,7 @@ module _ (word : String) (fs : List Format) (made : Values fs → Record) (fits 
 module _ (d : Device) (fs : List Format) (made : Values fs → Record) (fits : (v : Values fs) → AllFit fs v → Fits (made v))
     (same : (v : Values fs) → record_fields (made v) ≡ bytes "open" ∷ (letter_of d ∷ []) ∷ texts fs v) where
   device_tells : (t : List ℕ) → has_verb t "open" ≡ true → field_at t 1 ≡ letter_of d ∷ [] → (closed : Bool) (r : Record)
-      → read_from fs t closed 2 made ≡ Line r → Told t closed r
+      → read_from fs t closed 2 made ≡ Ok (Line.Record r) → Told t closed r
   unfolding has_verb
   device_tells t verb letter closed r e =
       let rest : Rest fs t closed 2 made r = read_only fs t closed 2 made r e in
@@ -67,7 +67,7 @@ module _ (d : Device) (fs : List Format) (made : Values fs → Record) (fits : (
 
 -- each device's
 open_on_tells : (d : Device) (t : List ℕ) → has_verb t "open" ≡ true → field_at t 1 ≡ letter_of d ∷ [] → (closed : Bool) (r : Record)
-    → open_on t closed d ≡ Line r → Told t closed r
+    → open_on t closed d ≡ Ok (Line.Record r) → Told t closed r
 unfolding open_on open_formats open_as open_with line_from record_fields open_fields box_fields overflow_fields letter_of box_of
 open_on_tells G =
     device_tells G (decimal ∷ decimal ∷ decimal ∷ core ∷ []) (λ v. open_with G v.0 v.1.0 v.1.1.0 v.1.1.1.0 0)
@@ -83,7 +83,7 @@ open_on_tells B =
     device_tells B (decimal ∷ decimal ∷ decimal ∷ core ∷ []) (λ v. open_with B v.0 v.1.0 v.1.1.0 v.1.1.1.0 0)
     (λ v h. (h.0, h.1.0, omega arith, h.1.1.0, h.1.1.1.0)) (λ v. refl)
 
-open_tells : (t : List ℕ) → has_verb t "open" ≡ true → (closed : Bool) (r : Record) → open_line t closed ≡ Line r → Told t closed r
+open_tells : (t : List ℕ) → has_verb t "open" ≡ true → (closed : Bool) (r : Record) → open_line t closed ≡ Ok (Line.Record r) → Told t closed r
 unfolding open_line
 open_tells t verb closed r e =
     let (d, letter, rest) = device_only (lettered (field_at t 1)) 1 (open_on t closed) r e in
@@ -102,7 +102,7 @@ first_row {P = P} (row {b = true} {a = b} p ps) a e = let is : b ≡ a = cc in r
 first_row (row {b = false} p ps) a e = first_row ps a e
 
 -- each verb tells so
-verb_rows : (t : List ℕ) → Rows (λ read. (closed : Bool) (r : Record) → read t closed ≡ Line r → Told t closed r) (verbs t)
+verb_rows : (t : List ℕ) → Rows (λ read. (closed : Bool) (r : Record) → read t closed ≡ Ok (Line.Record r) → Told t closed r) (verbs t)
 unfolding verbs event_line packet_line offcore_line latency_line drop_line turn_line record_fields add_fields
 verb_rows t =
     row (open_tells t)
@@ -122,10 +122,10 @@ verb_rows t =
     four h = (h.0, h.1.0, h.1.1.0, h.1.1.1.0)
 
 -- a text that gives a record has its fields
-pub record_tells : (t : List ℕ) (closed : Bool) (r : Record) → record_of t closed ≡ Line r → Told t closed r
+pub record_tells : (t : List ℕ) (closed : Bool) (r : Record) → record_of t closed ≡ Ok (Line.Record r) → Told t closed r
 unfolding record_of
 record_tells t closed r e = go (first_holding (verbs t)) refl e
   where
-    go : (o : Option (List ℕ → Bool → Parsed)) → first_holding (verbs t) ≡ o → elim o [ None ↦ Fault 0 | Some read ↦ read t closed ] ≡ Line r → Told t closed r
+    go : (o : Option (List ℕ → Bool → Parsed)) → first_holding (verbs t) ≡ o → ◌≡◌ {A = Parsed} (elim o [ None ↦ Err 0 | Some read ↦ read t closed ]) (Ok (Line.Record r)) → Told t closed r
     go None p q = absurd (fault_not_line 0 r q)
     go (Some read) p q = first_row (verb_rows t) read p closed r q

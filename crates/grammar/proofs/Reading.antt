@@ -1,5 +1,5 @@
 -- A text whose fields are a record's, with its numbers in range, gives that record: the verb's row reads each number back. Assumes nothing.
-use Rattle.std.specs.Prelude.{Option}
+use Rattle.std.specs.Prelude.{Option, Ok}
 use mathlib.Core.Path.{◌≡◌, ◌∙◌}
 use mathlib.Core.Bool.{true}
 use mathlib.Core.List.{List}
@@ -17,7 +17,7 @@ use Rattle.grammar.specs.Fields.{fields, same_bytes_lem}
 use Rattle.grammar.specs.Verbs.{line_from, open_formats, open_as, open_with, open_on, open_line, event_line, packet_line, offcore_line, latency_line, drop_line, turn_line, has_verb, verbs, record_of}
 use Rattle.grammar.specs.declared.Record.{Record}
 use Rattle.grammar.specs.declared.Record.TheVariants.{Open, Add, Drop, Turn}
-use Rattle.grammar.specs.declared.Parsed.TheVariants.{Line}
+use Rattle.grammar.specs.declared.Line.{Line}
 use Rattle.grammar.proofs.Decimals.{decimal_reads}
 use Rattle.grammar.proofs.Hexes.{hex_reads}
 use Rattle.grammar.proofs.Cores.{core_reads, core_back}
@@ -30,7 +30,7 @@ setup d u f z c = record { device = d; usable = u; fixed = f; overflow = record 
 
 -- the fields behind a device's letter are read back
 device_read : (t : List ℕ) (d : Device) (u : CounterSet) (f z : ℕ) (c : Option ℕ) → OpenFits (setup d u f z c) → fields t ≡ open_fields (setup d u f z c)
-    → open_on t true (by_letter d) ≡ Line (Open (setup d u f z c))
+    → open_on t true (by_letter d) ≡ Ok (Line.Record (Open (setup d u f z c)))
 unfolding open_fields box_fields overflow_fields box_of open_on open_formats open_as open_with by_letter line_from both
 device_read t G u f z c h e =
     rw (e, decimal_reads u.0 h.0, decimal_reads f h.1, decimal_reads z h.3, core_reads c h.4, core_back c)
@@ -42,12 +42,12 @@ device_read t B u f z c h e =
     rw (e, decimal_reads u.0 h.0, decimal_reads f h.1, decimal_reads z h.3, core_reads c h.4, core_back c)
 
 -- the letter is, too
-open_read : (t : List ℕ) (s : Setup) → OpenFits s → fields t ≡ open_fields s → open_line t true ≡ Line (Open s)
+open_read : (t : List ℕ) (s : Setup) → OpenFits s → fields t ≡ open_fields s → open_line t true ≡ Ok (Line.Record (Open s))
 unfolding open_fields open_line
 open_read t s h e = rw (e, letter_reads s.device) (device_read t s.device s.usable s.fixed s.overflow.freeze s.overflow.core h e)
 
 -- a record's fields are read as the record
-pub fields_read : (t : List ℕ) (r : Record) → Fits r → fields t ≡ record_fields r → record_of t true ≡ Line r
+pub fields_read : (t : List ℕ) (r : Record) → Fits r → fields t ≡ record_fields r → record_of t true ≡ Ok (Line.Record r)
 unfolding verbs has_verb first_holding both same_bytes_lem bytes record_fields open_fields add_fields event_line packet_line offcore_line latency_line drop_line turn_line
 fields_read t (Open s) h e = read_by t true open_line (rw e) ∙ open_read t s h e
 fields_read t (Add id (Event c m a)) h e =

@@ -1,6 +1,6 @@
 -- A text is read as a record or has a field at fault, 0 to 7: no verb of a record asks for anything by name, and none has more fields. Assumes
 -- nothing.
-use Rattle.std.specs.Prelude.{Option, None, Some}
+use Rattle.std.specs.Prelude.{Option, None, Some, Ok, Err}
 use mathlib.Core.Path.{◌≡◌, refl}
 use mathlib.Core.Bool.{Bool, true, false}
 use mathlib.Core.List.{List, [], ◌∷◌}
@@ -18,16 +18,16 @@ use Rattle.grammar.specs.Verbs.{with_number, with_device, ended, is_whole, set_o
 use Rattle.grammar.specs.Parse.{is_closed, text_length, parse_line}
 use Rattle.grammar.specs.declared.Record.{Record}
 use Rattle.grammar.specs.declared.Record.TheVariants.{Add, Drop, Turn}
-use Rattle.grammar.specs.declared.Parsed.{Parsed}
-use Rattle.grammar.specs.declared.Parsed.TheVariants.{Line, Fault}
+use Rattle.grammar.specs.Parsed.{Parsed}
+use Rattle.grammar.specs.declared.Line.{Line}
 use Rattle.grammar.proofs.Formats.{Format, decimal, hex, core, Values, given, read_from}
 use Rattle.grammar.proofs.ReadBack.{Rows, last, row, first_row}
 use Rattle.grammar.proofs.LongLines.{long_lines}
 
 -- a record, or a field at fault
 pub data Settled : Parsed → Type 0 where
-  asks : (r : Record) → Settled (Line r)
-  faulty : (k : ℕ) → k ≤ 7 → Settled (Fault k)
+  asks : (r : Record) → Settled (Ok (Line.Record r))
+  faulty : (k : ℕ) → k ≤ 7 → Settled (Err k)
 
 number_settled : (x : Option ℕ) (k : ℕ) (next : ℕ → Parsed) → k ≤ 7 → ((n : ℕ) → Settled (next n)) → Settled (with_number x k next)
 number_settled (Some n) k next l h = h n
@@ -36,7 +36,7 @@ number_settled None k next l h = faulty k l
 ended_settled : (t : List ℕ) (closed : Bool) (n : ℕ) (r : Record) → n ≤ 7 → Settled (ended t closed n r)
 ended_settled t closed n r l = go (is_whole t closed n)
   where
-    go : (b : Bool) → Settled (pick b (Line r) (Fault n))
+    go : (b : Bool) → Settled (pick b (Ok (Line.Record r)) (Err n))
     go true = asks r
     go false = faulty n l
 
@@ -88,7 +88,7 @@ pub record_settled : (t : List ℕ) (closed : Bool) → Settled (record_of t clo
 unfolding record_of
 record_settled t closed = go (first_holding (verbs t)) refl
   where
-    go : (o : Option (List ℕ → Bool → Parsed)) → first_holding (verbs t) ≡ o → Settled (elim o [ None ↦ Fault 0 | Some read ↦ read t closed ])
+    go : (o : Option (List ℕ → Bool → Parsed)) → first_holding (verbs t) ≡ o → Settled (elim o [ None ↦ Err 0 | Some read ↦ read t closed ])
     go None e = faulty 0 (omega arith)
     go (Some read) e = first_row (verbs_settled t) read e closed
 

@@ -1,6 +1,6 @@
 -- A text without its newline has the field at fault that it has where it is closed and too long: the one after its last, or one before that.
 -- Assumes nothing.
-use Rattle.std.specs.Prelude.{Option, None, Some}
+use Rattle.std.specs.Prelude.{Option, None, Some, Ok, Err}
 use mathlib.Core.Path.{◌≡◌, refl, ap}
 use mathlib.Core.Bool.{Bool, true, false}
 use mathlib.Core.List.{List, [], ◌∷◌}
@@ -18,8 +18,8 @@ use Rattle.grammar.specs.Verbs.{with_number, with_device, ended, set_of, Made, l
 use Rattle.grammar.specs.Parse.{too_long_lem}
 use Rattle.grammar.specs.declared.Record.{Record}
 use Rattle.grammar.specs.declared.Record.TheVariants.{Add, Drop, Turn}
-use Rattle.grammar.specs.declared.Parsed.{Parsed}
-use Rattle.grammar.specs.declared.Parsed.TheVariants.{Line, Fault}
+use Rattle.grammar.specs.Parsed.{Parsed}
+use Rattle.grammar.specs.declared.Line.{Line}
 use Rattle.grammar.proofs.Formats.{Format, decimal, hex, core, Values, given, read_from}
 use Rattle.grammar.proofs.ReadBack.{Rows, last, row, first_row}
 
@@ -38,8 +38,8 @@ module _ (t : List ℕ) where
   unfolding too_long_lem both
   ended_unclosed n r = go (eqb (length (fields t)) n) refl
     where
-      go : (b : Bool) → eqb (length (fields t)) n ≡ b → too_long_lem (pick b (Line r) (Fault n)) (length (fields t)) ≡ Fault n
-      go true e = ap Fault (eqb-true (length (fields t)) n e)
+      go : (b : Bool) → eqb (length (fields t)) n ≡ b → too_long_lem (pick b (Ok (Line.Record r)) (Err n)) (length (fields t)) ≡ Err n
+      go true e = ap Err (eqb-true (length (fields t)) n e)
       go false e = refl
 
   line_unclosed : (ws : List ℕ) (first i : ℕ) (values : List ℕ) (made : Made) → Unclosed (line_from ws t true first i values made) (line_from ws t false first i values made)
@@ -84,6 +84,6 @@ module _ (t : List ℕ) where
   record_unclosed = go (first_holding (verbs t)) refl
     where
       go : (o : Option (List ℕ → Bool → Parsed)) → first_holding (verbs t) ≡ o
-          → Unclosed (elim o [ None ↦ Fault 0 | Some read ↦ read t true ]) (elim o [ None ↦ Fault 0 | Some read ↦ read t false ])
+          → Unclosed (elim o [ None ↦ Err 0 | Some read ↦ read t true ]) (elim o [ None ↦ Err 0 | Some read ↦ read t false ])
       go None e = refl
       go (Some read) e = first_row verbs_unclosed read e

@@ -1,5 +1,5 @@
 -- The record of a text by the first verb that it has. Assumes nothing.
-use Rattle.std.specs.Prelude.{None, Some}
+use Rattle.std.specs.Prelude.{None, Some, Err}
 use mathlib.Core.Path.{◌≡◌}
 use mathlib.Core.Bool.{Bool}
 use mathlib.Core.List.{List}
@@ -7,8 +7,7 @@ use Prim.Native.Nat.{ℕ}
 use lib.ListN.{drop}
 use Rattle.requests.specs.Choice.{first_holding}
 use Rattle.grammar.specs.Verbs.{verbs, record_of}
-use Rattle.grammar.specs.declared.Parsed.{Parsed}
-use Rattle.grammar.specs.declared.Parsed.TheVariants.{Fault}
+use Rattle.grammar.specs.Parsed.{Parsed}
 
 -- the first k verbs may be passed over
 abbrev pub Past : List ℕ → ℕ → Type 0
@@ -21,6 +20,6 @@ module _ (text : List ℕ) (closed : Bool) where
   read_by read e = rw (e, record_of)
 
   -- it has no verb
-  pub no_verb : first_holding (verbs text) ≡ None → record_of text closed ≡ Fault 0
+  pub no_verb : first_holding (verbs text) ≡ None → record_of text closed ≡ Err 0
   unfolding record_of
   no_verb e = rw (e, record_of)

@@ -1,5 +1,5 @@
 -- Document 01, 'Lines': lines in the grammar and beside it, and what each is.
-use Rattle.std.specs.Prelude.{◌≡◌, ℕ, eqb, Option, None, Some}
+use Rattle.std.specs.Prelude.{◌≡◌, ℕ, eqb, Option, None, Some, Ok, Err}
 use mathlib.Core.List.{List, [], ◌∷◌, ◌++◌, map, flat_map}
 use Prim.Native.String.{String}
 use Rattle.requests.specs.declared.CounterSet.{CounterSet}
@@ -10,8 +10,8 @@ use Rattle.requests.specs.Choice.{pick}
 use Rattle.grammar.specs.Text.{bytes, tab, newline}
 use Rattle.grammar.specs.Parse.{parse_line}
 use Rattle.grammar.specs.declared.Record.TheVariants.{Open, Add, Drop, Turn}
-use Rattle.grammar.specs.declared.Parsed.{Parsed}
-use Rattle.grammar.specs.declared.Parsed.TheVariants.{Line, Fault}
+use Rattle.grammar.specs.Parsed.{Parsed}
+use Rattle.grammar.specs.declared.Line.{Line}
 
 -- a text as it is typed: a blank stands for a tab
 unfoldable pub tabbed : String → List ℕ
@@ -35,7 +35,7 @@ set n = record { 0 = n }
 
 -- what opens a device with a usable set, fixed enables, freeze and a core
 abbrev opens : Device → ℕ → ℕ → ℕ → Option ℕ → Parsed
-opens d usable fixed freeze core = Line (Open (record { device = d; usable = set usable; fixed = fixed; overflow = record { freeze = freeze; core = core } }))
+opens d usable fixed freeze core = Ok (Line.Record (Open (record { device = d; usable = set usable; fixed = fixed; overflow = record { freeze = freeze; core = core } })))
 
 abbrev pub examples : List Example
 examples =
@@ -50,55 +50,55 @@ examples =
     ∷ closed "open S 0 99999 2 8" (opens S 0 99999 2 (Some 8))
     ∷ closed "open C 64 1 8 99999 99999" (opens (C 8) 64 1 99999 (Some 99999))
     ∷ closed "open C 63 0 10 0 -" (opens (C 10) 63 0 0 None)
-    ∷ closed "event 1 C0 00 1" (Line (Add 1 (Event 0xC0 0x00 (set 1))))
-    ∷ closed "packet 2 00000000000000A5 8000000000000000 8" (Line (Add 2 (Packet 0xA5 0x8000000000000000 (set 8))))
-    ∷ closed "offcore 3 0000000000010001 15" (Line (Add 3 (Offcore 0x10001 (set 15))))
-    ∷ closed "latency 65535 0001 4 8" (Line (Add 65535 (Latency 0x0001 (set 4) (set 8))))
-    ∷ closed "drop 0" (Line (Drop 0))
-    ∷ closed "turn" (Line Turn)
+    ∷ closed "event 1 C0 00 1" (Ok (Line.Record (Add 1 (Event 0xC0 0x00 (set 1)))))
+    ∷ closed "packet 2 00000000000000A5 8000000000000000 8" (Ok (Line.Record (Add 2 (Packet 0xA5 0x8000000000000000 (set 8)))))
+    ∷ closed "offcore 3 0000000000010001 15" (Ok (Line.Record (Add 3 (Offcore 0x10001 (set 15)))))
+    ∷ closed "latency 65535 0001 4 8" (Ok (Line.Record (Add 65535 (Latency 0x0001 (set 4) (set 8)))))
+    ∷ closed "drop 0" (Ok (Line.Record (Drop 0)))
+    ∷ closed "turn" (Ok (Line.Record Turn))
     -- the number of the field at fault: the verb, a letter, a leading zero, six digits, lower case, a wrong width
-    ∷ closed "" (Fault 0)
-    ∷ closed "Turn" (Fault 0)
-    ∷ closed "open D 15 0 0 -" (Fault 1)
-    ∷ closed "open GS 15 0 0 -" (Fault 1)
-    ∷ closed "open G 15 08 0 -" (Fault 3)
-    ∷ closed "open G 15 -1 0 -" (Fault 3)
-    ∷ closed "open C 63 0 07 0 -" (Fault 4)
+    ∷ closed "" (Err 0)
+    ∷ closed "Turn" (Err 0)
+    ∷ closed "open D 15 0 0 -" (Err 1)
+    ∷ closed "open GS 15 0 0 -" (Err 1)
+    ∷ closed "open G 15 08 0 -" (Err 3)
+    ∷ closed "open G 15 -1 0 -" (Err 3)
+    ∷ closed "open C 63 0 07 0 -" (Err 4)
     -- `-` is a core and no freeze, and nothing else that is no decimal is one
-    ∷ closed "open S 15 0 - 0" (Fault 4)
-    ∷ closed "open S 15 0 01 -" (Fault 4)
-    ∷ closed "open S 15 0 0 01" (Fault 5)
-    ∷ closed "open S 15 0 0 --" (Fault 5)
-    ∷ closed "open S 15 0 0 -1" (Fault 5)
-    ∷ closed "open S 15 0 0 100000" (Fault 5)
-    ∷ closed "open C 63 0 7 - 0" (Fault 5)
-    ∷ closed "open C 63 0 7 1 A" (Fault 6)
-    ∷ closed "drop 01" (Fault 1)
-    ∷ closed "drop 123456" (Fault 1)
-    ∷ closed "event 1 c0 00 1" (Fault 2)
-    ∷ closed "event 1 C0 0 1" (Fault 3)
+    ∷ closed "open S 15 0 - 0" (Err 4)
+    ∷ closed "open S 15 0 01 -" (Err 4)
+    ∷ closed "open S 15 0 0 01" (Err 5)
+    ∷ closed "open S 15 0 0 --" (Err 5)
+    ∷ closed "open S 15 0 0 -1" (Err 5)
+    ∷ closed "open S 15 0 0 100000" (Err 5)
+    ∷ closed "open C 63 0 7 - 0" (Err 5)
+    ∷ closed "open C 63 0 7 1 A" (Err 6)
+    ∷ closed "drop 01" (Err 1)
+    ∷ closed "drop 123456" (Err 1)
+    ∷ closed "event 1 c0 00 1" (Err 2)
+    ∷ closed "event 1 C0 0 1" (Err 3)
     -- too few fields, too many, and two tabs
-    ∷ closed "event 1 C0" (Fault 3)
-    ∷ closed "open G 15" (Fault 3)
-    ∷ closed "open G 15 0" (Fault 4)
-    ∷ closed "open S 15 0 1" (Fault 5)
-    ∷ closed "open S 15 0 1 " (Fault 5)
-    ∷ closed "open C 63 0 0 -" (Fault 5)
-    ∷ closed "open C 63 0 7 0" (Fault 6)
-    ∷ closed "open G 15 0 0 - 0" (Fault 6)
-    ∷ closed "open S 15 0 7 0 -" (Fault 6)
-    ∷ closed "open C 63 0 7 0 - 0" (Fault 7)
-    ∷ closed "open B 15 0" (Fault 4)
-    ∷ closed "open B 15 0 7 0 -" (Fault 6)
-    ∷ closed "turn " (Fault 1)
-    ∷ closed "drop 1 2" (Fault 2)
-    ∷ closed "drop  1" (Fault 1)
+    ∷ closed "event 1 C0" (Err 3)
+    ∷ closed "open G 15" (Err 3)
+    ∷ closed "open G 15 0" (Err 4)
+    ∷ closed "open S 15 0 1" (Err 5)
+    ∷ closed "open S 15 0 1 " (Err 5)
+    ∷ closed "open C 63 0 0 -" (Err 5)
+    ∷ closed "open C 63 0 7 0" (Err 6)
+    ∷ closed "open G 15 0 0 - 0" (Err 6)
+    ∷ closed "open S 15 0 7 0 -" (Err 6)
+    ∷ closed "open C 63 0 7 0 - 0" (Err 7)
+    ∷ closed "open B 15 0" (Err 4)
+    ∷ closed "open B 15 0 7 0 -" (Err 6)
+    ∷ closed "turn " (Err 1)
+    ∷ closed "drop 1 2" (Err 2)
+    ∷ closed "drop  1" (Err 1)
     -- "closed by a newline": none, and one with a carriage return before it
-    ∷ record { line = tabbed "turn"; parsed = Fault 1 }
-    ∷ record { line = tabbed "event 2 C"; parsed = Fault 2 }
-    ∷ record { line = tabbed "event 2 C0"; parsed = Fault 3 }
-    ∷ record { line = tabbed "drop 5 6"; parsed = Fault 2 }
-    ∷ record { line = tabbed "drop 1" ++ 13 ∷ newline ∷ []; parsed = Fault 1 }
+    ∷ record { line = tabbed "turn"; parsed = Err 1 }
+    ∷ record { line = tabbed "event 2 C"; parsed = Err 2 }
+    ∷ record { line = tabbed "event 2 C0"; parsed = Err 3 }
+    ∷ record { line = tabbed "drop 5 6"; parsed = Err 2 }
+    ∷ record { line = tabbed "drop 1" ++ 13 ∷ newline ∷ []; parsed = Err 1 }
     ∷ []
 
 -- each is read so

@@ -5,6 +5,7 @@ pub mod Fields
 pub mod Numbers
 pub mod Letters
 pub mod Verbs
+pub mod Parsed
 pub mod Parse
 -- Statements: what is claimed of it.
 pub mod Grammar

@@ -1,13 +1,12 @@
 -- Document 01, 'Lines': what a line of bytes is.
-use Rattle.std.specs.Prelude.{Bool, true, false, List, ℕ, ◌-◌, length, get_or, take, ltb, eqb, Option, None, Some}
+use Rattle.std.specs.Prelude.{Bool, true, false, List, ℕ, ◌-◌, length, get_or, take, ltb, eqb, Option, None, Some, Ok, Err}
 use Rattle.requests.specs.declared.Refusal.{Refusal}
 use Rattle.requests.specs.declared.Refusal.TheVariants.{NotInGrammar}
 use Rattle.requests.specs.Choice.{pick}
 use Rattle.grammar.specs.Text.{newline}
 use Rattle.grammar.specs.Fields.{fields}
 use Rattle.grammar.specs.Verbs.{record_of}
-use Rattle.grammar.specs.declared.Parsed.{Parsed}
-use Rattle.grammar.specs.declared.Parsed.TheVariants.{Line, Named, Fault}
+use Rattle.grammar.specs.Parsed.{Parsed}
 
 -- "at most 80 bytes"
 unfoldable pub longest : ℕ
@@ -15,9 +14,8 @@ longest = 80
 
 -- no record where the line is longer; at fault is then the field after the last
 unfoldable pub too_long_lem : Parsed → ℕ → Parsed
-too_long_lem (Line r) n = Fault n
-too_long_lem (Named id r) n = Fault n
-too_long_lem (Fault k) n = Fault k
+too_long_lem (Ok asked) n = Err n
+too_long_lem (Err k) n = Err k
 
 -- what a text is, closed by a newline or not, whole or the first 80 bytes of a longer one
 unfoldable pub parse_text : List ℕ → Bool → Bool → Parsed
@@ -42,6 +40,5 @@ parse_line line = parse_text (text_of line) (is_closed line) (ltb longest (text_
 -- by which row of the refusal table a line is refused for what it is: by none where it is a record or a request by name; by "1: the line is not
 -- in the grammar" whichever field is at fault
 unfoldable pub parsed_refusal : Parsed → Option Refusal
-parsed_refusal (Line r) = None
-parsed_refusal (Named id r) = None
-parsed_refusal (Fault k) = Some NotInGrammar
+parsed_refusal (Ok asked) = None
+parsed_refusal (Err k) = Some NotInGrammar

@@ -1,5 +1,5 @@
 -- Document 01, 'Lines': the record of each verb. Fields are read from the left; a missing field counts as an empty one.
-use Rattle.std.specs.Prelude.{Bool, List, [], ◌∷◌, ℕ, ◌+◌, length, get_or, set, eqb, Option, None, Some}
+use Rattle.std.specs.Prelude.{Bool, List, [], ◌∷◌, ℕ, ◌+◌, length, get_or, set, eqb, Option, None, Some, Ok, Err}
 use Prim.Native.String.{String}
 use Rattle.requests.specs.declared.Device.{Device}
 use Rattle.requests.specs.declared.Device.TheVariants.{G, S, C, B}
@@ -12,13 +12,13 @@ use Rattle.grammar.specs.Letters.{lettered}
 use Rattle.grammar.specs.Numbers.{decimal_of, hex_of, core_of, decimal_format, core_format, number_of}
 use Rattle.grammar.specs.declared.Record.{Record}
 use Rattle.grammar.specs.declared.Record.TheVariants.{Open, Add, Drop, Turn}
-use Rattle.grammar.specs.declared.Parsed.{Parsed}
-use Rattle.grammar.specs.declared.Parsed.TheVariants.{Line, Fault}
+use Rattle.grammar.specs.Parsed.{Parsed}
+use Rattle.grammar.specs.declared.Line.{Line}
 
 -- what follows a number, or the field at fault
 abbrev pub with_number : Option ℕ → ℕ → (ℕ → Parsed) → Parsed
 with_number (Some n) k next = next n
-with_number None k next = Fault k
+with_number None k next = Err k
 
 -- whether a text has n fields in all, and is closed by a newline
 abbrev pub is_whole : List ℕ → Bool → ℕ → Bool
@@ -26,7 +26,7 @@ is_whole text closed n = both closed (eqb (length (fields text)) n)
 
 -- a record of n fields in all, closed by a newline
 abbrev pub ended : List ℕ → Bool → ℕ → Record → Parsed
-ended text closed n r = pick (is_whole text closed n) (Line r) (Fault n)
+ended text closed n r = pick (is_whole text closed n) (Ok (Line.Record r)) (Err n)
 
 -- a set that is given as a number
 abbrev pub set_of : ℕ → CounterSet
@@ -50,7 +50,7 @@ number_line first formats t closed made = line_from formats t closed first 0 (0 
 -- what follows a device, or the field at fault
 abbrev pub with_device : Option Device → ℕ → (Device → Parsed) → Parsed
 with_device (Some d) k next = next d
-with_device None k next = Fault k
+with_device None k next = Err k
 
 -- the formats of the fields behind a device's letter: usable, fixed, the box on C, freeze and core
 unfoldable pub open_formats : Device → List ℕ
@@ -139,4 +139,4 @@ verbs t =
 
 -- the record of a text that is closed by a newline, or not
 unfoldable pub record_of : List ℕ → Bool → Parsed
-record_of t closed = elim (first_holding (verbs t)) [ None ↦ Fault 0 | Some read ↦ read t closed ]
+record_of t closed = elim (first_holding (verbs t)) [ None ↦ Err 0 | Some read ↦ read t closed ]

@@ -15,11 +15,12 @@ pub enum Record {
     Turn,
 }
 
-// What a line is: a record; the add of a request that is asked for by name, which has fields of its own; or neither, with the first field that
-// breaks the grammar, counted from 0 at the verb.
+// What a line asks for: a record; or the add of a request that is asked for by name, which has fields of its own.
 #[derive(Clone, Copy)]
-pub enum Parsed {
-    Line(Record),
+pub enum Line {
+    Record(Record),
     Named { id: u64, request: Request },
-    Fault(usize),
 }
+
+// What a line is: what it asks for; or nothing, with the first field that breaks the grammar, counted from 0 at the verb.
+pub type Parsed = Result<Line, usize>;

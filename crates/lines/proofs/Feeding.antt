@@ -9,7 +9,7 @@ use lib.ListN.{length, take, drop, drop_of_length-le, take-append-drop, length-a
 use lib.Seq.{take-length, drop-length, drop-drop, take_at, drop_at}
 use Rattle.grammar.specs.Text.{newline}
 use Rattle.sessions.specs.declared.Session.{Session}
-use Rattle.grammar.specs.declared.Parsed.{Parsed}
+use Rattle.grammar.specs.Parsed.{Parsed}
 use Rattle.answers.specs.Replies.{parsed_reply}
 use Rattle.answers.specs.ReplyLength.{reply_room}
 use Rattle.responder.specs.Written.{at_start, Left, replied_in, replied_out}

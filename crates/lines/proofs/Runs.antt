@@ -23,7 +23,7 @@ use Rattle.std.specs.List.{AllWithin, HoldsAt}
 use Rattle.grammar.specs.Text.{newline}
 use Rattle.grammar.specs.Parse.{longest}
 use Rattle.parser.specs.ParseWith.{parse_text_with}
-use Rattle.grammar.specs.declared.Parsed.{Parsed}
+use Rattle.grammar.specs.Parsed.{Parsed}
 use Rattle.answers.specs.Replies.{parsed_reply}
 use Rattle.names.specs.Lists.{NameLists}
 use Rattle.lines.specs.Pieces.{kept_line, state_of, FirstNewline, KeptOn, EndedLine}

@@ -5,7 +5,7 @@ use Rattle.requests.specs.declared.Device.{Device}
 use Rattle.names.specs.Lists.{NameLists}
 use Rattle.parser.specs.ParseWith.{parse_text_with}
 use Rattle.sessions.specs.declared.Session.{Session}
-use Rattle.grammar.specs.declared.Parsed.{Parsed}
+use Rattle.grammar.specs.Parsed.{Parsed}
 use Rattle.streams.specs.Stream.{NewlineFree, feed_state}
 use Rattle.lines.specs.declared.Extent.{Extent}
 use Rattle.streams.specs.declared.Feed.{Feed}

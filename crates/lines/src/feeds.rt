@@ -48,6 +48,7 @@ fn too_long<'a>(state: Feed, text: &[u8], site: &'a [u8], house: &'a [u8], room:
     let mut next = state;
     let mut taken = 0;
     let mut left = room;
+    // Form: a turn goes on by as many bytes as `feed` took, so no `for` fits.
     while taken < text.len() {
         let mut answers = [0u8; ANSWERS];
         let fed = feed(next, &text[taken..], site, house, &mut answers);
@@ -77,6 +78,7 @@ fn pass<'a>(
     let mut next = state;
     let mut taken = 0;
     let mut written = at;
+    // Form: a turn goes on by as many bytes as `feed` took, so no `for` fits.
     while taken < text.len() {
         let mut answers = [0u8; ANSWERS];
         let fed = feed(next, &text[taken..], site, house, &mut answers);

@@ -1,6 +1,6 @@
 -- The field at fault is the first that breaks the grammar: the fields before it begin a record or a request by name, and neither goes on with it, for
 -- it would have it at fault too. Assumes nothing.
-use Rattle.std.specs.Prelude.{Option, None, Some}
+use Rattle.std.specs.Prelude.{Option, None, Some, Ok, Err}
 use mathlib.Core.Path.{◌≡◌, refl, ap, sym, ◌∙◌}
 use mathlib.Core.Bool.{Bool, true, false, true≢false}
 use mathlib.Core.List.{List, [], ◌∷◌, ◌++◌}
@@ -22,8 +22,8 @@ use Rattle.grammar.specs.Verbs.{is_whole, set_of, has_verb, record_of}
 use Rattle.grammar.specs.Parse.{is_closed, text_length}
 use Rattle.grammar.specs.FirstBroken.{line_fields}
 use Rattle.grammar.specs.declared.Record.{Record}
-use Rattle.grammar.specs.declared.Parsed.{Parsed}
-use Rattle.grammar.specs.declared.Parsed.TheVariants.{Line, Named, Fault}
+use Rattle.grammar.specs.Parsed.{Parsed}
+use Rattle.grammar.specs.declared.Line.{Line}
 use Rattle.grammar.proofs.Outcomes.{bad_not_value, fault_not_line}
 use Rattle.grammar.proofs.Decimals.{decimal_only}
 use Rattle.grammar.proofs.WordLoops.{same_bytes}
@@ -81,16 +81,16 @@ begins_named fs k id name a fits same = as_named (record { id = id; name = name;
 record TellsWith (read : List ℕ → Bool → Parsed) (t : List ℕ) (k : ℕ) : Type 0 where
   till : k ≤ length (fields t)
   begins : Begins (fields t) k
-  same : (p : List ℕ) (closed : Bool) → Agree t p k → read p closed ≡ Fault k
+  same : (p : List ℕ) (closed : Bool) → Agree t p k → read p closed ≡ Err k
 
-fault_not_named : (k id : ℕ) (r : Request) → Fault k ≡ Named id r → ⊥
+fault_not_named : (k id : ℕ) (r : Request) → Err k ≡ Ok (Line.Named id r) → ⊥
 fault_not_named k id r e = let z : ◌≡◌ {A = ℕ} 0 1 = cc in omega arith
 
 module _ (n : NameLists) (l : AreLists n) (d : Device) where
-  added : (name : List ℕ) (id : ℕ) (a : CounterSet) → add_named n d name id a ≡ Named id (request_named n name d a)
+  added : (name : List ℕ) (id : ℕ) (a : CounterSet) → add_named n d name id a ≡ Ok (Line.Named id (request_named n name d a))
   added name id a = add_formed n d name id a (list_grammar.both_formed n l)
 
-  named_fault : (t : List ℕ) → has_verb t "named" ≡ true → (closed : Bool) (k : ℕ) → named_line n d t closed ≡ Fault k → TellsWith (named_line n d) t k
+  named_fault : (t : List ℕ) → has_verb t "named" ≡ true → (closed : Bool) (k : ℕ) → named_line n d t closed ≡ Err k → TellsWith (named_line n d) t k
   unfolding has_verb named_line
   named_fault t verb closed k e = go (decimal_of (field_at t 1)) refl (is_name (field_at t 2)) refl (decimal_of (field_at t 3)) refl (is_whole t closed 4) refl
     where
@@ -106,7 +106,7 @@ module _ (n : NameLists) (l : AreLists n) (d : Device) where
       go : (x : Option ℕ) → decimal_of (field_at t 1) ≡ x → (b : Bool) → is_name (field_at t 2) ≡ b → (y : Option ℕ) → decimal_of (field_at t 3) ≡ y
           → (w : Bool) → is_whole t closed 4 ≡ w → TellsWith (named_line n d) t k
       go None p b q y r w u =
-          let at : Fault 1 ≡ Fault k = rw p at e in
+          let at : Err 1 ≡ Err k = rw p at e in
           let is : 1 ≡ k = cc in
           rw (← is) (record {
             till = some_fields t;
@@ -114,7 +114,7 @@ module _ (n : NameLists) (l : AreLists n) (d : Device) where
             same = λ m c a. rw (a.alike 1 (omega arith), p);
           })
       go (Some id) p false q y r w u =
-          let at : Fault 2 ≡ Fault k = rw (p, q) at e in
+          let at : Err 2 ≡ Err k = rw (p, q) at e in
           let is : 2 ≡ k = cc in
           let first = decimal_only (field_at t 1) id p in
           rw (← is) (record {
@@ -123,7 +123,7 @@ module _ (n : NameLists) (l : AreLists n) (d : Device) where
             same = λ m c a. rw (a.alike 1 (omega arith), a.alike 2 (omega arith), p, q);
           })
       go (Some id) p true q None r w u =
-          let at : Fault 3 ≡ Fault k = rw (p, q, r) at e in
+          let at : Err 3 ≡ Err k = rw (p, q, r) at e in
           let is : 3 ≡ k = cc in
           let first = decimal_only (field_at t 1) id p in
           rw (← is) (record {
@@ -132,7 +132,7 @@ module _ (n : NameLists) (l : AreLists n) (d : Device) where
             same = λ m c a. rw (a.alike 1 (omega arith), a.alike 2 (omega arith), a.alike 3 (omega arith), p, q, r);
           })
       go (Some id) p true q (Some v) r false u =
-          let at : Fault 4 ≡ Fault k = rw (p, q, r, u) at e in
+          let at : Err 4 ≡ Err k = rw (p, q, r, u) at e in
           let is : 4 ≡ k = cc in
           let first = decimal_only (field_at t 1) id p in
           let last = decimal_only (field_at t 3) v r in
@@ -142,7 +142,7 @@ module _ (n : NameLists) (l : AreLists n) (d : Device) where
             same = λ m c a. rw (a.alike 1 (omega arith), a.alike 2 (omega arith), a.alike 3 (omega arith), p, q, r, more_fields m c 4 a.other);
           })
       go (Some id) p true q (Some v) r true u =
-          let at : add_named n d (field_at t 2) id (set_of v) ≡ Fault k = rw (p, q, r, u) at e in
+          let at : add_named n d (field_at t 2) id (set_of v) ≡ Err k = rw (p, q, r, u) at e in
           absurd (fault_not_named k id (request_named n (field_at t 2) d (set_of v)) (sym at ∙ added (field_at t 2) id (set_of v)))
 
   -- ---- every text
@@ -151,7 +151,7 @@ module _ (n : NameLists) (l : AreLists n) (d : Device) where
   unfolding has_verb
   same_verb t p b same e = rw same e
 
-  with_fault : (t : List ℕ) (closed : Bool) (k : ℕ) → record_with n d t closed ≡ Fault k → TellsWith (record_with n d) t k
+  with_fault : (t : List ℕ) (closed : Bool) (k : ℕ) → record_with n d t closed ≡ Err k → TellsWith (record_with n d) t k
   with_fault t closed k e = go (has_verb t "named") refl
     where
       go : (b : Bool) → has_verb t "named" ≡ b → TellsWith (record_with n d) t k
@@ -171,15 +171,15 @@ module _ (n : NameLists) (l : AreLists n) (d : Device) where
           }
 
   -- a record's fields are read as the record here too
-  with_record : (t : List ℕ) (r : Record) → Fits r → fields t ≡ record_fields r → record_with n d t true ≡ Line r
+  with_record : (t : List ℕ) (r : Record) → Fits r → fields t ≡ record_fields r → record_with n d t true ≡ Ok (Line.Record r)
   with_record t r fits e = go (has_verb t "named") refl
     where
-      go : (b : Bool) → has_verb t "named" ≡ b → record_with n d t true ≡ Line r
+      go : (b : Bool) → has_verb t "named" ≡ b → record_with n d t true ≡ Ok (Line.Record r)
       go true v = absurd (fault_not_line 0 r (sym (named_no_record t true v) ∙ fields_read t r fits e))
       go false v = asked_record n d t true v ∙ fields_read t r fits e
 
   -- nothing goes on with the field at fault
-  goes_on : (t : List ℕ) (closed : Bool) (k : ℕ) → record_with n d t closed ≡ Fault k → k < length (fields t) → ¬ Begins (fields t) (suc k)
+  goes_on : (t : List ℕ) (closed : Bool) (k : ℕ) → record_with n d t closed ≡ Err k → k < length (fields t) → ¬ Begins (fields t) (suc k)
   goes_on t closed k e h (as_record b) =
       let w : records.TextOf b.of = records.record_written b.of b.fits in
       let a : Agree t w.text k = agree t w.text k h (ap (take (suc k)) w.parts ∙ b.same) in
@@ -187,14 +187,14 @@ module _ (n : NameLists) (l : AreLists n) (d : Device) where
   goes_on t closed k e h (as_named b) =
       let w : TextOf b.id b.name b.allowed = named_written b.id b.name b.allowed b.fits in
       let a : Agree t w.text k = agree t w.text k h (ap (take (suc k)) w.says.parts ∙ b.same) in
-      let asks : record_with n d w.text true ≡ Named b.id (request_named n b.name d b.allowed) =
+      let asks : record_with n d w.text true ≡ Ok (Line.Named b.id (request_named n b.name d b.allowed)) =
       asked_named n d w.text true (said_verb n d w.text b.id b.name b.allowed w.says)
       ∙ said_line n d w.text b.id b.name b.allowed w.says ∙ added b.name b.id b.allowed in
       fault_not_named k b.id _ (sym ((with_fault t closed k e).same w.text true a) ∙ asks)
 
 -- ---- the statement
 
-outside : (n : NameLists) (d : Device) (line : List ℕ) (k : ℕ) → AreLists n → parse_line_with n d line ≡ Fault k → Outside line
+outside : (n : NameLists) (d : Device) (line : List ℕ) (k : ℕ) → AreLists n → parse_line_with n d line ≡ Err k → Outside line
 outside n d line k l e =
     record {
       no_record = λ r is. fault_not_line k r (sym e ∙ parsed_lines.record_line n d line r is);
@@ -219,27 +219,27 @@ fewer fs j k h (as_named b) = begins_named fs j b.id b.name b.allowed b.fits (fe
 
 -- a line outside the grammar has its field at fault beside lists without a row, too
 module _ (line : List ℕ) (out : Outside line) where
-  read_whole : (n : NameLists) (d : Device) (k : ℕ) → parse_line_with n d line ≡ Fault k
-      → record_with no_rows G (take (text_length line) line) (is_closed line) ≡ Fault k
+  read_whole : (n : NameLists) (d : Device) (k : ℕ) → parse_line_with n d line ≡ Err k
+      → record_with no_rows G (take (text_length line) line) (is_closed line) ≡ Err k
   read_whole n d k e =
       let (j, f) = other_lines line out in
-      let both_at : Fault j ≡ Fault k = sym (f n d) ∙ e in
+      let both_at : Err j ≡ Err k = sym (f n d) ∙ e in
       sym (long_lines.whole no_rows G line) ∙ f no_rows G ∙ both_at
 
-  told : (n : NameLists) (d : Device) (k : ℕ) → parse_line_with n d line ≡ Fault k → TellsWith (record_with no_rows G) (take (text_length line) line) k
+  told : (n : NameLists) (d : Device) (k : ℕ) → parse_line_with n d line ≡ Err k → TellsWith (record_with no_rows G) (take (text_length line) line) k
   told n d k e = with_fault no_rows no_rows_lists G (take (text_length line) line) (is_closed line) k (read_whole n d k e)
 
-  broken : (n : NameLists) (d : Device) (k : ℕ) → parse_line_with n d line ≡ Fault k → k < length (line_fields line) → ¬ Begins (line_fields line) (suc k)
+  broken : (n : NameLists) (d : Device) (k : ℕ) → parse_line_with n d line ≡ Err k → k < length (line_fields line) → ¬ Begins (line_fields line) (suc k)
   broken n d k e = goes_on no_rows no_rows_lists G (take (text_length line) line) (is_closed line) k (read_whole n d k e)
 
   only : (n : NameLists) (d : Device) (k : ℕ) → k ≤ length (line_fields line) → Begins (line_fields line) k
-      → (k < length (line_fields line) → ¬ Begins (line_fields line) (suc k)) → parse_line_with n d line ≡ Fault k
+      → (k < length (line_fields line) → ¬ Begins (line_fields line) (suc k)) → parse_line_with n d line ≡ Err k
   only n d k within good wrong = let (j, f) = other_lines line out in go j (f n d) (dec_lt j k) (dec_lt k j)
     where
-      go : (j : ℕ) → parse_line_with n d line ≡ Fault j → Dec (j < k) → Dec (k < j) → parse_line_with n d line ≡ Fault k
+      go : (j : ℕ) → parse_line_with n d line ≡ Err j → Dec (j < k) → Dec (k < j) → parse_line_with n d line ≡ Err k
       go j e (yes h) c = absurd (broken n d j e (omega arith) (fewer (line_fields line) (suc j) k h good))
       go j e (no h) (yes l) = absurd (wrong (omega (arith, (told n d j e).till)) (fewer (line_fields line) (suc k) j l (told n d j e).begins))
-      go j e (no h) (no l) = e ∙ ap Fault (omega arith)
+      go j e (no h) (no l) = e ∙ ap Err (omega arith)
 
 pub first_broken : FirstBroken
 first_broken =

@@ -1,4 +1,5 @@
 -- A line that does not have the verb `named` is read as one of the other verbs, and one that has it is no record. Assumes nothing.
+use Rattle.std.specs.Prelude.{Err}
 use mathlib.Core.Path.{◌≡◌, refl}
 use mathlib.Core.Bool.{Bool, true, false}
 use mathlib.Core.List.{List}
@@ -7,7 +8,6 @@ use lib.Dec.{ltb}
 use Rattle.requests.specs.declared.Device.{Device}
 use Rattle.grammar.specs.Verbs.{has_verb}
 use Rattle.grammar.specs.Parse.{longest, too_long_lem, parse_text, is_closed, text_length, text_of, parse_line}
-use Rattle.grammar.specs.declared.Parsed.TheVariants.{Fault}
 use Rattle.names.specs.Lists.{NameLists}
 use Rattle.parser.specs.ParseWith.{parse_text_with, parse_line_with}
 use Rattle.parser.proofs.VerbsRead.{named_no_record, asked_record}
@@ -22,15 +22,15 @@ module _ (n : NameLists) (d : Device) (line : List ℕ) where
       go false = asked_record n d (text_of line) (is_closed line) e
 
 -- such a line is no record
-pub fault_long : (k m : ℕ) → too_long_lem (Fault k) m ≡ Fault k
+pub fault_long : (k m : ℕ) → too_long_lem (Err k) m ≡ Err k
 unfolding too_long_lem
 fault_long k m = refl
 
-pub named_not_record : (line : List ℕ) → has_verb (text_of line) "named" ≡ true → parse_line line ≡ Fault 0
+pub named_not_record : (line : List ℕ) → has_verb (text_of line) "named" ≡ true → parse_line line ≡ Err 0
 unfolding parse_line parse_text too_long_lem
 named_not_record line e = go (ltb longest (text_length line))
   where
-    go : (long : Bool) → parse_text (text_of line) (is_closed line) long ≡ Fault 0
+    go : (long : Bool) → parse_text (text_of line) (is_closed line) long ≡ Err 0
     go true = rw (named_no_record (text_of line) (is_closed line) e)
     go false = named_no_record (text_of line) (is_closed line) e
 

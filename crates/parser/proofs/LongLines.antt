@@ -1,6 +1,6 @@
 -- The first 80 bytes of a longer text have its first field at fault, by the widths of the fields, names of at most 40 bytes among them. A text
 -- without its newline is read as one that is closed and too long. Assumes nothing.
-use Rattle.std.specs.Prelude.{Option, None, Some}
+use Rattle.std.specs.Prelude.{Option, None, Some, Ok, Err}
 use mathlib.Core.Path.{◌≡◌, refl, ap, sym, ◌∙◌}
 use mathlib.Core.Bool.{Bool, true, false, false≢true}
 use mathlib.Core.List.{List}
@@ -18,8 +18,8 @@ use Rattle.grammar.specs.Fields.{fields, field_at}
 use Rattle.grammar.specs.Numbers.{decimal_of}
 use Rattle.grammar.specs.Verbs.{with_number, is_whole, set_of, has_verb, record_of}
 use Rattle.grammar.specs.Parse.{longest, too_long_lem, is_closed, text_length}
-use Rattle.grammar.specs.declared.Parsed.{Parsed}
-use Rattle.grammar.specs.declared.Parsed.TheVariants.{Named, Fault}
+use Rattle.grammar.specs.Parsed.{Parsed}
+use Rattle.grammar.specs.declared.Line.{Line}
 use Rattle.grammar.proofs.CutFields.{CutAt, cut_at, SameFault, Field, cut_field, cut_ends, First, endless, whole, first_field}
 use Rattle.grammar.proofs.LongLines.{decimal_field, no_word, verb_room, record_cut, text_size}
 use Rattle.grammar.proofs.ReadBack.{record_tells}
@@ -41,7 +41,7 @@ wide_name : (x : List ℕ) → 40 < length x → is_name x ≡ false
 unfolding is_name longest_name
 wide_name x h = rw (ne_eqb (length x) 0 (λ e. omega arith), lt-ltb 40 (length x) h)
 
-name_both : (b : Bool) (k : ℕ) (next next2 : Parsed) → SameFault next next2 → SameFault (pick b next (Fault k)) (pick b next2 (Fault k))
+name_both : (b : Bool) (k : ℕ) (next next2 : Parsed) → SameFault next next2 → SameFault (pick b next (Err k)) (pick b next2 (Err k))
 name_both true k next next2 h = h
 name_both false k next next2 h = record { at = k; one = refl; other = refl }
 
@@ -51,7 +51,7 @@ name_field k = record { wide = λ x next h. rw (wide_name x h); both = λ x next
 -- what is asked for by the fields behind the id, and behind the name
 module _ (n : NameLists) (d : Device) (closed : Bool) where
   abbrev ended_named : List ℕ → ℕ → ℕ → Parsed
-  ended_named t id allowed = pick (is_whole t closed 4) (add_named n d (field_at t 2) id (set_of allowed)) (Fault 4)
+  ended_named t id allowed = pick (is_whole t closed 4) (add_named n d (field_at t 2) id (set_of allowed)) (Err 4)
 
   abbrev behind_name : List ℕ → ℕ → Parsed
   behind_name t id = with_number (decimal_of (field_at t 3)) 3 (ended_named t id)
@@ -115,25 +115,25 @@ module _ (n : NameLists) (d : Device) where
 
 -- ---- a text without its newline
 
-unclosed_record : (t : List ℕ) → (k : ℕ) × (record_of t false ≡ Fault k)
+unclosed_record : (t : List ℕ) → (k : ℕ) × (record_of t false ≡ Err k)
 unclosed_record t = go (record_settled t false) refl
   where
-    go : {p : Parsed} → Settled p → record_of t false ≡ p → (k : ℕ) × (record_of t false ≡ Fault k)
+    go : {p : Parsed} → Settled p → record_of t false ≡ p → (k : ℕ) × (record_of t false ≡ Err k)
     go (settled.asks r) e = absurd (false≢true (record_tells t false r e).newline_read)
     go (settled.faulty k l) e = (k, e)
 
-unclosed_with : (t : List ℕ) → (k : ℕ) × ((n : NameLists) (d : Device) → record_with n d t false ≡ Fault k)
+unclosed_with : (t : List ℕ) → (k : ℕ) × ((n : NameLists) (d : Device) → record_with n d t false ≡ Err k)
 unclosed_with t = go (has_verb t "named") refl
   where
-    read : has_verb t "named" ≡ true → Read t false → (k : ℕ) × ((n : NameLists) (d : Device) → record_with n d t false ≡ Fault k)
+    read : has_verb t "named" ≡ true → Read t false → (k : ℕ) × ((n : NameLists) (d : Device) → record_with n d t false ≡ Err k)
     read verb (says id a shut s) = absurd (false≢true shut)
     read verb (faulty k f) = (k, λ n d. asked_named n d t false verb ∙ f n d)
 
-    go : (b : Bool) → has_verb t "named" ≡ b → (k : ℕ) × ((n : NameLists) (d : Device) → record_with n d t false ≡ Fault k)
+    go : (b : Bool) → has_verb t "named" ≡ b → (k : ℕ) × ((n : NameLists) (d : Device) → record_with n d t false ≡ Err k)
     go true e = read e (named_read t false e)
     go false e = let (k, f) = unclosed_record t in (k, λ n d. asked_record n d t false e ∙ f)
 
-unclosed : (t : List ℕ) (long : Bool) → (k : ℕ) × ((n : NameLists) (d : Device) → parse_text_with n d t false long ≡ Fault k)
+unclosed : (t : List ℕ) (long : Bool) → (k : ℕ) × ((n : NameLists) (d : Device) → parse_text_with n d t false long ≡ Err k)
 unfolding parse_text_with too_long_lem
 unclosed t true = let (k, f) = unclosed_with t in (k, λ n d. rw (f n d))
 unclosed t false = unclosed_with t
@@ -150,11 +150,11 @@ module _ (n : NameLists) (d : Device) (formed : lists_formed n ≡ true) (t : Li
       ends id a = go (eqb (length (fields t)) 4) refl
         where
           go : (b : Bool) → eqb (length (fields t)) 4 ≡ b
-              → too_long_lem (pick b (add_named n d (field_at t 2) id (set_of a)) (Fault 4)) (length (fields t)) ≡ Fault 4
-          go true e = rw (add_formed n d (field_at t 2) id (set_of a) formed) (ap Fault (eqb-true (length (fields t)) 4 e))
+              → too_long_lem (pick b (add_named n d (field_at t 2) id (set_of a)) (Err 4)) (length (fields t)) ≡ Err 4
+          go true e = rw (add_formed n d (field_at t 2) id (set_of a) formed) (ap Err (eqb-true (length (fields t)) 4 e))
           go false e = refl
 
-      by_name : (b : Bool) (id : ℕ) → too_long_lem (pick b (behind_name n d true t id) (Fault 2)) (length (fields t)) ≡ pick b (behind_name n d false t id) (Fault 2)
+      by_name : (b : Bool) (id : ℕ) → too_long_lem (pick b (behind_name n d true t id) (Err 2)) (length (fields t)) ≡ pick b (behind_name n d false t id) (Err 2)
       by_name true id = number_unclosed t (decimal_of (field_at t 3)) 3 (ended_named n d true t id) (ended_named n d false t id) (ends id)
       by_name false id = refl
 
@@ -173,22 +173,22 @@ module _ (n : NameLists) (d : Device) (formed : lists_formed n ≡ true) (t : Li
 
 -- ---- no line has more than eight fields in the grammar
 
-within_record : (t : List ℕ) (closed : Bool) (k : ℕ) → record_of t closed ≡ Fault k → k ≤ 7
+within_record : (t : List ℕ) (closed : Bool) (k : ℕ) → record_of t closed ≡ Err k → k ≤ 7
 within_record t closed k e = go (record_settled t closed) e
   where
-    go : {p : Parsed} → Settled p → p ≡ Fault k → k ≤ 7
+    go : {p : Parsed} → Settled p → p ≡ Err k → k ≤ 7
     go (settled.asks r) f = let z : ◌≡◌ {A = ℕ} 0 1 = cc in absurd (omega arith)
     go (settled.faulty j l) f = let is : j ≡ k = cc in omega arith
 
-within_named : (t : List ℕ) (closed : Bool) (n : NameLists) (d : Device) (k : ℕ) → named_line n d t closed ≡ Fault k → k ≤ 7
+within_named : (t : List ℕ) (closed : Bool) (n : NameLists) (d : Device) (k : ℕ) → named_line n d t closed ≡ Err k → k ≤ 7
 unfolding named_line add_named
 within_named t closed n d k e = go (decimal_of (field_at t 1)) (is_name (field_at t 2)) (decimal_of (field_at t 3)) (is_whole t closed 4) (lists_formed n) e
   where
-    at : (j : ℕ) → j ≤ 7 → Fault j ≡ Fault k → k ≤ 7
+    at : (j : ℕ) → j ≤ 7 → ◌≡◌ {A = Parsed} (Err j) (Err k) → k ≤ 7
     at j l f = let is : j ≡ k = cc in omega arith
 
     go : (x : Option ℕ) (b : Bool) (y : Option ℕ) (w f : Bool)
-        → with_number x 1 (λ id. pick b (with_number y 3 (λ a. pick w (pick f (Named id (request_named n (field_at t 2) d (set_of a))) (Fault 0)) (Fault 4))) (Fault 2)) ≡ Fault k
+        → with_number x 1 (λ id. pick b (with_number y 3 (λ a. pick w (pick f (Ok (Line.Named id (request_named n (field_at t 2) d (set_of a)))) (Err 0)) (Err 4))) (Err 2)) ≡ Err k
         → k ≤ 7
     go None b y w f e = at 1 (omega arith) e
     go (Some id) false y w f e = at 2 (omega arith) e
@@ -197,13 +197,13 @@ within_named t closed n d k e = go (decimal_of (field_at t 1)) (is_name (field_a
     go (Some id) true (Some a) true false e = at 0 (omega arith) e
     go (Some id) true (Some a) true true e = let z : ◌≡◌ {A = ℕ} 0 1 = cc in absurd (omega arith)
 
-within : (n : NameLists) (d : Device) (line : List ℕ) (k : ℕ) → parse_line_with n d line ≡ Fault k → k ≤ 7
+within : (n : NameLists) (d : Device) (line : List ℕ) (k : ℕ) → parse_line_with n d line ≡ Err k → k ≤ 7
 within n d line k e = go (has_verb t "named") refl
   where
     t : List ℕ
     t = take (text_length line) line
 
-    read : record_with n d t (is_closed line) ≡ Fault k
+    read : record_with n d t (is_closed line) ≡ Err k
     read = sym (whole_line n d line) ∙ e
 
     go : (b : Bool) → has_verb t "named" ≡ b → k ≤ 7

@@ -1,5 +1,5 @@
 -- A request by name is read from its text, and from no other. Assumes nothing.
-use Rattle.std.specs.Prelude.{Option, None, Some}
+use Rattle.std.specs.Prelude.{Option, None, Some, Err}
 use mathlib.Core.Path.{◌≡◌, refl, ap, ap₂, sym, ◌∙◌}
 use mathlib.Core.Bool.{Bool, true, false}
 use mathlib.Core.List.{List, [], ◌∷◌, ◌++◌}
@@ -16,7 +16,6 @@ use Rattle.grammar.specs.Text.{bytes, tab, newline, decimal_text, line_of}
 use Rattle.grammar.specs.Fields.{fields, field_at, same_bytes_lem}
 use Rattle.grammar.specs.Numbers.{decimal_of}
 use Rattle.grammar.specs.Verbs.{is_whole, set_of, has_verb}
-use Rattle.grammar.specs.declared.Parsed.TheVariants.{Fault}
 use Rattle.grammar.proofs.Decimals.{decimal_reads, decimal_only}
 use Rattle.grammar.proofs.Tabs as tabs
 use Rattle.grammar.proofs.Texts.{decimal_plain}
@@ -65,7 +64,7 @@ named_written id name a h =
 -- a text with the verb is closed and says a request by name, or has a field at fault, whatever the lists and the device
 pub data Read (t : List ℕ) (closed : Bool) : Type 0 where
   says : (id : ℕ) (a : CounterSet) → closed ≡ true → Says t id (field_at t 2) a → Read t closed
-  faulty : (k : ℕ) → ((n : NameLists) (d : Device) → named_line n d t closed ≡ Fault k) → Read t closed
+  faulty : (k : ℕ) → ((n : NameLists) (d : Device) → named_line n d t closed ≡ Err k) → Read t closed
 
 pub named_read : (t : List ℕ) (closed : Bool) → has_verb t "named" ≡ true → Read t closed
 unfolding has_verb named_line

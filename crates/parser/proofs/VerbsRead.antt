@@ -1,4 +1,5 @@
 -- What a text asks for, by the verb that it has. Assumes nothing.
+use Rattle.std.specs.Prelude.{Ok, Err}
 use mathlib.Core.Path.{◌≡◌, refl}
 use mathlib.Core.Bool.{Bool, true, false}
 use mathlib.Core.List.{List}
@@ -10,7 +11,7 @@ use Rattle.requests.specs.declared.Device.{Device}
 use Rattle.grammar.specs.Text.{bytes}
 use Rattle.grammar.specs.Fields.{field_at, same_bytes_lem}
 use Rattle.grammar.specs.Verbs.{has_verb, verbs, record_of}
-use Rattle.grammar.specs.declared.Parsed.TheVariants.{Named, Fault}
+use Rattle.grammar.specs.declared.Line.{Line}
 use Rattle.grammar.proofs.VerbRows.{no_verb}
 use Rattle.grammar.proofs.WordLoops.{same_bytes}
 use Rattle.names.specs.Lists.{NameLists, lists_formed}
@@ -23,7 +24,7 @@ unfolding has_verb
 other_verb t a b differ has = rw (same_bytes (field_at t 0) (bytes a) has) differ
 
 -- a request by name has no other verb, and so is no record
-pub named_no_record : (t : List ℕ) (closed : Bool) → has_verb t "named" ≡ true → record_of t closed ≡ Fault 0
+pub named_no_record : (t : List ℕ) (closed : Bool) → has_verb t "named" ≡ true → record_of t closed ≡ Err 0
 unfolding verbs first_holding same_bytes_lem bytes
 named_no_record t closed has =
     no_verb t closed
@@ -49,10 +50,10 @@ module _ (n : NameLists) (d : Device) (t : List ℕ) (closed : Bool) where
 
 -- a request by name beside well-formed lists, and beside others
 module _ (n : NameLists) (d : Device) (name : List ℕ) (id : ℕ) (a : CounterSet) where
-  pub add_formed : lists_formed n ≡ true → add_named n d name id a ≡ Named id (request_named n name d a)
+  pub add_formed : lists_formed n ≡ true → add_named n d name id a ≡ Ok (Line.Named id (request_named n name d a))
   unfolding add_named
   add_formed w = rw w
 
-  pub add_refused : lists_formed n ≡ false → add_named n d name id a ≡ Fault 0
+  pub add_refused : lists_formed n ≡ false → add_named n d name id a ≡ Err 0
   unfolding add_named
   add_refused w = rw w

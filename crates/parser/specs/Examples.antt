@@ -1,5 +1,5 @@
 -- Document 02, order 9: requests by name in the grammar and beside it, and what each asks for.
-use Rattle.std.specs.Prelude.{◌≡◌, List, [], ◌∷◌, ◌++◌, map, ℕ}
+use Rattle.std.specs.Prelude.{◌≡◌, List, [], ◌∷◌, ◌++◌, map, ℕ, Ok, Err}
 use Prim.Native.String.{String}
 use Rattle.requests.specs.declared.CounterSet.{CounterSet}
 use Rattle.requests.specs.declared.Device.{Device}
@@ -8,8 +8,8 @@ use Rattle.requests.specs.declared.Request.TheVariants.{Event, Packet, Offcore}
 use Rattle.grammar.specs.Text.{newline}
 use Rattle.grammar.specs.Examples.{tabbed, typed}
 use Rattle.grammar.specs.declared.Record.TheVariants.{Add, Turn}
-use Rattle.grammar.specs.declared.Parsed.{Parsed}
-use Rattle.grammar.specs.declared.Parsed.TheVariants.{Line, Named, Fault}
+use Rattle.grammar.specs.Parsed.{Parsed}
+use Rattle.grammar.specs.declared.Line.{Line}
 use Rattle.names.specs.Lists.{NameLists}
 use Rattle.parser.specs.ParseWith.{parse_line_with}
 
@@ -50,52 +50,52 @@ house_off line p = record { lists = house_damaged; device = G; line = line; pars
 
 abbrev pub examples : List Example
 examples =
-    on G "named 1 CYCLES 15" (Named 1 (Event 0x3C 0x00 (set 15)))
-    ∷ on G "named 2 INSTR 1" (Named 2 (Event 0xC0 0x00 (set 1)))
-    ∷ on G "named 3 ODD 15" (Named 3 (Event 0xC0 0x05 (set 15)))
-    ∷ on B "named 4 STORES 8" (Named 4 (Event 0xCD 0x02 (set 8)))
+    on G "named 1 CYCLES 15" (Ok (Line.Named 1 (Event 0x3C 0x00 (set 15))))
+    ∷ on G "named 2 INSTR 1" (Ok (Line.Named 2 (Event 0xC0 0x00 (set 1))))
+    ∷ on G "named 3 ODD 15" (Ok (Line.Named 3 (Event 0xC0 0x05 (set 15))))
+    ∷ on B "named 4 STORES 8" (Ok (Line.Named 4 (Event 0xCD 0x02 (set 8))))
     -- rows of other devices: packets on G, C and B, offcore on S, which they do not have
-    ∷ on G "named 3 STARVE 15" (Named 3 (Packet 0 0 (set 15)))
-    ∷ on S "named 1 CYCLES 15" (Named 1 (Offcore 0 (set 15)))
-    ∷ on (C 7) "named 1 CYCLES 63" (Named 1 (Packet 0 0 (set 63)))
-    ∷ on B "named 1 INSTR 15" (Named 1 (Packet 0 0 (set 15)))
+    ∷ on G "named 3 STARVE 15" (Ok (Line.Named 3 (Packet 0 0 (set 15))))
+    ∷ on S "named 1 CYCLES 15" (Ok (Line.Named 1 (Offcore 0 (set 15))))
+    ∷ on (C 7) "named 1 CYCLES 63" (Ok (Line.Named 1 (Packet 0 0 (set 63))))
+    ∷ on B "named 1 INSTR 15" (Ok (Line.Named 1 (Packet 0 0 (set 15))))
     -- a row of the letter C serves every C-Box
-    ∷ on (C 7) "named 1 STARVE 63" (Named 1 (Event 0x0B 0x18 (set 63)))
+    ∷ on (C 7) "named 1 STARVE 63" (Ok (Line.Named 1 (Event 0x0B 0x18 (set 63))))
     -- in neither list, and the beginning of a name
-    ∷ on G "named 3 NOSUCH 15" (Named 3 (Event 0xFF 0xFF (set 15)))
-    ∷ on G "named 3 CYC 15" (Named 3 (Event 0xFF 0xFF (set 15)))
+    ∷ on G "named 3 NOSUCH 15" (Ok (Line.Named 3 (Event 0xFF 0xFF (set 15))))
+    ∷ on G "named 3 CYC 15" (Ok (Line.Named 3 (Event 0xFF 0xFF (set 15))))
     -- the numbers are not judged yet
-    ∷ on G "named 0 CYCLES 99999" (Named 0 (Event 0x3C 0x00 (set 99999)))
+    ∷ on G "named 0 CYCLES 99999" (Ok (Line.Named 0 (Event 0x3C 0x00 (set 99999))))
     -- names of 40 bytes and of 41, of none, of a lower-case letter and of a dot
-    ∷ on G "named 1 0123456789_ABCDEFGHIJKLMNOPQRSTUVWXYZ_89 15" (Named 1 (Event 0xFF 0xFF (set 15)))
-    ∷ on G "named 1 0123456789_ABCDEFGHIJKLMNOPQRSTUVWXYZ_890 15" (Fault 2)
-    ∷ on G "named 1  15" (Fault 2)
-    ∷ on G "named 1 cYCLES 15" (Fault 2)
-    ∷ on G "named 1 CYCLES.P 15" (Fault 2)
+    ∷ on G "named 1 0123456789_ABCDEFGHIJKLMNOPQRSTUVWXYZ_89 15" (Ok (Line.Named 1 (Event 0xFF 0xFF (set 15))))
+    ∷ on G "named 1 0123456789_ABCDEFGHIJKLMNOPQRSTUVWXYZ_890 15" (Err 2)
+    ∷ on G "named 1  15" (Err 2)
+    ∷ on G "named 1 cYCLES 15" (Err 2)
+    ∷ on G "named 1 CYCLES.P 15" (Err 2)
     -- a name for an id, hex, too few fields and too many
-    ∷ on G "named CYCLES 1 15" (Fault 1)
-    ∷ on G "named 1 CYCLES F" (Fault 3)
-    ∷ on G "named 1 CYCLES" (Fault 3)
-    ∷ on G "named 1 CYCLES 15 0" (Fault 4)
-    ∷ on G "named 1" (Fault 2)
-    ∷ on G "named" (Fault 1)
-    ∷ on G "Named 1 CYCLES 15" (Fault 0)
+    ∷ on G "named CYCLES 1 15" (Err 1)
+    ∷ on G "named 1 CYCLES F" (Err 3)
+    ∷ on G "named 1 CYCLES" (Err 3)
+    ∷ on G "named 1 CYCLES 15 0" (Err 4)
+    ∷ on G "named 1" (Err 2)
+    ∷ on G "named" (Err 1)
+    ∷ on G "Named 1 CYCLES 15" (Err 0)
     -- the leftmost of several faults, and a line of more than 80 bytes
-    ∷ on G "named X cYCLES F" (Fault 1)
-    ∷ on G "named 1 cYCLES F" (Fault 2)
-    ∷ on G "named 1 CYCLES 15 0000000000000000000000000000000000000000000000000000000000000000000" (Fault 4)
+    ∷ on G "named X cYCLES F" (Err 1)
+    ∷ on G "named 1 cYCLES F" (Err 2)
+    ∷ on G "named 1 CYCLES 15 0000000000000000000000000000000000000000000000000000000000000000000" (Err 4)
     -- beside a damaged list, also where the name is found above the damage or in the other list
-    ∷ site_off "named 1 CYCLES 15" (Fault 0)
-    ∷ site_off "named 1 INSTR 15" (Fault 0)
-    ∷ site_off "named 1 NOSUCH 15" (Fault 0)
-    ∷ house_off "named 1 CYCLES 15" (Fault 0)
-    ∷ house_off "named 1 INSTR 15" (Fault 0)
+    ∷ site_off "named 1 CYCLES 15" (Err 0)
+    ∷ site_off "named 1 INSTR 15" (Err 0)
+    ∷ site_off "named 1 NOSUCH 15" (Err 0)
+    ∷ house_off "named 1 CYCLES 15" (Err 0)
+    ∷ house_off "named 1 INSTR 15" (Err 0)
     -- a line that is not in the grammar keeps its fault, and the other verbs do not look
-    ∷ house_off "named 1 cYCLES 15" (Fault 2)
-    ∷ house_off "named 1 CYCLES" (Fault 3)
-    ∷ house_off "named 1 CYCLES 15 0" (Fault 4)
-    ∷ house_off "event 1 3C 00 15" (Line (Add 1 (Event 0x3C 0x00 (set 15))))
-    ∷ house_off "turn" (Line Turn)
+    ∷ house_off "named 1 cYCLES 15" (Err 2)
+    ∷ house_off "named 1 CYCLES" (Err 3)
+    ∷ house_off "named 1 CYCLES 15 0" (Err 4)
+    ∷ house_off "event 1 3C 00 15" (Ok (Line.Record (Add 1 (Event 0x3C 0x00 (set 15)))))
+    ∷ house_off "turn" (Ok (Line.Record Turn))
     ∷ []
 
 -- each is read so

@@ -1,10 +1,9 @@
 -- Document 02, order 11, of 1: "the first field that breaks the grammar, or the number of fields where the record stops too soon or the newline is
 -- missing". Of a line of any length, requests by name included, whatever the lists and the device.
-use Rattle.std.specs.Prelude.{◌≡◌, List, ℕ, suc, ◌≤◌, ◌<◌, length, take}
+use Rattle.std.specs.Prelude.{◌≡◌, List, ℕ, suc, ◌≤◌, ◌<◌, length, take, Err}
 use Rattle.requests.specs.declared.CounterSet.{CounterSet}
 use Rattle.requests.specs.declared.Device.{Device}
 use Rattle.grammar.specs.FirstBroken.{line_fields, BeginsRecord}
-use Rattle.grammar.specs.declared.Parsed.TheVariants.{Fault}
 use Rattle.names.specs.Lists.{NameLists}
 use Rattle.names.specs.RowGrammar.{AreLists}
 use Rattle.parser.specs.NamedText.{named_fields, NamedFits, Outside}
@@ -25,14 +24,14 @@ pub data Begins (fs : List (List ℕ)) (k : ℕ) : Type 0 where
 
 pub record FirstBroken : Type 0 where
   -- beside well-formed lists only a line outside the grammar has a field at fault
-  pub outside : (n : NameLists) (d : Device) (line : List ℕ) (k : ℕ) → AreLists n → parse_line_with n d line ≡ Fault k → Outside line
+  pub outside : (n : NameLists) (d : Device) (line : List ℕ) (k : ℕ) → AreLists n → parse_line_with n d line ≡ Err k → Outside line
   -- of such a line it is one of its fields, or their number
-  pub within : (n : NameLists) (d : Device) (line : List ℕ) (k : ℕ) → Outside line → parse_line_with n d line ≡ Fault k → k ≤ length (line_fields line)
+  pub within : (n : NameLists) (d : Device) (line : List ℕ) (k : ℕ) → Outside line → parse_line_with n d line ≡ Err k → k ≤ length (line_fields line)
   -- those before it are in the grammar ..
-  pub good : (n : NameLists) (d : Device) (line : List ℕ) (k : ℕ) → Outside line → parse_line_with n d line ≡ Fault k → Begins (line_fields line) k
+  pub good : (n : NameLists) (d : Device) (line : List ℕ) (k : ℕ) → Outside line → parse_line_with n d line ≡ Err k → Begins (line_fields line) k
   -- .. and with it they begin nothing
-  pub broken : (n : NameLists) (d : Device) (line : List ℕ) (k : ℕ) → Outside line → parse_line_with n d line ≡ Fault k → k < length (line_fields line)
+  pub broken : (n : NameLists) (d : Device) (line : List ℕ) (k : ℕ) → Outside line → parse_line_with n d line ≡ Err k → k < length (line_fields line)
       → ¬ Begins (line_fields line) (suc k)
   -- so there is one such field, and it is the one at fault
   pub only : (n : NameLists) (d : Device) (line : List ℕ) (k : ℕ) → Outside line → k ≤ length (line_fields line) → Begins (line_fields line) k
-      → (k < length (line_fields line) → ¬ Begins (line_fields line) (suc k)) → parse_line_with n d line ≡ Fault k
+      → (k < length (line_fields line) → ¬ Begins (line_fields line) (suc k)) → parse_line_with n d line ≡ Err k

@@ -1,5 +1,5 @@
 -- "1: the line is not in the grammar": what a line asks for, whatever its bytes and the lists.
-use Rattle.std.specs.Prelude.{◌≡◌, List, ℕ, Option, None, Some}
+use Rattle.std.specs.Prelude.{◌≡◌, List, ℕ, Option, None, Some, Ok, Err}
 use Rattle.requests.specs.Devices.{letter_of}
 use Rattle.requests.specs.Refusals.{answer_for, answer_number}
 use Rattle.requests.specs.declared.CounterSet.{CounterSet}
@@ -13,7 +13,7 @@ use Rattle.grammar.specs.Records.{record_text, Fits, AddFits}
 use Rattle.grammar.specs.Grammar.{IsText}
 use Rattle.grammar.specs.declared.Record.{Record}
 use Rattle.grammar.specs.declared.Record.TheVariants.{Add}
-use Rattle.grammar.specs.declared.Parsed.TheVariants.{Line, Named, Fault}
+use Rattle.grammar.specs.declared.Line.{Line}
 use Rattle.names.specs.Lists.{NameLists}
 use Rattle.names.specs.RowGrammar.{AreLists}
 use Rattle.names.specs.Named.{request_named}
@@ -38,20 +38,20 @@ pub record ParsedLines : Type 0 where
   -- only a line with the verb `named` looks at the lists and the device
   pub unnamed : (n : NameLists) (d : Device) (line : List ℕ) → ¬ (field_at (text_of line) 0 ≡ bytes "named") → parse_line_with n d line ≡ parse_line line
   -- the text of a record asks for it
-  pub record_line : (n : NameLists) (d : Device) (line : List ℕ) (r : Record) → IsText line r → parse_line_with n d line ≡ Line r
+  pub record_line : (n : NameLists) (d : Device) (line : List ℕ) (r : Record) → IsText line r → parse_line_with n d line ≡ Ok (Line.Record r)
   -- a request by name asks for one add ..
   pub named_line_lem : (n : NameLists) (d : Device) (line : List ℕ) (id : ℕ) (name : List ℕ) (a : CounterSet) → IsNamed line id name a → AreLists n
-      → parse_line_with n d line ≡ Named id (request_named n name d a)
+      → parse_line_with n d line ≡ Ok (Line.Named id (request_named n name d a))
   -- .. and nothing where a list is ill-formed
   pub ill_formed : (n : NameLists) (d : Device) (line : List ℕ) (id : ℕ) (name : List ℕ) (a : CounterSet) → IsNamed line id name a → ¬ AreLists n
-      → parse_line_with n d line ≡ Fault 0
+      → parse_line_with n d line ≡ Err 0
   -- every other line has a field at fault, whatever the lists and the device
-  pub other : (line : List ℕ) → Outside line → (k : ℕ) × ((n : NameLists) (d : Device) → parse_line_with n d line ≡ Fault k)
+  pub other : (line : List ℕ) → Outside line → (k : ℕ) × ((n : NameLists) (d : Device) → parse_line_with n d line ≡ Err k)
   -- so no other line asks for a record or for a request by name, and the numbers of what is asked for fit their fields
-  pub only : (n : NameLists) (d : Device) (line : List ℕ) (r : Record) → parse_line_with n d line ≡ Line r → IsText line r
-  pub only_named : (n : NameLists) (d : Device) (line : List ℕ) (id : ℕ) (r : Request) → parse_line_with n d line ≡ Named id r → ByName n d line id r
-  pub fits : (n : NameLists) (d : Device) (line : List ℕ) (r : Record) → parse_line_with n d line ≡ Line r → Fits r
-  pub named_fits : (n : NameLists) (d : Device) (line : List ℕ) (id : ℕ) (r : Request) → parse_line_with n d line ≡ Named id r → AddFits id r
+  pub only : (n : NameLists) (d : Device) (line : List ℕ) (r : Record) → parse_line_with n d line ≡ Ok (Line.Record r) → IsText line r
+  pub only_named : (n : NameLists) (d : Device) (line : List ℕ) (id : ℕ) (r : Request) → parse_line_with n d line ≡ Ok (Line.Named id r) → ByName n d line id r
+  pub fits : (n : NameLists) (d : Device) (line : List ℕ) (r : Record) → parse_line_with n d line ≡ Ok (Line.Record r) → Fits r
+  pub named_fits : (n : NameLists) (d : Device) (line : List ℕ) (id : ℕ) (r : Request) → parse_line_with n d line ≡ Ok (Line.Named id r) → AddFits id r
   -- 1 for every line that is neither, and beside an ill-formed list for every request by name; for no other line
   pub in_grammar : (n : NameLists) (d : Device) (line : List ℕ) (r : Record) → IsText line r → number_for n d line ≡ None
   pub by_name : (n : NameLists) (d : Device) (line : List ℕ) (id : ℕ) (r : Request) → ByName n d line id r → number_for n d line ≡ None
@@ -61,5 +61,5 @@ pub record ParsedLines : Type 0 where
   -- "A found row is used as the same request typed in numbers would be": by name that request is asked for
   pub typed : (n : NameLists) (d : Device) (line : List ℕ) (id : ℕ) (name : List ℕ) (a : CounterSet) (row : Row)
       → IsNamed line id name a → Finds n name row → letter_of row.device ≡ letter_of d
-      → (parse_line_with n d line ≡ Named id (Event row.code row.mask a))
-      × (parse_line_with n d (record_text (Add id (Event row.code row.mask a))) ≡ Line (Add id (Event row.code row.mask a)))
+      → (parse_line_with n d line ≡ Ok (Line.Named id (Event row.code row.mask a)))
+      × (parse_line_with n d (record_text (Add id (Event row.code row.mask a))) ≡ Ok (Line.Record (Add id (Event row.code row.mask a))))

@@ -3,7 +3,7 @@ ghost use Rattle.std.specs.Prelude.{◌≡◌};
 ghost use Rattle.names.specs.Lists.{lists_of};
 ghost use Rattle.parser.specs.ParseWith.{add_named, named_line};
 
-use grammar::Parsed;
+use grammar::{Line, Parsed};
 use names::BothLists;
 use names::event_names::is_name;
 use names::lists::lists_formed;
@@ -18,9 +18,9 @@ fn add_named(name: &[u8], id: u64, allowed: CounterSet, device: Device, lists: &
 {
     if lists_formed(lists) {
         let request = request_named(name, lists, device, allowed);
-        return Parsed::Named { id, request };
+        return Ok(Line::Named { id, request });
     }
-    Parsed::Fault(0)
+    Err(0)
 }
 
 // `named` id name allowed
@@ -28,18 +28,14 @@ fn add_named(name: &[u8], id: u64, allowed: CounterSet, device: Device, lists: &
 pub fn named_line(fields: &Fields, closed: bool, device: Device, lists: &BothLists) -> Parsed
     ensures { result ≡ named_line (lists_of lists.now) device fields.now.text.now closed }
 {
-    let Some(id) = fields.number_at(1, Decimal) else {
-        return Parsed::Fault(1);
-    };
+    let id = fields.number_at(1, Decimal).ok_or(1usize)?;
     let name = fields.field(2);
     if !is_name(name) {
-        return Parsed::Fault(2);
+        return Err(2);
     }
-    let Some(allowed) = fields.number_at(3, Decimal) else {
-        return Parsed::Fault(3);
-    };
+    let allowed = fields.number_at(3, Decimal).ok_or(3usize)?;
     if !fields.is_whole(closed, 4) {
-        return Parsed::Fault(4);
+        return Err(4);
     }
     add_named(name, id, CounterSet(allowed), device, lists)
 }

@@ -15,10 +15,8 @@ use scanner::fields::Fields;
 fn too_long(parsed: Parsed, n: usize) -> Parsed
     ensures { result ≡ too_long_lem parsed n }
 {
-    match parsed {
-        Parsed::Line(_) | Parsed::Named { .. } => Parsed::Fault(n),
-        Parsed::Fault(k) => Parsed::Fault(k),
-    }
+    parsed?;
+    Err(n)
 }
 
 // What a text asks for on a device, closed by a newline or not, whole or the first bytes of a longer one.

@@ -1,12 +1,11 @@
 // What a text asks for, by its verb.
 ghost use Rattle.std.specs.Prelude.{◌≡◌};
 ghost use Rattle.grammar.specs.Verbs.{record_of};
-ghost use Rattle.scanner.specs.LineNumbers.{parsed_as};
 ghost use Rattle.names.specs.Lists.{lists_of};
 ghost use Rattle.parser.specs.ParseWith.{record_with};
 
 use crate::named_lines::named_line;
-use grammar::{Parsed, Record};
+use grammar::Parsed;
 use names::BothLists;
 use requests::Device;
 use scanner::fields::Fields;
@@ -17,8 +16,8 @@ use scanner::verbs::{
 // The record of a text, or the field at fault.
 // Form: (c) a match on the words: its last arm splits into 36 places by bytes, with no facts there that an answer may cite.
 #[tactic(auto, unfolding(grammar::specs::Verbs::record_of, grammar::specs::Verbs::verbs, grammar::specs::Verbs::has_verb, grammar::specs::Text::bytes, requests::specs::Choice::first_holding))]
-fn record_of(fields: &Fields, closed: bool) -> Result<Record, usize>
-    ensures { parsed_as result ≡ record_of fields.now.text.now closed }
+fn record_of(fields: &Fields, closed: bool) -> Parsed
+    ensures { result ≡ record_of fields.now.text.now closed }
 {
     if fields.is_word(0, b"open") {
         return open_line(fields, closed);
@@ -52,8 +51,5 @@ pub fn record_with(fields: &Fields, closed: bool, device: Device, lists: &BothLi
     if fields.is_word(0, b"named") {
         return named_line(fields, closed, device, lists);
     }
-    match record_of(fields, closed) {
-        Ok(record) => Parsed::Line(record),
-        Err(k) => Parsed::Fault(k),
-    }
+    record_of(fields, closed)
 }

@@ -13,7 +13,7 @@ use Rattle.sessions.specs.declared.Session.{Session}
 use Rattle.sessions.specs.declared.Assigned.{Assigned}
 use Rattle.sessions.specs.declared.TurnAnswered.{TurnAnswered}
 use Rattle.sessions.specs.Sessions.{plan_of}
-use Rattle.grammar.specs.declared.Parsed.{Parsed}
+use Rattle.grammar.specs.Parsed.{Parsed}
 use Rattle.names.specs.Lists.{NameLists}
 use Rattle.parser.specs.ParseWith.{parse_line_with}
 use Rattle.answers.specs.Replies.{Reply, answer_text, take_lines, set_lines, turn_reply, parsed_reply, answer_line}

@@ -4,7 +4,7 @@ use Rattle.requests.specs.Choice.{pick}
 use Rattle.sessions.specs.declared.Session.{Session}
 use Rattle.grammar.specs.declared.Record.{Record}
 use Rattle.grammar.specs.declared.Record.TheVariants.{Open, Add, Drop, Turn}
-use Rattle.grammar.specs.declared.Parsed.{Parsed}
+use Rattle.grammar.specs.Parsed.{Parsed}
 use Rattle.names.specs.Named.{named_field}
 use Rattle.queue_rows.specs.Heads.{session_in}
 use Rattle.answers.specs.ReplyLength.{reply_room}

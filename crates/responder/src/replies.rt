@@ -1,5 +1,5 @@
 // The reply to what a line is, in a lent slice.
-ghost use Rattle.std.specs.Prelude.{◌≡◌, List, ℕ, ◌≤◌, length, replicate};
+ghost use Rattle.std.specs.Prelude.{◌≡◌, List, ℕ, ◌≤◌, length, replicate, Err};
 ghost use Rattle.sessions.specs.Sessions.{turn_of, turn_slice};
 ghost use Rattle.queue_rows.specs.Rows.{Sized};
 ghost use Rattle.queue_rows.specs.Heads.{session_in, answered_in};
@@ -14,7 +14,7 @@ use crate::reply_fields::{add_field, drop_field, open_field};
 use crate::set_lines::put_sets;
 use crate::take_lines::put_takes;
 use checks::devices::opening_of;
-use grammar::{Parsed, Record};
+use grammar::{Line, Parsed, Record};
 use queue_rows::add::add;
 use queue_rows::drop::drop_request;
 use queue_rows::open::open;
@@ -68,7 +68,7 @@ fn turn_reply(
 #[tactic(auto, unfolding(answers::specs::Replies::parsed_reply, answers::specs::Replies::reply_at, queue_rows::specs::Heads::answered_in, requests::specs::Refusals::answer_for, grammar::specs::Parse::parsed_refusal))]
 fn fault_reply(head: Head, k: usize, out: &mut [u8]) -> Replied
     requires { reply_room ≤ length out.old }
-    ensures { (ids rows : List ℕ) → Delivered (parsed_reply (session_in head ids rows) (Parsed.Fault k)) out.old out.new (left_in result ids rows) }
+    ensures { (ids rows : List ℕ) → Delivered (parsed_reply (session_in head ids rows) (Err k)) out.old out.new (left_in result ids rows) }
 {
     let answered = HeadAnswered {
         answer: Err(Refusal::NotInGrammar),
@@ -126,10 +126,13 @@ pub fn reply(
     if out.len() < REPLY_ROOM {
         return Replied { head, written: 0 };
     }
-    let (asked, named) = match parsed {
-        Parsed::Fault(k) => return fault_reply(head, k, out),
-        Parsed::Named { id, request } => (Record::Add { id, request }, true),
-        Parsed::Line(record) => (record, false),
+    let line = match parsed {
+        Ok(line) => line,
+        Err(k) => return fault_reply(head, k, out),
+    };
+    let (asked, named) = match line {
+        Line::Named { id, request } => (Record::Add { id, request }, true),
+        Line::Record(record) => (record, false),
     };
     match asked {
         Record::Turn => turn_reply(head, ids, rows, out),

@@ -29,7 +29,7 @@ use Rattle.scanner.specs.Formats.{IsFormat}
 use Rattle.scanner.specs.LineNumbers.{AreFormats, made_of, Numbered}
 use Rattle.grammar.specs.declared.Record.{Record}
 use Rattle.grammar.specs.declared.Record.TheVariants.{Add}
-use Rattle.grammar.specs.declared.Parsed.TheVariants.{Line}
+use Rattle.grammar.specs.declared.Line.{Line}
 use Rattle.grammar.proofs.Formats.{decimal, hex, read_only}
 
 -- a format among others
@@ -135,14 +135,14 @@ module _ {t : List ℕ} {closed : Bool} {r : Result (List ℕ) ℕ} where
 
 -- they are in range
 module _ (t : List ℕ) (closed : Bool) (r : Record) where
-  pub event_fits : event_line t closed ≡ Line r → Fits r
+  pub event_fits : event_line t closed ≡ Ok (Line.Record r) → Fits r
   unfolding event_line
   event_fits e =
       let rest = read_only (decimal ∷ hex 2 ∷ hex 2 ∷ decimal ∷ []) t closed 1 (λ v. Add v.0 (Event v.1.0 v.1.1.0 (set_of v.1.1.1.0))) r e in
       let h = rest.fit in
       rw rest.is (h.0, h.1.0, h.1.1.0, h.1.1.1.0)
 
-  pub latency_fits_lem : latency_line t closed ≡ Line r → Fits r
+  pub latency_fits_lem : latency_line t closed ≡ Ok (Line.Record r) → Fits r
   unfolding latency_line
   latency_fits_lem e =
       let rest = read_only (decimal ∷ hex 4 ∷ decimal ∷ decimal ∷ []) t closed 1 (λ v. Add v.0 (Latency v.1.0 (set_of v.1.1.0) (set_of v.1.1.1.0))) r e in

@@ -2,22 +2,22 @@
 ghost use Rattle.std.specs.Prelude.{◌≡◌, ◌+◌, ◌≤◌, map};
 ghost use Rattle.grammar.specs.Verbs.{ended, open_as, open_on, open_line, event_line, packet_line, offcore_line, latency_line, drop_line, turn_line};
 ghost use Rattle.scanner.specs.Formats.{code_of};
-ghost use Rattle.scanner.specs.LineNumbers.{AreFormats, Numbered, parsed_as};
+ghost use Rattle.scanner.specs.LineNumbers.{AreFormats, Numbered};
 
 use crate::Format::{self, Core, Decimal, Hex};
 use crate::fields::Fields;
 use crate::letters::device_at;
 use crate::numbers::core_of;
-use grammar::Record;
+use grammar::{Line, Parsed, Record};
 use requests::{CounterSet, Device, Overflow, Request, Setup};
 
 // A record of n fields in all, closed by a newline; or the field at fault.
 #[tactic(auto, unfolding(requests::specs::Choice::both))]
-fn ended(fields: &Fields, closed: bool, n: usize, asked: Record) -> Result<Record, usize>
-    ensures { parsed_as result ≡ ended fields.now.text.now closed n asked }
+fn ended(fields: &Fields, closed: bool, n: usize, asked: Record) -> Parsed
+    ensures { result ≡ ended fields.now.text.now closed n asked }
 {
     if fields.is_whole(closed, n) {
-        return Ok(asked);
+        return Ok(Line::Record(asked));
     }
     Err(n)
 }
@@ -61,31 +61,33 @@ fn open_as(device: Device, usable: u64, fixed: u64, freeze: u64, core: u64) -> R
 }
 
 // `open` with a device that is known: on C the box stands before the last two numbers.
-fn open_on(fields: &Fields, closed: bool, device: Device) -> Result<Record, usize>
-    ensures { parsed_as result ≡ open_on fields.now.text.now closed device }
+fn open_on(fields: &Fields, closed: bool, device: Device) -> Parsed
+    ensures { result ≡ open_on fields.now.text.now closed device }
 {
     if let Device::C(_) = device {
         let formats = [Decimal, Decimal, Decimal, Decimal, Core];
         let [usable, fixed, cbox, freeze, core] = numbers_of(fields, closed, 2, &formats)?;
-        return Ok(open_as(Device::C(cbox), usable, fixed, freeze, core));
+        let record = open_as(Device::C(cbox), usable, fixed, freeze, core);
+        return Ok(Line::Record(record));
     }
     let formats = [Decimal, Decimal, Decimal, Core];
     let [usable, fixed, freeze, core] = numbers_of(fields, closed, 2, &formats)?;
-    Ok(open_as(device, usable, fixed, freeze, core))
+    let record = open_as(device, usable, fixed, freeze, core);
+    Ok(Line::Record(record))
 }
 
 // `open` letter usable fixed, box on C, freeze core
 #[tactic(auto, unfolding(grammar::specs::Verbs::open_line))]
-pub fn open_line(fields: &Fields, closed: bool) -> Result<Record, usize>
-    ensures { parsed_as result ≡ open_line fields.now.text.now closed }
+pub fn open_line(fields: &Fields, closed: bool) -> Parsed
+    ensures { result ≡ open_line fields.now.text.now closed }
 {
     let device = device_at(fields, 1).ok_or(1usize)?;
     open_on(fields, closed, device)
 }
 
 // `event` id code(2) mask(2) allowed
-pub fn event_line(fields: &Fields, closed: bool) -> Result<Record, usize>
-    ensures { parsed_as result ≡ event_line fields.now.text.now closed }
+pub fn event_line(fields: &Fields, closed: bool) -> Parsed
+    ensures { result ≡ event_line fields.now.text.now closed }
 {
     let formats = [Decimal, Hex(2), Hex(2), Decimal];
     let [id, code, mask, allowed] = numbers_of(fields, closed, 1, &formats)?;
@@ -94,12 +96,12 @@ pub fn event_line(fields: &Fields, closed: bool) -> Result<Record, usize>
         mask: mask as u8,
         allowed: CounterSet(allowed),
     };
-    Ok(Record::Add { id, request })
+    Ok(Line::Record(Record::Add { id, request }))
 }
 
 // `packet` id match(16) mask(16) allowed
-pub fn packet_line(fields: &Fields, closed: bool) -> Result<Record, usize>
-    ensures { parsed_as result ≡ packet_line fields.now.text.now closed }
+pub fn packet_line(fields: &Fields, closed: bool) -> Parsed
+    ensures { result ≡ packet_line fields.now.text.now closed }
 {
     let formats = [Decimal, Hex(16), Hex(16), Decimal];
     let [id, match_word, mask_word, allowed] = numbers_of(fields, closed, 1, &formats)?;
@@ -108,24 +110,24 @@ pub fn packet_line(fields: &Fields, closed: bool) -> Result<Record, usize>
         mask_word,
         allowed: CounterSet(allowed),
     };
-    Ok(Record::Add { id, request })
+    Ok(Line::Record(Record::Add { id, request }))
 }
 
 // `offcore` id word(16) allowed
-pub fn offcore_line(fields: &Fields, closed: bool) -> Result<Record, usize>
-    ensures { parsed_as result ≡ offcore_line fields.now.text.now closed }
+pub fn offcore_line(fields: &Fields, closed: bool) -> Parsed
+    ensures { result ≡ offcore_line fields.now.text.now closed }
 {
     let [id, word, allowed] = numbers_of(fields, closed, 1, &[Decimal, Hex(16), Decimal])?;
     let request = Request::Offcore {
         word,
         allowed: CounterSet(allowed),
     };
-    Ok(Record::Add { id, request })
+    Ok(Line::Record(Record::Add { id, request }))
 }
 
 // `latency` id type(4) first second
-pub fn latency_line(fields: &Fields, closed: bool) -> Result<Record, usize>
-    ensures { parsed_as result ≡ latency_line fields.now.text.now closed }
+pub fn latency_line(fields: &Fields, closed: bool) -> Parsed
+    ensures { result ≡ latency_line fields.now.text.now closed }
 {
     let formats = [Decimal, Hex(4), Decimal, Decimal];
     let [id, types, first, second] = numbers_of(fields, closed, 1, &formats)?;
@@ -134,13 +136,13 @@ pub fn latency_line(fields: &Fields, closed: bool) -> Result<Record, usize>
         first: CounterSet(first),
         second: CounterSet(second),
     };
-    Ok(Record::Add { id, request })
+    Ok(Line::Record(Record::Add { id, request }))
 }
 
 // `drop` id
 #[tactic(auto, unfolding(grammar::specs::Verbs::drop_line))]
-pub fn drop_line(fields: &Fields, closed: bool) -> Result<Record, usize>
-    ensures { parsed_as result ≡ drop_line fields.now.text.now closed }
+pub fn drop_line(fields: &Fields, closed: bool) -> Parsed
+    ensures { result ≡ drop_line fields.now.text.now closed }
 {
     let id = fields.number_at(1, Decimal).ok_or(1usize)?;
     ended(fields, closed, 2, Record::Drop { id })
@@ -148,8 +150,8 @@ pub fn drop_line(fields: &Fields, closed: bool) -> Result<Record, usize>
 
 // `turn`
 #[tactic(auto, unfolding(grammar::specs::Verbs::turn_line))]
-pub fn turn_line(fields: &Fields, closed: bool) -> Result<Record, usize>
-    ensures { parsed_as result ≡ turn_line fields.now.text.now closed }
+pub fn turn_line(fields: &Fields, closed: bool) -> Parsed
+    ensures { result ≡ turn_line fields.now.text.now closed }
 {
     ended(fields, closed, 1, Record::Turn)
 }

@@ -19,7 +19,7 @@ use Rattle.requests.proofs.Tests.{either_true}
 use Rattle.sessions.specs.declared.Session.{Session}
 use Rattle.grammar.specs.Text.{newline}
 use Rattle.grammar.specs.Parse.{longest, is_closed, text_length}
-use Rattle.grammar.specs.declared.Parsed.{Parsed}
+use Rattle.grammar.specs.Parsed.{Parsed}
 use Rattle.parser.specs.ParseWith.{parse_text_with, parse_line_with}
 use Rattle.parser.proofs.LongLines.{long_lines}
 use Rattle.answers.specs.Replies.{Reply, answer_text, parsed_reply, answer_line}

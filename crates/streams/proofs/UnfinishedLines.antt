@@ -14,8 +14,7 @@ use Rattle.grammar.specs.Text.{bytes, decimal_digits, decimal_text}
 use Rattle.grammar.specs.Fields.{fields}
 use Rattle.grammar.specs.Parse.{longest, text_length}
 use Rattle.grammar.specs.FirstBroken.{line_fields}
-use Rattle.grammar.specs.declared.Parsed.{Parsed}
-use Rattle.grammar.specs.declared.Parsed.TheVariants.{Fault}
+use Rattle.grammar.specs.Parsed.{Parsed}
 use Rattle.names.specs.RowGrammar.{list_text, empty, AreLists}
 use Rattle.parser.specs.NamedText.{Outside}
 use Rattle.parser.specs.ParseWith.{parse_line_with}
@@ -31,13 +30,13 @@ no_rows : AreLists no_names
 unfolding list_text
 no_rows = (record { rows = []; fit = empty; is = refl }, record { rows = []; fit = empty; is = refl })
 
-refused_text : (k : ℕ) → answer_text (Err NotInGrammar) (fault_at (Fault k)) ≡ refused_at k
+refused_text : (k : ℕ) → answer_text (Err NotInGrammar) (fault_at (Err k)) ≡ refused_at k
 unfolding answer_text fault_at number_of decimal_text decimal_digits bytes
 refused_text k = refl
 
 module _ (text : List ℕ) (free : NewlineFree text) where
   -- it has a field at fault
-  at_fault : (k : ℕ) × (parse_line_with no_names G text ≡ Fault k)
+  at_fault : (k : ℕ) × (parse_line_with no_names G text ≡ Err k)
   at_fault = let (k, f) = long_lines.unclosed (take longest text) (ltb longest (length text)) in (k, open_parsed text free no_names G ∙ f no_names G)
 
   outside : Outside text
@@ -59,7 +58,7 @@ module _ (text : List ℕ) (free : NewlineFree text) where
         }),
       )
 
-  only : (k : ℕ) → BreaksAt (fields text) k → parse_line_with no_names G text ≡ Fault k
+  only : (k : ℕ) → BreaksAt (fields text) k → parse_line_with no_names G text ≡ Err k
   only k b = let l : BreaksAt (line_fields text) k = rw same_fields b in first_broken.only no_names G text k outside l.within l.good l.broken
 
 pub unfinished_lines : UnfinishedLines

@@ -1,5 +1,5 @@
 -- The line program as a fold over bytes: the state after each byte, and the text that it gives, with two lists of names.
-use Rattle.std.specs.Prelude.{Bool, true, false, ℕ, ◌+◌, ltb, eqb, take, set, replicate, Err}
+use Rattle.std.specs.Prelude.{Bool, true, false, ℕ, ◌+◌, ltb, eqb, take, set, replicate, Ok, Err}
 use mathlib.Core.List.{List, [], ◌∷◌, ◌++◌, Memᴰ}
 use Rattle.requests.specs.declared.Refusal.TheVariants.{NotInGrammar}
 use Rattle.requests.specs.Choice.{either, pick}
@@ -7,8 +7,7 @@ use Rattle.sessions.specs.declared.Session.{Session}
 use Rattle.sessions.specs.Sessions.{new_session}
 use Rattle.grammar.specs.Text.{newline}
 use Rattle.grammar.specs.Parse.{longest}
-use Rattle.grammar.specs.declared.Parsed.{Parsed}
-use Rattle.grammar.specs.declared.Parsed.TheVariants.{Line, Named, Fault}
+use Rattle.grammar.specs.Parsed.{Parsed}
 use Rattle.names.specs.Lists.{NameLists}
 use Rattle.parser.specs.ParseWith.{parse_text_with}
 use Rattle.answers.specs.Replies.{Reply, answer_text, parsed_reply}
@@ -70,9 +69,8 @@ unclosed f = parse_text_with no_names f.session.setup.device (take f.used f.kept
 
 -- the field of a line that is not in the grammar
 unfoldable pub fault_at : Parsed → ℕ
-fault_at (Line r) = 0
-fault_at (Named id r) = 0
-fault_at (Fault k) = k
+fault_at (Ok asked) = 0
+fault_at (Err k) = k
 
 -- at the end of the input a line without its newline is not in the grammar; "the number of fields where the record stops too soon or the newline is
 -- missing"

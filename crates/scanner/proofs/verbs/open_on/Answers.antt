@@ -8,7 +8,7 @@ returns-in_err-usable c =
     rw (p.1, p.2, c.in-C.is, open_box c.in-C.field-0 c.numbers_of.ensures, c.in_err-usable.was)
 
 pub returns-in-C : goal.returns-in-C
-returns-in-C c = rw (c.open_as.ensures, c.in-C.is, open_box c.in-C.field-0 c.numbers_of.ensures, c.in_ok-usable.was)
+returns-in-C c = rw (c.open_as-record.ensures, c.in-C.is, open_box c.in-C.field-0 c.numbers_of.ensures, c.in_ok-usable.was)
 
 pub returns-in_err-usable-2 : goal.returns-in_err-usable-2
 returns-in_err-usable-2 c =
@@ -16,4 +16,4 @@ returns-in_err-usable-2 c =
     rw (p.1, p.2, open_other c.args.device c.in_default.not-C c.numbers_of-2.ensures, c.in_err-usable-2.was)
 
 pub returns : goal.returns
-returns c = rw (c.open_as-2.ensures, open_other c.args.device c.in_default.not-C c.numbers_of-2.ensures, c.in_ok-usable-2.was)
+returns c = rw (c.open_as-record-2.ensures, open_other c.args.device c.in_default.not-C c.numbers_of-2.ensures, c.in_ok-usable-2.was)
