@@ -116,6 +116,19 @@ fn send_first<H: Clock + Tell, W: Write>(rt: &H, output: &mut W, text: &[u8], n:
     send(rt, output, &text[..n])
 }
 
+// A run that leaves these.
+fn run_of(feed: Feed, received: usize, sent: usize, last: Reading, next: Next) -> Run
+    ensures { result ≡ record { feed = feed; received = received; sent = sent; last = last; next = next } }
+{
+    Run {
+        feed,
+        received,
+        sent,
+        last,
+        next,
+    }
+}
+
 // Answers what is read, block by block, until a read has nothing more or a write is not complete.
 // Form: the two lists stay two parameters, as in `feed` and the public calls: a struct that is made of them here is no plainer.
 fn answer_blocks<'a, H: Clock + Tell, R: Read, W: Write>(
@@ -145,22 +158,10 @@ fn answer_blocks<'a, H: Clock + Tell, R: Read, W: Write>(
         received = wrapping_add_usize(received, n);
         sent = wrapping_add_usize(sent, passed.sent);
         if !is_complete(passed.next) {
-            return Run {
-                feed,
-                received,
-                sent,
-                last,
-                next: passed.next,
-            };
+            return run_of(feed, received, sent, last, passed.next);
         }
     }
-    Run {
-        feed,
-        received,
-        sent,
-        last,
-        next: Next::Complete,
-    }
+    run_of(feed, received, sent, last, Next::Complete)
 }
 
 // Answers what is read, and then the end of the input.
@@ -204,6 +205,7 @@ pub fn answer_input<'a, H: Clock + Tell, R: Read, W: Write>(
 ) -> Answered
     ensures refused { Unfit block.old out.old → result.ending ≡ Ending.Refused }
     ensures fit { result.ending ≡ Ending.Refused → Unfit block.old out.old }
+    ensures nothing { Unfit block.old out.old → (result.received ≡ 0) × (result.sent ≡ 0) }
     ensures unused { Unfit block.old out.old → (block.new ≡ block.old) × (out.new ≡ out.old) }
     ensures complete { result.ending ≡ Ending.Complete → Transcribed (record { site = site.now; house = house.now }) result }
 {

@@ -15,7 +15,7 @@ pub returns-then-not-is_complete : goal.returns-then-not-is_complete
 returns-then-not-is_complete g c =
     let other : is_complete c.pass_block-passed.result.next ≡ false = search rules in
     let no : c.pass_block-passed.result.next ≡ Complete → ⊥ = λ e. false≢true (sym other ∙ ap is_complete e) in
-    broken_off c.loop.invariant.relayed c.pass_block-passed.ensures no _ _ _
+    rw c.run_of.ensures (broken_off c.loop.invariant.relayed c.pass_block-passed.ensures no _ _ _)
 
 pub loop-preserved : goal.loop-preserved
 loop-preserved g c =
@@ -32,8 +32,5 @@ loop-preserved g c =
       roomy = omega (arith, c.loop.invariant.roomy);
     }
 
-pub returns-then-n-eq0 : goal.returns-then-n-eq0
-returns-then-n-eq0 g c = relaying c.loop.invariant.relayed _
-
-pub returns-after-loop : goal.returns-after-loop
-returns-after-loop g c = relaying c.loop.invariant.relayed _
+pub returns : goal.returns
+returns g c = rw c.run_of-2.ensures (relaying c.loop.invariant.relayed _)
