@@ -14,8 +14,8 @@ mod rules;
 pub mod turn;
 
 // What a pass over the records has found: how many wait, the place where the id waits, whether vacant ones have begun, and whether the rules are broken.
-#[derive(Drop)]
-pub(crate) struct Survey {
+#[derive(Clone, Copy)]
+pub struct Survey {
     pub setup: Setup,
     pub id: u64,
     pub len: usize,
@@ -27,8 +27,8 @@ pub(crate) struct Survey {
 // What a turn has taken of the records: the entries and the places where they stand, in the first `count` places, with the rows and the
 // number of their plan, and the sets of counters that are left.
 // Form: arrays with a count, since memory is fixed (no heap); places and entries apart, since a `Change` takes each array as it is.
-#[derive(Drop)]
-pub(crate) struct Choice {
+#[derive(Clone, Copy)]
+pub struct Choice {
     pub setup: Setup,
     pub usable: usize,
     pub counters: u64,
@@ -42,8 +42,8 @@ pub(crate) struct Choice {
 
 // How the records from `from` to `end` change: each is read `skip` places ahead and one more for each place in `at` that is passed over, and past
 // the end from the fresh ones.
-#[derive(Drop)]
-pub(crate) struct Change {
+#[derive(Clone, Copy)]
+pub struct Change {
     pub from: usize,
     pub end: usize,
     pub skip: usize,

@@ -4,7 +4,7 @@ ghost use Rattle.sessions.specs.Calls.{Open};
 ghost use Rattle.lent_sessions.specs.Lent.{new_lent, lent_answered, rows_after};
 ghost use Rattle.lent_planner.specs.Decisions.{DecidesOpen};
 
-use crate::rules::is_count;
+pub use crate::rules::is_count;
 use checks::askings::unasked;
 use checks::devices::setup_of;
 use lent_sessions::{LentAnswered, LentSession};

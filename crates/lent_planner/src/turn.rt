@@ -77,7 +77,7 @@ fn turn_accepted(session: LentSession, t: &Choice, writes: usize) -> LentTurned
 
 // Writes the write list of those chosen of n records, in which the pass has found s, into the slice: the number of writes.
 #[tactic(auto, unfolding(requests::specs::Devices::capacity))]
-fn write_turn(
+pub fn write_turn(
     out: &mut [u64],
     session: LentSession,
     n: usize,

@@ -1,5 +1,5 @@
 // A list: rows, each closed by a newline.
-ghost use Rattle.std.specs.Prelude.{◌≡◌};
+ghost use Rattle.std.specs.Prelude.{◌≡◌, ◌+◌, drop};
 ghost use Rattle.std.specs.Iterator.{YieldsFirstRef, item_count};
 ghost use Rattle.names.specs.Lists.{lists_of, up_to_newline, row_texts, is_ended, well_formed, lists_formed};
 
@@ -7,10 +7,21 @@ use crate::BothLists;
 use crate::rows::is_formed;
 
 // Where the first row of a list ends: at its newline, or at the end of the list.
-fn row_end(list: &[u8]) -> usize
+fn first_end(list: &[u8]) -> usize
     ensures { result ≡ up_to_newline list.now }
 {
     list.iter().position(|b| *b == b'\n').unwrap_or(list.len())
+}
+
+// Where the row that begins at `at` ends: at its newline, or at the end of the list.
+pub fn row_end(list: &[u8], at: usize) -> usize
+    ensures { result ≡ at + up_to_newline (drop at list.now) }
+{
+    if at < list.len() {
+        at + first_end(&list[at..])
+    } else {
+        at
+    }
 }
 
 // The rows of a list that are left, from the top, each without its newline.
@@ -40,7 +51,7 @@ impl<'a> Iterator for Rows<'a> {
             return None;
         }
         let list = self.rest;
-        let end = row_end(list);
+        let end = first_end(list);
         self.rest = &list[list.len().min(end + 1)..];
         Some(&list[..end])
     }

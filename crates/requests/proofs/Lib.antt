@@ -8,6 +8,7 @@ pub mod AskingTests
 pub mod Openings
 pub mod OpeningsTaken
 pub mod RuleNumbers
+pub mod Lookups
 pub mod ByCode
 pub mod ListedByCode
 pub mod FirstHolding

@@ -9,7 +9,9 @@ use borrow.Author.Tests.{eqb-true}
 use Rattle.requests.specs.Choice.{both, either}
 use Rattle.requests.specs.MaskRules.{MaskRule, alone, range, among, ListedEvent, allows}
 use Rattle.requests.specs.CBoxEvents.{sink_masks, ring_masks, starved_masks, bypass_masks, cbox_events}
+use Rattle.requests.specs.Catalogue.{events_of}
 use Rattle.requests.specs.Lookup.{mask_rules, rule_at, same_numbers, same_rule, place_of, row_of, row_allows}
+use Rattle.requests.specs.declared.Device.TheVariants.{S}
 use Rattle.requests.proofs.Tests.{both_parts}
 
 -- ---- rules
@@ -97,6 +99,10 @@ known_at (e ∷ es) h zero x l = (both_parts _ _ h).0
 known_at (e ∷ es) h (suc i) x l = known_at es (both_parts _ _ h).1 i x (omega arith)
 
 -- computed
+pub sbox_known : all_known (events_of S) ≡ true
+unfolding all_known events_of has_rule_lem mask_rules same_rule same_numbers both either sink_masks ring_masks starved_masks bypass_masks
+sbox_known = refl
+
 pub cbox_known : all_known cbox_events ≡ true
 unfolding all_known has_rule_lem mask_rules same_rule same_numbers both either cbox_events sink_masks ring_masks starved_masks bypass_masks
 cbox_known = refl

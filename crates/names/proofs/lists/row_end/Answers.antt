@@ -1,14 +1,13 @@
-use mathlib.Core.Path.{◌∙◌}
-use Rattle.std.proofs.Common.{rules, tests, eqb}
-use Rattle.std.proofs.lemmas.Iterator.{YieldsList-from_slice}
-use Rattle.std.proofs.lemmas.Iterator.Search.{position_from_yields_List}
-use Rattle.names.proofs.Newlines.{newline_at}
+use native.Mathlib.Omega.{arith}
+use Prim.Native.Nat.{◌-◌}
+use lib.ListN.{length, take, drop, drop_of_length-le}
+use Rattle.names.specs.Lists.{up_to_newline}
+use Rattle.names.proofs.Newlines.{row_within}
 use Rattle.names.proofs.lists.row_end.Goals as goal
 
-pub returns : goal.returns
-returns c =
-    let list = c.args.list.now in
-    let place =
-    position_from_yields_List (λ b. eqb b 10) _ _ c.position.result c.position.ensures.ran (YieldsList-from_slice list cc)
-    (λ x b q k. search (rules, tests)) in
-    c.unwrap_or.ensures ∙ newline_at list c.position.result place
+pub overflow_add-result : goal.overflow_add-result
+overflow_add-result c = omega (arith, row_within (take (length c.args.list.now - c.args.at) (drop c.args.at c.args.list.now)), c.first_end.ensures)
+
+pub returns-else-at-list : goal.returns-else-at-list
+unfolding up_to_newline
+returns-else-at-list c = rw (drop_of_length-le c.args.list.now {i = c.args.at} (omega arith)) (omega arith)

@@ -15,20 +15,20 @@ returns-then-is_empty-clause-steps c =
 
 pub overflow_add-end : goal.overflow_add-end
 overflow_add-end c =
-    let within = top_within c.args.self.now.rest.now c.row_end-end.result (sym c.is_empty.ensures ∙ c.if-is_empty.false) c.row_end-end.ensures in
+    let within = top_within c.args.self.now.rest.now c.first_end-end.result (sym c.is_empty.ensures ∙ c.if-is_empty.false) c.first_end-end.ensures in
     omega (arith, within)
 
 pub slice_bounds-result-end : goal.slice_bounds-result-end
 slice_bounds-result-end c =
-    sym (length-take-le _ _ (top_within c.args.self.now.rest.now c.row_end-end.result (sym c.is_empty.ensures ∙ c.if-is_empty.false) c.row_end-end.ensures))
+    sym (length-take-le _ _ (top_within c.args.self.now.rest.now c.first_end-end.result (sym c.is_empty.ensures ∙ c.if-is_empty.false) c.first_end-end.ensures))
 
 pub returns-clause-steps : goal.returns-clause-steps
 returns-clause-steps c =
-    top_and_rest c.args.self.now.rest.now c.row_end-end.result (sym c.is_empty.ensures ∙ c.if-is_empty.false) c.row_end-end.ensures c.min.result c.min.ensures
+    top_and_rest c.args.self.now.rest.now c.first_end-end.result (sym c.is_empty.ensures ∙ c.if-is_empty.false) c.first_end-end.ensures c.min.result c.min.ensures
 
 pub returns-clause-goes : goal.returns-clause-goes
 returns-clause-goes c =
     let row =
-    top_and_rest c.args.self.now.rest.now c.row_end-end.result (sym c.is_empty.ensures ∙ c.if-is_empty.false) c.row_end-end.ensures c.min.result
+    top_and_rest c.args.self.now.rest.now c.first_end-end.result (sym c.is_empty.ensures ∙ c.if-is_empty.false) c.first_end-end.ensures c.min.result
     c.min.ensures in
     record { on = λ _. (tt, tt, omega (arith, ap length row)); keeps = tt; rests = λ _. tt }
