@@ -1,11 +1,12 @@
 // Texts with tabs and newlines, as a script and its answers have them: written `\t` and `\n`.
-ghost use Rattle.std.specs.Prelude.{◌<◌, length, IfSome};
+ghost use Rattle.std.specs.Prelude.{◌<◌, ◌≤◌, ◌+◌, length, IfSome};
 
 use std::io;
 
 // The first byte of a text, and what is written behind it.
 fn first_of(written: &[u8]) -> Option<(u8, &[u8])>
-    ensures { IfSome result (λ p. length p.1.now < length written.now) }
+    ensures rest { IfSome result (λ p. length p.1.now < length written.now) }
+    ensures width { IfSome result (λ p. length written.now ≤ length p.1.now + 2) }
 {
     match written {
         [b'\\', b't', rest @ ..] => Some((b'\t', rest)),
@@ -35,11 +36,11 @@ pub fn print_text(rt: &impl Print, text: &[u8]) -> io::Result<()> {
         match part {
             [plain @ .., b'\t'] => {
                 rt.write_all(plain)?;
-                print!(rt; "\\t")?;
+                rt.write_all(b"\\t")?;
             }
             [plain @ .., b'\n'] => {
                 rt.write_all(plain)?;
-                print!(rt; "\\n")?;
+                rt.write_all(b"\\n")?;
             }
             plain => rt.write_all(plain)?,
         }
