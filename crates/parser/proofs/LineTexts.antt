@@ -1,23 +1,17 @@
 -- What is read of a line: its first 80 bytes, or all of it without its newline. Assumes nothing.
 use Prim.Native.Nat.{ℕ, ◌≤◌, ◌<◌, min}
-use mathlib.Core.Path.{◌≡◌, refl}
+use mathlib.Core.Path.{◌≡◌}
 use mathlib.Core.Logic.{⊎_elim}
-use mathlib.Core.Bool.{Bool, true, false}
-use mathlib.Core.List.{List, [], ◌∷◌}
+use mathlib.Core.List.{List}
 use lib.Dec.{ltb}
 use native.Mathlib.Omega.{arith}
-use lib.ListN.{length, take, length-take}
+use lib.ListN.{take, length-take}
 use lib.Seq.{take-take, take_all}
 use Rattle.std.proofs.lemmas.Bool.{cases_lt}
-use Rattle.std.specs.Prelude.{Err}
-use Rattle.requests.specs.Choice.{first_holding}
 use Rattle.requests.specs.declared.Device.{Device}
-use Rattle.grammar.specs.Text.{bytes}
-use Rattle.grammar.specs.Fields.{fields, same_bytes_lem}
-use Rattle.grammar.specs.Verbs.{verbs, has_verb, record_of}
-use Rattle.grammar.specs.Parse.{longest, too_long_lem, is_closed, text_length}
+use Rattle.grammar.specs.Parse.{longest, is_closed, text_length}
 use Rattle.names.specs.Lists.{NameLists}
-use Rattle.parser.specs.ParseWith.{record_with, parse_text_with, parse_line_with}
+use Rattle.parser.specs.ParseWith.{parse_text_with, parse_line_with}
 
 pub line_text : (n : NameLists) (d : Device) (l : List ℕ) (m k : ℕ) → m ≡ text_length l → k ≡ min m 80
     → parse_line_with n d l ≡ parse_text_with n d (take k l) (is_closed l) (ltb 80 m)
@@ -28,10 +22,3 @@ line_text n d l m k e f =
     (λ (long : 80 < m). let cut : k ≡ 80 = omega (arith, f) in rw (cut, take-take 80 m l (omega arith)))
     (λ (short : m ≤ 80). let whole : k ≡ m = omega (arith, f) in rw (whole, take_all 80 (take m l) (omega (arith, length-take m l))))
     (cases_lt 80 m))
-
--- a text without a byte has no verb, and is at fault there
-pub nothing_asked : (n : NameLists) (d : Device) (t : List ℕ) (closed long : Bool) → length t ≡ 0 → Err 0 ≡ parse_text_with n d t closed long
-unfolding parse_text_with record_with record_of verbs has_verb bytes fields same_bytes_lem first_holding too_long_lem
-nothing_asked n d [] closed true e = refl
-nothing_asked n d [] closed false e = refl
-nothing_asked n d (b ∷ t) closed long e = let z : ⊥ = omega arith in absurd z

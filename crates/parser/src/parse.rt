@@ -19,7 +19,7 @@ fn too_long(parsed: Parsed, n: usize) -> Parsed
     Err(n)
 }
 
-// What a text asks for on a device, closed by a newline or not, whole or the first bytes of a longer one. An empty line is refused at once.
+// What a text asks for on a device, closed by a newline or not, whole or the first bytes of a longer one.
 #[tactic(auto, unfolding(crate::specs::ParseWith::parse_text_with))]
 pub fn parse_text<'a>(
     text: &[u8],
@@ -31,9 +31,6 @@ pub fn parse_text<'a>(
 ) -> Parsed
     ensures { result ≡ parse_text_with (record { site = site.now; house = house.now }) device text.now closed long }
 {
-    if text.is_empty() {
-        return Err(0);
-    }
     let fields = Fields::of(text);
     let parsed = record_with(&fields, closed, device, &BothLists { site, house });
     if long {
