@@ -117,6 +117,7 @@ fn send_first<H: Clock + Tell, W: Write>(rt: &H, output: &mut W, text: &[u8], n:
 }
 
 // A run that leaves these.
+// Form: its clause names every field of a run, `last` too, of which the clause of `answer_blocks` says nothing.
 fn run_of(feed: Feed, received: usize, sent: usize, last: Reading, next: Next) -> Run
     ensures { result ≡ record { feed = feed; received = received; sent = sent; last = last; next = next } }
 {
